@@ -1,4 +1,2 @@
-pub mod Going
-pub mod Hunted
-pub mod Shown
-pub mod Repeated
+pub mod Stands
+pub mod Telling

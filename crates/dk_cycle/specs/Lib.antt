@@ -1,3 +1,5 @@
-pub mod Alike
-pub mod Hunting
+pub mod Keeping
+pub mod Own
+pub mod Run
 pub mod Repeating
+pub mod Told

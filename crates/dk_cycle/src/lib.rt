@@ -1,10 +1,21 @@
-//! Looks for a tick from which on a run repeats for ever: two ticks at which all windows begin and the run stands alike.
+//! Finds ticks from which on a run, and each of its processes by itself, repeats for ever.
+//!
+//! What a run is at a tick is handed over by the caller, so no kernel is needed.
 #![tactic(auto)]
 
-mod alike;
-mod repeating;
-mod search;
-mod watching;
+mod keeping;
+mod own;
+mod run;
+mod told;
 
-pub use repeating::find_repetition;
-pub use search::{Cycle, find_cycle};
+pub use keeping::Keeping;
+pub use own::{MainState, OwnSearch};
+pub use run::{ProcessState, RunSearch, RunState, ThreadState};
+pub use told::{OwnTold, RunTold, own_told, run_told, told_law};
+
+/// From tick `start` on the same comes every `length` ticks.
+#[derive(Clone, Copy)]
+pub struct Cycle {
+    pub start: u32,
+    pub length: u32,
+}

@@ -1,0 +1,195 @@
+-- A run, or a process, that is what it was stands again.
+use Rattle.std.proofs.Common.{ℕ, ◌≡◌, ◌+◌, ◌-◌, ◌<◌, ◌%◌, ◌∙◌, inl, inr, Bool, true, List, [], length, Option, Some, None, refl, sym, subst, arith}
+use Rattle.std.specs.Prelude.{slice_get, slice_index_or, IfSome}
+use Rattle.std.specs.Int.{◌∣◌}
+use Rattle.std.proofs.lemmas.Bool.{cases_eq}
+use Rattle.std.proofs.lemmas.Option.{slice_get_within}
+use Rattle.std.proofs.lemmas.Nat.Gcd.{dvd_trans, dvd_of_mod-eq-zero, mod-eq-zero_of_dvd}
+use Rattle.dk_config.specs.Configuration.{Configuration}
+use Rattle.dk_config.specs.Windows.{period, main_level}
+use Rattle.dk_config.specs.Checked.{IsChecked, IsAccepted, IsWithinLimits}
+use Rattle.dk_world.specs.Run.{World, world, trace}
+use Rattle.dk_alone.specs.Alone.{ReadsNoTick}
+use Rattle.dk_alone.specs.Again.{WindowBegins, ProcessStandsAlike, ProcessStandsAgain}
+use Rattle.dk_repeat.specs.Repeat.{WindowsBegin, ThreadsStandAlike, RunStandsAlike, RunStandsAgain}
+use Rattle.dk_repeat.specs.Laws.{ProgramsReadNoTick}
+use Rattle.dk_cycle.specs.declared.Cycle.{Cycle}
+use Rattle.dk_cycle.specs.declared.own.MainState.{MainState}
+use Rattle.dk_cycle.specs.declared.own.OwnSearch.{OwnSearch}
+use Rattle.dk_cycle.specs.declared.run.ThreadState.{ThreadState}
+use Rattle.dk_cycle.specs.declared.run.ProcessState.{ProcessState}
+use Rattle.dk_cycle.specs.declared.run.RunState.{RunState}
+use Rattle.dk_cycle.specs.declared.run.RunSearch.{RunSearch}
+use Rattle.dk_cycle.specs.Own.{IsFound, IsMainState, IsOwnSearch, IsSavedMain}
+use Rattle.dk_cycle.specs.Run.{AreProcessStates, AreSame, AreSameThreads, IsFoundRun, IsKept, IsRunSearch, IsRunState, IsSameProcess}
+
+begins-by : (c : Configuration) (p tick own : ℕ) → own ≡ period c (main_level c p) → tick % own ≡ 0 → WindowBegins c p tick
+begins-by c p tick own is begins = subst (λ n. tick % n ≡ 0) is begins
+
+-- from what is kept to what the process is now
+pub process-again : (c : Configuration) (programs : List (List ℕ)) (p : ℕ) (saved : Option MainState) (now : MainState) (y : Cycle) → IfSome saved (IsSavedMain c programs p)
+    → IsMainState c programs p now → WindowBegins c p now.tick → IsFound saved now y → ProcessStandsAgain c programs p y.start y.length
+process-again c programs p saved now y kept is begins found =
+    let before = found.before in
+    let was : IsSavedMain c programs p before = subst (λ (o : Option MainState). IfSome o (IsSavedMain c programs p)) found.is kept in
+    let later = found.later in
+    let start = found.start in
+    let long = found.lasts in
+    let sum : now.tick ≡ y.start + y.length = omega (arith, later, start, long) in
+    let alike : ProcessStandsAlike c p (world c programs before.tick) (world c programs now.tick) =
+    record {
+      memory = sym was.is.memory ∙ found.same.memory ∙ is.memory;
+      context = sym was.is.context ∙ found.same.context ∙ is.context;
+      stopped = sym was.is.stopped ∙ found.same.stopped ∙ is.stopped;
+    } in
+    record {
+      later = omega (arith, later, long);
+      begins = subst (WindowBegins c p) (sym start) was.begins;
+      begins_later = subst (WindowBegins c p) sum begins;
+      alike = subst (λ t. ProcessStandsAlike c p (world c programs t) (world c programs (y.start + y.length))) (sym start)
+          (subst (λ t. ProcessStandsAlike c p (world c programs before.tick) (world c programs t)) sum alike);
+    }
+
+pub saved-now : (c : Configuration) (programs : List (List ℕ)) (p own : ℕ) (now : MainState) → own ≡ period c (main_level c p) → IsMainState c programs p now → now.tick % own ≡ 0
+    → IsSavedMain c programs p now
+saved-now c programs p own now period is begins = record { begins = begins-by c p now.tick own period begins; is = is }
+
+-- a search that found a cycle, or keeps what the process is now
+pub with-cycle : (c : Configuration) (programs : List (List ℕ)) (search : OwnSearch) (now : MainState) (y : Cycle) → IsOwnSearch c programs search
+    → IsMainState c programs search.process now → now.tick % search.period ≡ 0 → IsFound search.saved now y
+    → IsOwnSearch c programs (record search { cycle = Some y })
+with-cycle c programs search now y is state begins found = record {
+  known = is.known;
+  period = is.period;
+  some = is.some;
+  keeping = is.keeping;
+  saved = is.saved;
+  cycle = process-again c programs search.process search.saved now y is.saved state (begins-by c search.process now.tick search.period is.period begins) found;
+}
+
+pub with-saved : (c : Configuration) (programs : List (List ℕ)) (search : OwnSearch) (now : MainState) → IsOwnSearch c programs search
+    → IsMainState c programs search.process now → now.tick % search.period ≡ 0 → IsOwnSearch c programs (record search { saved = Some now })
+with-saved c programs search now is state begins = record {
+  known = is.known;
+  period = is.period;
+  some = is.some;
+  keeping = is.keeping;
+  saved = saved-now c programs search.process search.period now is.period state begins;
+  cycle = is.cycle;
+}
+
+-- states that are the same, place by place
+pub threads-more : (one other : List ThreadState) (place : ℕ) → AreSameThreads one other place → slice_get one place ≡ slice_get other place → AreSameThreads one other (place + 1)
+threads-more one other place before here = λ i less.
+    elim (cases_eq place i) [
+      | inl same ↦ subst (λ j. slice_get one j ≡ slice_get other j) same here
+      | inr apart ↦ before i (omega (arith, less, apart))
+    ]
+
+pub same-more : (one other : List ProcessState) (many : ℕ) (s t : ProcessState) → AreSame one other many → slice_get one many ≡ Some s → slice_get other many ≡ Some t
+    → IsSameProcess s t → AreSame one other (many + 1)
+same-more one other many s t before is is' here = λ p u v less there there'.
+    elim (cases_eq many p) [
+      | inl same ↦
+          let a : slice_get one many ≡ Some u = subst (λ j. slice_get one j ≡ Some u) (sym same) there in
+          let b : slice_get other many ≡ Some v = subst (λ j. slice_get other j ≡ Some v) (sym same) there' in
+          let first : s ≡ u = cc in
+          let second : t ≡ v = cc in
+          subst (λ x. IsSameProcess x v) first (subst (λ y. IsSameProcess s y) second here)
+      | inr apart ↦ before p u v (omega (arith, less, apart)) there there'
+    ]
+
+-- where the processes are the same and the threads stand alike the run does
+stands-alike : (c : Configuration) (w v : World) (one other : List ProcessState) → AreProcessStates c w (length c.processes) one → AreProcessStates c v (length c.processes) other
+    → AreSame one other (length one) → ThreadsStandAlike c w.past v.past → RunStandsAlike c w v
+stands-alike c w v one other were are same threads = record {
+  threads = threads;
+  memory = λ p here.
+      let s = were p here in
+      let t = are p here in
+      sym s.2.memory ∙ (both p s.0 t.0 s.1 t.1).memory ∙ t.2.memory;
+  contexts = λ p x here has running.
+      let s = were p here in
+      let t = are p here in
+      let among = s.2.threads x has running in
+      let mine : ThreadState = record { serial = x.id.serial; context = (w.images p).contexts x.id.serial } in
+      let low = slice_get_within s.0.threads.items among.0 mine among.1 in
+      t.2.contexts among.0 mine (sym ((both p s.0 t.0 s.1 t.1).threads among.0 low) ∙ among.1);
+}
+  where
+    both : (p : ℕ) (s t : ProcessState) → slice_get one p ≡ Some s → slice_get other p ≡ Some t → IsSameProcess s t
+    both p s t is is' = same p s t (slice_get_within one p s is) is is'
+
+pub last-divides : (c : Configuration) (i : ℕ) → IsChecked c → IsWithinLimits c → i < length c.levels → period c i ∣ period c (length c.levels - 1)
+last-divides c i checked limits known =
+    let some = limits.some_levels in checked.divides i (length c.levels - 1) (omega (arith, known)) (omega (arith, some))
+
+begins-all : (c : Configuration) (longest tick : ℕ) → ((i : ℕ) → i < length c.levels → period c i ∣ longest) → tick % longest ≡ 0 → WindowsBegin c tick
+begins-all c longest tick divides begins = λ i known.
+    mod-eq-zero_of_dvd (period c i) (dvd_trans (period c i) (divides i known) (dvd_of_mod-eq-zero longest begins))
+
+run-again : (c : Configuration) (programs : List (List ℕ)) (saved : Option RunState) (kept : Bool) (now : RunState) (y : Cycle) → ProgramsReadNoTick → IsChecked c → IsAccepted c
+    → ((p : ℕ) → p < length c.processes → ReadsNoTick (slice_index_or programs p [])) → IfSome saved (IsKept c programs now.tick kept)
+    → IsRunState c programs now → WindowsBegin c now.tick → IsFoundRun saved kept now y → RunStandsAgain c programs y.start y.length
+run-again c programs saved kept now y clocks checked accepted quiet keeps is begins found =
+    let before = found.before in
+    let was : IsKept c programs now.tick kept before = subst (λ (o : Option RunState). IfSome o (IsKept c programs now.tick kept)) found.is keeps in
+    let later = found.later in
+    let start = found.start in
+    let long = found.lasts in
+    let sum : now.tick ≡ y.start + y.length = omega (arith, later, start, long) in
+    let alike : RunStandsAlike c (world c programs before.tick) (world c programs now.tick) =
+    stands-alike c (world c programs before.tick) (world c programs now.tick) before.processes.items now.processes.items was.is.is is found.same (was.threads found.still) in
+    record {
+      later = omega (arith, later, long);
+      begins = subst (WindowsBegin c) (sym start) was.is.begins;
+      begins_later = subst (WindowsBegin c) sum begins;
+      alike = subst (λ t. RunStandsAlike c (world c programs t) (world c programs (y.start + y.length))) (sym start)
+          (subst (λ t. RunStandsAlike c (world c programs before.tick) (world c programs t)) sum alike);
+      clock = λ n less. clocks c programs (y.start + n) checked accepted quiet;
+    }
+
+pub run-with-cycle : (c : Configuration) (programs : List (List ℕ)) (search : RunSearch) (now : RunState) (y : Cycle) → ProgramsReadNoTick → IsChecked c → IsAccepted c
+    → IsRunSearch c programs now.tick search → search.reader ≡ None → IsRunState c programs now → now.tick % search.longest ≡ 0
+    → IsFoundRun search.saved search.kept now y → IsRunSearch c programs now.tick (record search { cycle = Some y })
+run-with-cycle c programs search now y clocks checked accepted is none state begins found = record {
+  some = is.some;
+  longest = is.longest;
+  quiet = is.quiet;
+  reader = is.reader;
+  saved = is.saved;
+  cycle = run-again c programs search.saved search.kept now y clocks checked accepted (is.quiet none) is.saved state (begins-all c search.longest now.tick is.longest begins) found;
+}
+
+pub run-with-saved : (c : Configuration) (programs : List (List ℕ)) (search : RunSearch) (now : RunState) → IsRunSearch c programs now.tick search → IsRunState c programs now
+    → now.tick % search.longest ≡ 0 → IsRunSearch c programs now.tick (record search { saved = Some now; kept = true })
+run-with-saved c programs search now is state begins = record {
+  some = is.some;
+  longest = is.longest;
+  quiet = is.quiet;
+  reader = is.reader;
+  saved = record { is = record { begins = begins-all c search.longest now.tick is.longest begins; is = state }; threads = λ kept p here. refl };
+  cycle = is.cycle;
+}
+
+-- the entry of one more tick
+joined : (c : Configuration) (programs : List (List ℕ)) (tick : ℕ) (kept both : Bool) (o : Option RunState)
+    → (both ≡ true → (kept ≡ true) × ThreadsStandAlike c (trace c programs tick) (trace c programs (tick + 1)))
+    → IfSome o (IsKept c programs tick kept) → IfSome o (IsKept c programs (tick + 1) both)
+joined c programs tick kept both None more is = tt
+joined c programs tick kept both (Some s) more is = record {
+  is = is.is;
+  threads = λ all. let m = more all in λ p here. is.threads m.0 p here ∙ m.1 p here;
+}
+
+pub followed : (c : Configuration) (programs : List (List ℕ)) (tick : ℕ) (search : RunSearch) (both : Bool)
+    → (both ≡ true → (search.kept ≡ true) × ThreadsStandAlike c (trace c programs tick) (trace c programs (tick + 1)))
+    → IsRunSearch c programs tick search → IsRunSearch c programs (tick + 1) (record search { kept = both })
+followed c programs tick search both more is = record {
+  some = is.some;
+  longest = is.longest;
+  quiet = is.quiet;
+  reader = is.reader;
+  saved = joined c programs tick search.kept both search.saved more is.saved;
+  cycle = is.cycle;
+}

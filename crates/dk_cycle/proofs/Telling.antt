@@ -1,0 +1,44 @@
+-- What was found says how it goes on for ever.
+use Rattle.std.proofs.Common.{ℕ, List, [], Option, Some, None, subst}
+use Rattle.std.specs.Prelude.{IfSome, slice_index_or}
+use Rattle.dk_config.specs.Configuration.{Configuration}
+use Rattle.dk_config.specs.Checked.{IsChecked, IsAccepted}
+use Rattle.dk_alone.specs.Alone.{KeepsToItself}
+use Rattle.dk_alone.specs.Again.{ProcessStandsAgain}
+use Rattle.dk_alone.specs.Laws.{ProcessesRepeat, StandsAgainAsAlone}
+use Rattle.dk_repeat.specs.Repeat.{RunStandsAgain}
+use Rattle.dk_repeat.specs.Laws.{RunsRepeatForEver}
+use Rattle.dk_cycle.specs.declared.Cycle.{Cycle}
+use Rattle.dk_cycle.specs.Keeping.{IsKeeping}
+use Rattle.dk_cycle.specs.Repeating.{RepeatsForEver}
+use Rattle.dk_cycle.specs.Told.{HasCycle, OwnIsTold, RunIsTold}
+
+run-cycle : (c : Configuration) (programs : List (List ℕ)) (o : Option Cycle) → RunsRepeatForEver → IsChecked c → IsAccepted c
+    → IfSome o (λ y. RunStandsAgain c programs y.start y.length) → IfSome o (λ y. RepeatsForEver c programs y.start y.length)
+run-cycle c programs None law checked accepted again = tt
+run-cycle c programs (Some y) law checked accepted again = λ cycles n. law c programs y.start y.length cycles n checked accepted again
+
+own-cycle : (c : Configuration) (programs : List (List ℕ)) (p : ℕ) (o : Option Cycle) → StandsAgainAsAlone → ProcessesRepeat → IsChecked c → IsAccepted c
+    → KeepsToItself c p (slice_index_or programs p []) → IfSome o (λ y. ProcessStandsAgain c programs p y.start y.length) → IfSome o (HasCycle c programs p)
+own-cycle c programs p None as-alone repeats checked accepted keeps again = tt
+own-cycle c programs p (Some y) as-alone repeats checked accepted keeps again = record {
+  later = again.later;
+  begins = again.begins;
+  begins_later = again.begins_later;
+  repeats = λ others cycles m n agree begins more.
+      repeats c programs others p y.start y.length cycles m n checked accepted keeps agree (as-alone c programs p y.start y.length checked accepted keeps again) begins more;
+}
+
+pub run-is-told : RunsRepeatForEver → RunIsTold
+run-is-told law c programs tick search checked accepted is = record {
+  reader = is.reader;
+  quiet = is.quiet;
+  cycle = run-cycle c programs search.cycle law checked accepted is.cycle;
+}
+
+pub own-is-told : StandsAgainAsAlone → ProcessesRepeat → OwnIsTold
+own-is-told as-alone repeats c programs search checked accepted is = record {
+  keeping = is.keeping;
+  cycle = λ keeps.
+      own-cycle c programs search.process search.cycle as-alone repeats checked accepted (subst (IsKeeping c search.process (slice_index_or programs search.process [])) keeps is.keeping) is.cycle;
+}

@@ -1,0 +1,5 @@
+use Rattle.dk_cycle.specs.Run.{AreSame}
+use Rattle.dk_cycle.proofs.run.same_processes.Given as goal
+
+abbrev pub invariant-loop-process : goal.invariant-loop-process
+invariant-loop-process l = AreSame l.one l.other l.process

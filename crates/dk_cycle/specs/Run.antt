@@ -1,0 +1,91 @@
+-- The search for a cycle of a whole run.
+use Rattle.std.specs.Prelude.{ℕ, ◌≡◌, ◌+◌, ◌-◌, ◌<◌, ◌%◌, Bool, true, List, [], ◌∷◌, length, Option, Some, None, slice_get, slice_index_or, IfSome}
+use Rattle.std.specs.Int.{◌∣◌}
+use Rattle.dk_config.specs.Configuration.{Configuration}
+use Rattle.dk_config.specs.Checked.{IsChecked, IsAccepted}
+use Rattle.dk_config.specs.Windows.{period}
+use Rattle.dk_trace.specs.declared.Entry.{Entry}
+use Rattle.dk_trace.specs.Members.{Has}
+use Rattle.dk_trace.specs.Threads.{Thread, family}
+use Rattle.dk_world.specs.Run.{World, world, trace}
+use Rattle.dk_alone.specs.Alone.{ReadsNoTick}
+use Rattle.dk_repeat.specs.Repeat.{WindowsBegin, ThreadsStandAlike, RunStandsAgain}
+use Rattle.dk_cycle.specs.declared.Cycle.{Cycle}
+use Rattle.dk_cycle.specs.declared.run.ThreadState.{ThreadState}
+use Rattle.dk_cycle.specs.declared.run.ProcessState.{ProcessState}
+use Rattle.dk_cycle.specs.declared.run.RunState.{RunState}
+use Rattle.dk_cycle.specs.declared.run.RunSearch.{RunSearch}
+use Rattle.dk_cycle.specs.Keeping.{ReadsTick}
+
+-- the thread with its context is among these
+abbrev pub IsAmong : World → ℕ → List ThreadState → Thread → Type 0
+IsAmong w p threads x =
+    (place : ℕ) × (slice_get threads place ≡ Some (record { serial = x.id.serial; context = (w.images p).contexts x.id.serial }))
+
+-- the memory of the process, the threads that run on, and no context that isn't one's
+pub record IsProcessState (c : Configuration) (w : World) (p : ℕ) (s : ProcessState) : Type 0 where
+  pub memory : s.words.items ≡ (w.images p).memory
+  pub threads : (x : Thread) → Has (family c p w.past) x → x.stop ≡ None → IsAmong w p s.threads.items x
+  pub contexts : (place : ℕ) (t : ThreadState) → slice_get s.threads.items place ≡ Some t → t.context ≡ (w.images p).contexts t.serial
+
+-- one of each process
+abbrev pub AreProcessStates : Configuration → World → ℕ → List ProcessState → Type 0
+AreProcessStates c w many states =
+    (p : ℕ) → p < many → (s : ProcessState) × (slice_get states p ≡ Some s) × IsProcessState c w p s
+
+-- what the run is at a tick
+abbrev pub IsRunState : Configuration → List (List ℕ) → RunState → Type 0
+IsRunState c programs s = AreProcessStates c (world c programs s.tick) (length c.processes) s.processes.items
+
+-- where the windows of all levels begin
+pub record IsSavedRun (c : Configuration) (programs : List (List ℕ)) (s : RunState) : Type 0 where
+  pub begins : WindowsBegin c s.tick
+  pub is : IsRunState c programs s
+
+-- the threads at the places below so many are the same
+abbrev pub AreSameThreads : List ThreadState → List ThreadState → ℕ → Type 0
+AreSameThreads one other many = (place : ℕ) → place < many → slice_get one place ≡ slice_get other place
+
+pub record IsSameProcess (one other : ProcessState) : Type 0 where
+  pub memory : one.words.items ≡ other.words.items
+  pub threads : AreSameThreads one.threads.items other.threads.items (length one.threads.items)
+
+abbrev pub AreSame : List ProcessState → List ProcessState → ℕ → Type 0
+AreSame one other many =
+    (p : ℕ) (s t : ProcessState) → p < many → slice_get one p ≡ Some s → slice_get other p ≡ Some t → IsSameProcess s t
+
+-- the cycle from the tick that is kept to a later one at which the run is the same
+pub record IsFoundRun (saved : Option RunState) (kept : Bool) (now : RunState) (y : Cycle) : Type 0 where
+  pub before : RunState
+  pub is : saved ≡ Some before
+  pub still : kept ≡ true
+  pub later : before.tick < now.tick
+  pub start : y.start ≡ before.tick
+  pub lasts : y.length ≡ now.tick - before.tick
+  pub same : AreSame before.processes.items now.processes.items (length before.processes.items)
+
+-- it is of this run, and where no thread was made or stopped since, its threads stand alike then and at the tick
+pub record IsKept (c : Configuration) (programs : List (List ℕ)) (tick : ℕ) (kept : Bool) (s : RunState) : Type 0 where
+  pub is : IsSavedRun c programs s
+  pub threads : kept ≡ true → ThreadsStandAlike c (trace c programs s.tick) (trace c programs tick)
+
+-- what a search keeps is of this run, and at the two ticks that it found the run stands alike, and reads no tick between
+pub record IsRunSearch (c : Configuration) (programs : List (List ℕ)) (tick : ℕ) (search : RunSearch) : Type 0 where
+  pub some : 0 < search.longest
+  pub longest : (i : ℕ) → i < length c.levels → period c i ∣ search.longest
+  pub quiet : search.reader ≡ None → (p : ℕ) → p < length c.processes → ReadsNoTick (slice_index_or programs p [])
+  pub reader : IfSome search.reader (λ p. (p < length c.processes) × ReadsTick (slice_index_or programs p []))
+  pub saved : IfSome search.saved (IsKept c programs tick search.kept)
+  pub cycle : IfSome search.cycle (λ y. RunStandsAgain c programs y.start y.length)
+
+-- a search of a run that looks at the entry of the next tick is one up to that tick
+abbrev pub Follows : RunSearch → Entry → RunSearch → Type 0
+Follows before entry after =
+    (c : Configuration) (programs : List (List ℕ)) (tick : ℕ) → IsRunSearch c programs tick before
+    → trace c programs (tick + 1) ≡ entry ∷ trace c programs tick → IsRunSearch c programs (tick + 1) after
+
+-- and one that looks at what the run is where the windows of all levels begin is still one
+abbrev pub LooksAtRun : RunSearch → RunState → RunSearch → Type 0
+LooksAtRun before now after =
+    (c : Configuration) (programs : List (List ℕ)) → IsChecked c → IsAccepted c → IsRunSearch c programs now.tick before → before.reader ≡ None
+    → IsRunState c programs now → now.tick % before.longest ≡ 0 → IsRunSearch c programs now.tick after

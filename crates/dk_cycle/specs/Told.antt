@@ -1,0 +1,48 @@
+-- What was found, and what it says of every tick.
+use Rattle.std.specs.Prelude.{ℕ, ◌≡◌, ◌+◌, ◌<◌, List, [], length, None, slice_index_or, IfSome}
+use Rattle.dk_config.specs.Configuration.{Configuration}
+use Rattle.dk_config.specs.Checked.{IsChecked, IsAccepted}
+use Rattle.dk_alone.specs.Alone.{ReadsNoTick}
+use Rattle.dk_alone.specs.Again.{WindowBegins}
+use Rattle.dk_cycle.specs.declared.keeping.Keeping.TheVariants as kind
+use Rattle.dk_cycle.specs.declared.own.OwnSearch.{OwnSearch}
+use Rattle.dk_cycle.specs.declared.run.RunSearch.{RunSearch}
+use Rattle.dk_cycle.specs.declared.Cycle.{Cycle}
+use Rattle.dk_cycle.specs.declared.told.OwnTold.{OwnTold}
+use Rattle.dk_cycle.specs.declared.told.RunTold.{RunTold}
+use Rattle.dk_cycle.specs.Keeping.{IsKeeping, ReadsTick}
+use Rattle.dk_cycle.specs.Own.{IsOwnSearch}
+use Rattle.dk_cycle.specs.Run.{IsRunSearch}
+use Rattle.dk_cycle.specs.Repeating.{RepeatsForEver, RepeatsWhateverOthersDo}
+
+abbrev pub run_told : RunSearch → RunTold
+run_told search = record { reader = search.reader; cycle = search.cycle }
+
+abbrev pub own_told : OwnSearch → OwnTold
+own_told search = record { process = search.process; keeping = search.keeping; cycle = search.cycle }
+
+-- a program reads the tick, or none does; and the run repeats for ever
+pub record IsRunTold (c : Configuration) (programs : List (List ℕ)) (told : RunTold) : Type 0 where
+  pub reader : IfSome told.reader (λ p. (p < length c.processes) × ReadsTick (slice_index_or programs p []))
+  pub quiet : told.reader ≡ None → (p : ℕ) → p < length c.processes → ReadsNoTick (slice_index_or programs p [])
+  pub cycle : IfSome told.cycle (λ y. RepeatsForEver c programs y.start y.length)
+
+-- from a start of its windows on the process repeats in every run
+pub record HasCycle (c : Configuration) (programs : List (List ℕ)) (p : ℕ) (y : Cycle) : Type 0 where
+  pub later : 0 < y.length
+  pub begins : WindowBegins c p y.start
+  pub begins_later : WindowBegins c p (y.start + y.length)
+  pub repeats : RepeatsWhateverOthersDo c programs p y.start y.length
+
+-- why the process doesn't keep to itself, or that it does; and then it repeats in every run
+pub record IsOwnTold (c : Configuration) (programs : List (List ℕ)) (told : OwnTold) : Type 0 where
+  pub keeping : IsKeeping c told.process (slice_index_or programs told.process []) told.keeping
+  pub cycle : told.keeping ≡ kind.Keeps → IfSome told.cycle (HasCycle c programs told.process)
+
+abbrev pub RunIsTold : Type 0
+RunIsTold = (c : Configuration) (programs : List (List ℕ)) (tick : ℕ) (search : RunSearch) → IsChecked c → IsAccepted c → IsRunSearch c programs tick search
+    → IsRunTold c programs (run_told search)
+
+abbrev pub OwnIsTold : Type 0
+OwnIsTold = (c : Configuration) (programs : List (List ℕ)) (search : OwnSearch) → IsChecked c → IsAccepted c → IsOwnSearch c programs search
+    → IsOwnTold c programs (own_told search)

@@ -1,0 +1,212 @@
+//! The search for a cycle of a whole run.
+ghost use Rattle.std.specs.Prelude.{ℕ, List, [], ◌≡◌, ◌+◌, ◌<◌, ◌%◌, ◌&&◌, length, slice_index_or, true, false, None, IfSome};
+ghost use Rattle.std.specs.Int.{◌∣◌};
+ghost use Rattle.std.specs.Option.{option_map_or};
+ghost use Rattle.dk_config.specs.Checked.{IsChecked, IsWithinLimits};
+ghost use Rattle.dk_config.specs.Windows.{period};
+ghost use Rattle.dk_alone.specs.Alone.{ReadsNoTick};
+ghost use Rattle.dk_repeat.specs.Repeat.{keeps_threads};
+ghost use Rattle.dk_cycle.specs.Keeping.{ReadsTick};
+ghost use Rattle.dk_cycle.specs.Run.{AreSame, AreSameThreads, IsSameProcess};
+
+use crate::Cycle;
+use crate::own::{period_of, same_context};
+use dk_config::Config;
+use dk_cpu::Context;
+use dk_repeat::{clock_law, kept_law};
+use dk_trace::{Entry, Event};
+
+/// A thread, by its serial, and its context.
+#[derive(Clone, Copy)]
+pub struct ThreadState {
+    pub serial: u32,
+    pub context: Context,
+}
+
+/// What a process is at a tick: its memory, and its threads that may run on.
+#[derive(Drop)]
+pub struct ProcessState {
+    pub words: Vec<u32>,
+    pub threads: Vec<ThreadState>,
+}
+
+/// What a run is at a tick, process by process.
+#[derive(Drop)]
+pub struct RunState {
+    pub tick: u32,
+    pub processes: Vec<ProcessState>,
+}
+
+/// The search for a cycle of a whole run.
+#[derive(Drop)]
+pub struct RunSearch {
+    /// A multiple of all periods.
+    pub longest: u32,
+    /// The first process whose program reads the tick. Where there is one, no cycle is looked for.
+    pub reader: Option<u8>,
+    /// What the run was at a tick at which the windows of all levels began.
+    pub saved: Option<RunState>,
+    /// No thread was made or stopped since.
+    pub kept: bool,
+    /// What was found.
+    pub cycle: Option<Cycle>,
+}
+
+fn same_thread(one: &ThreadState, other: &ThreadState) -> bool
+    ensures { result ≡ true → one.now ≡ other.now }
+{
+    one.serial == other.serial && same_context(&one.context, &other.context)
+}
+
+/// Whether the threads of the one list are at their places in the other.
+fn same_threads(one: &[ThreadState], other: &[ThreadState]) -> bool
+    ensures { result ≡ true → AreSameThreads one.now other.now (length one.now) }
+{
+    if one.len() != other.len() {
+        return false;
+    }
+    for place in 0..one.len() {
+        if !same_thread(&one[place], &other[place]) {
+            return false;
+        }
+    }
+    true
+}
+
+fn same_process(one: &ProcessState, other: &ProcessState) -> bool
+    ensures { result ≡ true → IsSameProcess one.now other.now }
+{
+    one.words.as_slice() == other.words.as_slice()
+        && same_threads(one.threads.as_slice(), other.threads.as_slice())
+}
+
+/// Whether the processes are the same.
+fn same_processes(one: &[ProcessState], other: &[ProcessState]) -> bool
+    ensures { result ≡ true → AreSame one.now other.now (length one.now) }
+{
+    if one.len() != other.len() {
+        return false;
+    }
+    for process in 0..one.len() {
+        if !same_process(&one[process], &other[process]) {
+            return false;
+        }
+    }
+    true
+}
+
+/// Whether the entry neither makes nor stops a thread.
+fn keeps_threads(entry: &Entry) -> bool
+    ensures { result ≡ option_map_or keeps_threads entry.now.event true }
+{
+    match entry.event {
+        None => true,
+        Some(Event::Create { .. }) => false,
+        Some(Event::Delete(_)) => false,
+        Some(Event::Exit) => false,
+        Some(Event::Fault(_)) => false,
+        Some(_) => true,
+    }
+}
+
+/// The longest period, a multiple of all.
+fn longest_of(config: &Config) -> u32
+    requires checked { IsChecked config.now }
+    requires limits { IsWithinLimits config.now }
+    ensures some { 0 < result }
+    ensures longest { (i : ℕ) → i < length config.now.levels → period config.now i ∣ result }
+{
+    period_of(config, config.levels.len() - 1)
+}
+
+impl RunSearch {
+    ghost use Rattle.dk_config.specs.Checked.{IsWithinLimits};
+    ghost use Rattle.dk_cycle.specs.Run.{Follows, IsFoundRun, IsRunSearch, LooksAtRun};
+
+    /// Before the first tick. No program reads the tick, or that of this process does.
+    pub fn new(config: &Config, reader: Option<u8>) -> RunSearch
+        requires checked { IsChecked config.now }
+        requires limits { IsWithinLimits config.now }
+        ensures run { (programs : List (List ℕ))
+            → (reader ≡ None → (p : ℕ) → p < length config.now.processes → ReadsNoTick (slice_index_or programs p []))
+            → IfSome reader (λ p. (p < length config.now.processes) × ReadsTick (slice_index_or programs p []))
+            → IsRunSearch config.now programs 0 result }
+    {
+        RunSearch {
+            longest: longest_of(config),
+            reader,
+            saved: None,
+            kept: true,
+            cycle: None,
+        }
+    }
+
+    /// Whether nothing is looked for any more.
+    pub fn is_done(&self) -> bool
+        ensures { result ≡ false → self.now.reader ≡ None }
+    {
+        self.reader.is_some() || self.cycle.is_some()
+    }
+
+    /// Whether the windows of all levels begin at the tick.
+    pub fn begins(&self, tick: u32) -> bool
+        requires { 0 < self.now.longest }
+        ensures { result ≡ true → tick % self.now.longest ≡ 0 }
+    {
+        tick % self.longest == 0
+    }
+
+    /// Looks at the entry of the next tick.
+    pub fn follow(&mut self, entry: &Entry)
+        ensures { Follows self.old entry.now self.new }
+    {
+        kept_law();
+        self.kept = self.kept && keeps_threads(entry);
+    }
+
+    /// The cycle that ends now, where no thread was made or stopped and the run is what it was at the tick that is kept.
+    fn ends(&self, now: &RunState) -> Option<Cycle>
+        ensures { IfSome result (IsFoundRun self.now.saved self.now.kept now.now) }
+    {
+        match &self.saved {
+            None => None,
+            Some(saved) => {
+                if self.kept
+                    && saved.tick < now.tick
+                    && same_processes(saved.processes.as_slice(), now.processes.as_slice())
+                {
+                    Some(Cycle {
+                        start: saved.tick,
+                        length: now.tick - saved.tick,
+                    })
+                } else {
+                    None
+                }
+            }
+        }
+    }
+
+    /// Whether a thread was made or stopped since, or what is kept is as old as the run was then, so that the search goes
+    /// on from now (after Brent 1980).
+    fn is_due(&self, tick: u32) -> bool {
+        match &self.saved {
+            None => true,
+            Some(saved) => !self.kept || saved.tick <= tick / 2,
+        }
+    }
+
+    /// Looks at what the run is now, where the windows of all levels begin.
+    pub fn look(&mut self, now: RunState)
+        ensures { LooksAtRun self.old now self.new }
+    {
+        clock_law();
+        if let Some(cycle) = self.ends(&now) {
+            self.cycle = Some(cycle);
+            return;
+        }
+        if self.is_due(now.tick) {
+            self.saved = Some(now);
+            self.kept = true;
+        }
+    }
+}

@@ -1,0 +1,57 @@
+//! What was found, and what it says of every tick.
+ghost use Rattle.std.specs.Prelude.{◌≡◌};
+ghost use Rattle.dk_cycle.specs.Told.{OwnIsTold, RunIsTold, own_told, run_told};
+
+use crate::Cycle;
+use crate::keeping::Keeping;
+use crate::own::OwnSearch;
+use crate::run::RunSearch;
+use dk_alone::{again_law, own_repeat_law};
+use dk_repeat::forever_law;
+
+/// The first process whose program reads the tick, and the cycle of the run.
+#[derive(Clone, Copy)]
+pub struct RunTold {
+    pub reader: Option<u8>,
+    pub cycle: Option<Cycle>,
+}
+
+/// Whether the process keeps to itself, and its cycle.
+#[derive(Clone, Copy)]
+pub struct OwnTold {
+    pub process: u8,
+    pub keeping: Keeping,
+    pub cycle: Option<Cycle>,
+}
+
+/// What was found of the run.
+pub fn run_told(search: &RunSearch) -> RunTold
+    ensures { result ≡ run_told search.now }
+{
+    RunTold {
+        reader: search.reader,
+        cycle: search.cycle,
+    }
+}
+
+/// What was found of a process.
+pub fn own_told(search: &OwnSearch) -> OwnTold
+    ensures { result ≡ own_told search.now }
+{
+    OwnTold {
+        process: search.process,
+        keeping: search.keeping,
+        cycle: search.cycle,
+    }
+}
+
+/// The cycle that was found of a run is one for ever, and that of a process that keeps to itself is one in every run,
+/// whatever programs the others have.
+pub fn told_law()
+    ensures run { RunIsTold }
+    ensures own { OwnIsTold }
+{
+    forever_law();
+    again_law();
+    own_repeat_law();
+}
