@@ -8,7 +8,7 @@ use Rattle.dk_loader.specs.Workload.{Workload}
 use Rattle.dk_trace.specs.declared.Entry.{Entry}
 use Rattle.dk_world.specs.Run.{world}
 use Rattle.dk_alone.specs.Alone.{KeepsToItself, ReadsNoTick}
-use Rattle.dk_alone.specs.Again.{Begins, ProcessStandsAgain, window_of}
+use Rattle.dk_alone.specs.Again.{WindowBegins, ProcessStandsAgain, own_window}
 use Rattle.dk_impact.specs.declared.change.Change.{Change}
 use Rattle.dk_impact.specs.Changes.{first_change}
 use Rattle.dk_impact.specs.Impact.{IsSameAcross, SeesTheSame, renamed}
@@ -97,12 +97,12 @@ AreRows old new (suc n) rows =
 pub record EvidenceStands (old : Workload) (p : ℕ) (new : Workload) (q : ℕ) : Type 0 where
   -- where its windows begin its entries, its memory and its contexts are what they were
   pub same : (programs others : List (List ℕ)) (n : ℕ) → slice_index_or programs p [] ≡ program_of old p
-      → slice_index_or others q [] ≡ program_of new q → Begins old.config p n
+      → slice_index_or others q [] ≡ program_of new q → WindowBegins old.config p n
       → IsSameAcross p q (world old.config programs n) (world new.config others n)
   -- and what holds of its entries in each window of one run, up to two ticks at which it stands alike, holds of them in each
   -- window of every run
   pub windows : (programs others : List (List ℕ)) (s k : ℕ) (holds : List Entry → Bool)
       → slice_index_or programs p [] ≡ program_of old p → slice_index_or others q [] ≡ program_of new q
       → ProcessStandsAgain old.config programs p s k
-      → ((tick : ℕ) → Begins old.config p tick → tick < s + k → holds (map (renamed q) (window_of old.config programs p tick)) ≡ true)
-      → (tick : ℕ) → Begins new.config q tick → holds (window_of new.config others q tick) ≡ true
+      → ((tick : ℕ) → WindowBegins old.config p tick → tick < s + k → holds (map (renamed q) (own_window old.config programs p tick)) ≡ true)
+      → (tick : ℕ) → WindowBegins new.config q tick → holds (own_window new.config others q tick) ≡ true
