@@ -1,29 +1,6 @@
 -- The rows of the threads, and what those have that are gone or haven't started.
-use Rattle.std.proofs.Common.{ℕ, ◌≡◌, ◌<◌, ◌≤◌, inl, inr, true, false, not, eqb, leb, List, length, Option, Some, None, refl, sym, ap, ◌∙◌, subst, arith}
-use Rattle.std.specs.Option.{option_map_or}
-use Rattle.std.proofs.lemmas.Bool.{cases_Bool}
-use Rattle.std.proofs.lemmas.Bool.Decides.{nat_tests}
-use Rattle.dk_config.specs.Configuration.{Configuration}
-use Rattle.dk_config.specs.Checked.{IsChecked, IsAccepted}
-use Rattle.dk_config.specs.Windows.{period, max_level, window_start, window_end}
-use Rattle.dk_trace.specs.declared.Entry.{Entry}
-use Rattle.dk_trace.specs.Members.{Has}
-use Rattle.dk_trace.specs.Threads.{Thread, threads, family, is_void, is_ended_by, share}
-use Rattle.dk_trace.specs.Jobs.{thread_rem}
-use Rattle.dk_trace.specs.Audit.{Audited}
-use Rattle.dk_bound.specs.Laws.{Always}
-use Rattle.dk_bound.specs.Rows.{IdsTellLevels, is_gone, AbsentHaveNothing, FamiliesStand, RowsAreNamed}
-use Rattle.dk_trace.proofs.Windows.{window_start-le}
-use Rattle.dk_trace.proofs.Mains.{main_row}
-use Rattle.dk_trace.proofs.Families.{children, family-children}
-use Rattle.dk_trace.proofs.Distinct.{same-row, Numbered-serial, Numbered-Distinct}
-use Rattle.dk_trace.proofs.Members.{flat-has}
-use Rattle.dk_trace.proofs.RowsFit.{ThreadsFit, threads-fit, family-fits}
-use Rattle.dk_trace.proofs.Rows.{window_end-above, child-of, child-has, row-of, main-or-child, main_stop-old}
-use Rattle.dk_trace.proofs.Shares.{share-child}
-use Rattle.dk_trace.proofs.Silent.{stopped-share, stopped-test}
-use Rattle.dk_trace.proofs.Orderly.{jobs-in-order}
-use Rattle.dk_trace.proofs.Same.{make-id}
+use Rattle.dk_bound.proofs.Names.{ℕ, ◌≡◌, ◌<◌, ◌≤◌, inl, inr, true, false, not, eqb, leb, List, length, refl, sym, ap, ◌∙◌, subst, arith, option_map_or, cases_Bool, nat_tests, Configuration, IsChecked, IsAccepted, period, max_level, window_start, window_end, Entry, Has, Thread, threads, family, is_void, is_ended_by, share, thread_rem, Audited, Always, IdsTellLevels, is_gone, AbsentHaveNothing, FamiliesStand, RowsAreNamed, window_start-le, main_row, children, family-children, same-row, Numbered-serial, Numbered-Distinct, flat-has, ThreadsFit, threads-fit, family-fits, window_end-above, child-of, child-has, row-of, main-or-child, main_stop-old, share-child, stopped-share, stopped-test, jobs-in-order, make-id}
+use Rattle.std.proofs.Common.{Option, Some, None}
 use Rattle.dk_bound.proofs.Fits.{steady-fair}
 use Rattle.dk_bound.proofs.Joint.{steady}
 use Rattle.dk_bound.proofs.TickMoves.{id-level}

@@ -1,13 +1,5 @@
 -- A configuration in which no level fails is accepted.
-use Rattle.std.proofs.Common.{◌≡◌, ◌+◌, inl, inr, ltb, length, refl, subst, arith}
-use Rattle.std.specs.Prelude.{Some, None, MatchOption}
-use Rattle.std.proofs.lemmas.Bool.{cases_Bool}
-use Rattle.std.proofs.lemmas.Bool.Decides.{nat_tests}
-use Rattle.dk_config.specs.Configuration.{Configuration}
-use Rattle.dk_config.specs.Windows.{period}
-use Rattle.dk_config.specs.Certification.{level_demand, level_blocking, fails_at, first_failing}
-use Rattle.dk_config.specs.Checked.{IsAccepted}
-use Rattle.dk_config.proofs.FirstOf.{first_of-is, NoAnswer, IsFirst, first-none}
+use Rattle.dk_bound.proofs.Names.{◌≡◌, ◌+◌, inl, inr, ltb, length, refl, subst, arith, Some, None, MatchOption, cases_Bool, nat_tests, Configuration, period, level_demand, level_blocking, fails_at, first_failing, IsAccepted, first_of-is, NoAnswer, IsFirst, first-none}
 
 pub accepted : (c : Configuration) → first_failing c ≡ None → IsAccepted c
 accepted c none j known =

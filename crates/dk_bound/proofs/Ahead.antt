@@ -1,30 +1,5 @@
 -- What still comes before a main until a tick: it falls by each tick that it gets, and nothing is added to it as windows begin.
-use Rattle.std.proofs.Common.{ℕ, suc, ◌≡◌, ◌+◌, ◌-◌, ◌*◌, ◌/◌, ◌%◌, ◌<◌, ◌≤◌, ◌⊎◌, inl, inr, true, false, ◌&&◌, eqb, leb, ltb, List, ◌∷◌, length, refl, ap, ◌∙◌, arith}
-use Rattle.std.specs.Prelude.{min, Option, Some}
-use Rattle.std.specs.Option.{option_map_or}
-use Rattle.std.proofs.lemmas.Bool.{cases_Bool}
-use Rattle.std.proofs.lemmas.Bool.Decides.{nat_tests}
-use Rattle.dk_config.specs.Configuration.{Configuration}
-use Rattle.dk_config.specs.Checked.{IsChecked}
-use Rattle.dk_config.specs.Sums.{sum_from}
-use Rattle.dk_config.specs.Windows.{period, release, main_level, max_level, slots, budget, window_end}
-use Rattle.dk_config.specs.Certification.{level_blocking}
-use Rattle.dk_config.proofs.Sums.{sum_from-le, sum_from-add, sum_from-term}
-use Rattle.dk_trace.specs.declared.Entry.{Entry}
-use Rattle.dk_trace.specs.Entries.{payer}
-use Rattle.dk_trace.specs.Members.{Has}
-use Rattle.dk_trace.specs.Threads.{Thread, family}
-use Rattle.dk_trace.specs.Jobs.{kernel_rem}
-use Rattle.dk_trace.specs.Audit.{Audited}
-use Rattle.dk_trace.proofs.Windows.{mod-next, spent, count-charged, paid-le}
-use Rattle.dk_trace.proofs.Mains.{window_start-within}
-use Rattle.dk_trace.proofs.Starts.{kernel_paid, one_or_none, pays, begins-together}
-use Rattle.dk_trace.proofs.Labels.{spent-payer}
-use Rattle.dk_trace.proofs.LevelDemand.{paid_by_kernel}
-use Rattle.dk_trace.proofs.Members.{sum_by-term}
-use Rattle.dk_trace.proofs.RowsFit.{RowFits}
-use Rattle.dk_trace.proofs.Fair.{AllFair}
-use Rattle.dk_config.specs.Ahead.{windows_begun, stands_after, slowest_before, may_come_before, budgets_begun, ahead}
+use Rattle.dk_bound.proofs.Names.{ℕ, suc, ◌≡◌, ◌+◌, ◌-◌, ◌*◌, ◌/◌, ◌%◌, ◌<◌, ◌≤◌, ◌⊎◌, inl, inr, true, false, ◌&&◌, eqb, leb, ltb, List, ◌∷◌, length, refl, ap, ◌∙◌, arith, min, Option, Some, option_map_or, cases_Bool, nat_tests, Configuration, IsChecked, sum_from, period, release, main_level, max_level, slots, budget, window_end, level_blocking, sum_from-le, sum_from-add, sum_from-term, Entry, payer, Has, Thread, family, kernel_rem, Audited, mod-next, spent, count-charged, paid-le, window_start-within, kernel_paid, one_or_none, pays, begins-together, spent-payer, paid_by_kernel, sum_by-term, RowFits, AllFair, windows_begun, stands_after, slowest_before, may_come_before, budgets_begun, ahead}
 use Rattle.dk_bound.proofs.Begins.{process-begins}
 use Rattle.dk_bound.proofs.Demands.{kept, up_to, process_demand, process_paid, process-entry, process-moves, kernel_rem-moves, KernelReady}
 

@@ -1,25 +1,5 @@
 -- What the levels need at tick 0.
-use Rattle.std.proofs.Common.{ℕ, zero, suc, ◌≡◌, ◌+◌, ◌*◌, ◌/◌, ◌<◌, ◌≤◌, ◌⊎◌, inl, inr, Bool, true, false, cond, eqb, leb, [], length, refl, sym, ap, ◌∙◌, arith}
-use Rattle.std.specs.Prelude.{sum_by}
-use Rattle.std.specs.Int.{◌∣◌}
-use Rattle.std.proofs.lemmas.Bool.{cases_Bool}
-use Rattle.std.proofs.lemmas.Bool.Decides.{nat_tests}
-use Rattle.std.proofs.Math.Nat.{zero-mod}
-use Rattle.dk_config.specs.Configuration.{Configuration}
-use Rattle.dk_config.specs.Checked.{IsChecked}
-use Rattle.dk_config.specs.Sums.{sum_from}
-use Rattle.dk_config.specs.Windows.{period, release, main_level, budget, window_end}
-use Rattle.dk_trace.specs.Entries.{window}
-use Rattle.dk_trace.specs.Threads.{Thread, threads, family, main_thread, share}
-use Rattle.dk_trace.specs.Jobs.{thread_rem, kernel_rem}
-use Rattle.dk_trace.specs.Demand.{sum_starts, windows_left, kernel_demand, thread_demand}
-use Rattle.dk_bound.specs.Standing.{StartsWithBudgets, StartsWithDemand}
-use Rattle.dk_trace.proofs.Starts.{begins-together, left-at_start}
-use Rattle.dk_config.proofs.Sums.{sum_from-eq}
-use Rattle.dk_config.proofs.Progressions.{sum_every-same}
-use Rattle.dk_trace.proofs.Windows.{window-begins}
-use Rattle.dk_trace.proofs.Members.{sum_by-flat}
-use Rattle.dk_trace.proofs.LevelDemand.{budget_at, budgets_at-sum, level_demand-sum}
+use Rattle.dk_bound.proofs.Names.{ℕ, zero, suc, ◌≡◌, ◌+◌, ◌*◌, ◌/◌, ◌<◌, ◌≤◌, ◌⊎◌, inl, inr, Bool, true, false, cond, eqb, leb, [], length, refl, sym, ap, ◌∙◌, arith, sum_by, ◌∣◌, cases_Bool, nat_tests, zero-mod, Configuration, IsChecked, sum_from, period, release, main_level, budget, window_end, window, Thread, threads, family, main_thread, share, thread_rem, kernel_rem, sum_starts, windows_left, kernel_demand, thread_demand, StartsWithBudgets, StartsWithDemand, begins-together, left-at_start, sum_from-eq, sum_every-same, window-begins, sum_by-flat, budget_at, budgets_at-sum, level_demand-sum}
 
 no-window : (c : Configuration) (i : ℕ) → window c 0 [] i ≡ []
 no-window c i = window-begins c [] i (zero-mod (period c i))

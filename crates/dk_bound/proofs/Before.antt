@@ -1,40 +1,5 @@
 -- Who has the ticks while the main of a process has something left of its share: nobody on slack, and no thread that stands after it.
-use Rattle.std.proofs.Common.{ℕ, zero, suc, ◌≡◌, ◌-◌, ◌<◌, ◌≤◌, ◌⊎◌, inl, inr, Bool, true, false, not, ◌&&◌, ◌||◌, eqb, ltb, List, [], ◌∷◌, length, take, refl, sym, ap, ◌∙◌, subst, arith}
-use Rattle.std.specs.Prelude.{Option, Some, None}
-use Rattle.std.proofs.lemmas.Bool.{cases_Bool, cases_lt, and_parts, and_from}
-use Rattle.std.proofs.lemmas.Bool.Decides.{nat_tests}
-use Rattle.dk_config.specs.Configuration.{Configuration}
-use Rattle.dk_config.specs.declared.TheConstants.{MAX_SPAN}
-use Rattle.dk_config.specs.Checked.{IsChecked}
-use Rattle.dk_config.specs.Windows.{main_level, may_ask}
-use Rattle.dk_trace.specs.declared.ThreadId.{ThreadId}
-use Rattle.dk_trace.specs.declared.Work.{Work}
-use Rattle.dk_trace.specs.declared.Event.{Event}
-use Rattle.dk_trace.specs.declared.Refusal.{Refusal}
-use Rattle.dk_trace.specs.declared.Choice.{Choice}
-use Rattle.dk_trace.specs.declared.Entry.{Entry}
-use Rattle.dk_trace.specs.Members.{Has}
-use Rattle.dk_trace.specs.Entries.{borrower, is_of, stops}
-use Rattle.dk_trace.specs.Threads.{Thread, threads, family, new_rows}
-use Rattle.dk_trace.specs.Jobs.{job, phase}
-use Rattle.dk_trace.specs.Holds.{held_by, is_holding, is_holder}
-use Rattle.dk_trace.specs.Slack.{asked, last_request, want}
-use Rattle.dk_trace.specs.Choices.{chosen, ready_at}
-use Rattle.dk_trace.specs.Audit.{Audited, Follows, label_of}
-use Rattle.dk_trace.proofs.Mains.{main_id, main_row}
-use Rattle.dk_trace.proofs.Families.{children, family-children}
-use Rattle.dk_trace.proofs.Labels.{budget-labels, chosen-says}
-use Rattle.dk_trace.proofs.Members.{flat-has, has-flat, find-flat}
-use Rattle.dk_trace.proofs.Distinct.{same-row}
-use Rattle.dk_trace.proofs.Rows.{main-has, has-next, row-of}
-use Rattle.dk_trace.proofs.RowsFit.{ThreadsFit, threads-fit}
-use Rattle.dk_trace.proofs.Events.{none-holds}
-use Rattle.dk_trace.proofs.Silent.{wish-wants}
-use Rattle.dk_trace.proofs.Whose.{of-payer, of-nobody}
-use Rattle.dk_trace.proofs.Holds.{held-stopped, held-other}
-use Rattle.dk_trace.proofs.Chosen.{Passed, Turn, by_hold, by_share, Reason, kernel_first, thread_first, slack_first, nothing, now_rem, chosen-reason}
-use Rattle.dk_trace.proofs.Entered.{Kind, paid, lent, kernel, idle, kind, done-event}
-use Rattle.dk_config.specs.Ahead.{NoFasterSlack}
+use Rattle.dk_bound.proofs.Names.{ℕ, zero, suc, ◌≡◌, ◌-◌, ◌<◌, ◌≤◌, ◌⊎◌, inl, inr, Bool, true, false, not, ◌&&◌, ◌||◌, eqb, ltb, List, [], ◌∷◌, length, take, refl, sym, ap, ◌∙◌, subst, arith, Option, Some, None, cases_Bool, cases_lt, and_parts, and_from, nat_tests, Configuration, MAX_SPAN, IsChecked, main_level, may_ask, ThreadId, Work, Event, Refusal, Choice, Entry, Has, borrower, is_of, stops, Thread, threads, family, new_rows, job, phase, held_by, is_holding, is_holder, asked, last_request, want, chosen, ready_at, Audited, Follows, label_of, main_id, main_row, children, family-children, budget-labels, chosen-says, flat-has, has-flat, find-flat, same-row, main-has, has-next, row-of, ThreadsFit, threads-fit, none-holds, wish-wants, of-payer, of-nobody, held-stopped, held-other, Passed, Turn, by_hold, by_share, Reason, kernel_first, thread_first, slack_first, nothing, now_rem, chosen-reason, Kind, paid, lent, kernel, idle, kind, done-event, NoFasterSlack}
 use Rattle.dk_bound.proofs.Holding.{HoldersFit}
 use Rattle.dk_bound.proofs.Certified.{same-or}
 use Rattle.dk_bound.proofs.Blocking.{new-free}

@@ -1,35 +1,6 @@
 -- Where a window of level j begins, the levels up to j need no more than the configuration says.
-use Rattle.std.proofs.Common.{ℕ, suc, ◌≡◌, ◌+◌, ◌-◌, ◌*◌, ◌/◌, ◌%◌, ◌<◌, ◌≤◌, inl, inr, true, false, cond, eqb, leb, ltb, List, length, refl, sym, ap, ◌∙◌, arith}
-use Rattle.std.specs.Prelude.{sum_by, Option, Some, None}
-use Rattle.std.specs.Option.{option_map_or}
-use Rattle.std.specs.Int.{◌∣◌}
-use Rattle.std.proofs.lemmas.Bool.{cases_lt}
-use Rattle.std.proofs.lemmas.Bool.Decides.{nat_tests}
-use Rattle.std.proofs.lemmas.Nat.Gcd.{dvd_trans, dvd_of_mod-eq-zero}
-use Rattle.dk_config.specs.Configuration.{Configuration}
-use Rattle.dk_config.specs.Sums.{sum_from, sum_every}
-use Rattle.dk_config.specs.Windows.{period, release, main_level, budget, window_end}
-use Rattle.dk_config.specs.Certification.{level_demand}
-use Rattle.dk_trace.specs.declared.ThreadId.{ThreadId}
-use Rattle.dk_trace.specs.declared.Entry.{Entry}
-use Rattle.dk_trace.specs.Threads.{Thread, family, share}
-use Rattle.dk_trace.specs.Demand.{sum_starts, windows_left, thread_demand, kernel_demand, remaining_demand}
-use Rattle.dk_trace.specs.Audit.{Audited}
-use Rattle.dk_trace.proofs.Starts.{begins-together, left-at_start}
-use Rattle.dk_trace.proofs.Mains.{main_row, main_stop}
-use Rattle.dk_config.proofs.Sums.{sum_from-le, sum_every-at_most}
-use Rattle.dk_trace.proofs.LevelDemand.{kernel-begins, budget_at, term-at_level, level_demand-sum}
-use Rattle.dk_trace.proofs.Families.{children, child_row, lent_of, lent}
-use Rattle.dk_config.specs.Checked.{IsChecked}
-use Rattle.dk_config.proofs.Progressions.{sum_every-below}
-use Rattle.dk_trace.proofs.Fair.{AllFair}
-use Rattle.dk_trace.specs.Members.{Has}
-use Rattle.dk_trace.proofs.Members.{sum_by-le, sum_by-same, sum_by-zero, sum_by-flat}
-use Rattle.dk_trace.proofs.Rows.{dvd-end, child-of, main_stop-old}
-use Rattle.dk_trace.proofs.Silent.{children-with-main}
-use Rattle.dk_trace.proofs.Loans.{lent-fits}
-use Rattle.dk_trace.proofs.Shares.{share-main}
-use Rattle.dk_trace.proofs.Orderly.{begin-order}
+use Rattle.dk_bound.proofs.Names.{ℕ, suc, ◌≡◌, ◌+◌, ◌-◌, ◌*◌, ◌/◌, ◌%◌, ◌<◌, ◌≤◌, inl, inr, true, false, cond, eqb, leb, ltb, List, length, refl, sym, ap, ◌∙◌, arith, sum_by, Option, Some, None, option_map_or, ◌∣◌, cases_lt, nat_tests, dvd_trans, dvd_of_mod-eq-zero, Configuration, sum_from, sum_every, period, release, main_level, budget, window_end, level_demand, ThreadId, Entry, Thread, family, share, sum_starts, windows_left, thread_demand, kernel_demand, remaining_demand, Audited, begins-together, left-at_start, main_row, main_stop, sum_from-le, sum_every-at_most, kernel-begins, budget_at, term-at_level, level_demand-sum, children, child_row, lent_of, IsChecked, sum_every-below, AllFair, Has, sum_by-le, sum_by-same, sum_by-zero, sum_by-flat, dvd-end, child-of, main_stop-old, children-with-main, lent-fits, share-main, begin-order}
+use Rattle.dk_trace.proofs.Families.{lent}
 use Rattle.dk_bound.proofs.Promises.{claim_from, shares_between, future_of, claims_from, promise, futures-promised, futures-slow}
 
 claim-lent_at : (c : Configuration) (j b s : ℕ) (id : ThreadId) (level quota start : ℕ) (stop : Option ℕ) → eqb id.serial 0 ≡ false

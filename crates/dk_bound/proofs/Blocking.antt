@@ -1,31 +1,8 @@
 -- How an entry changes the time that a level waits for slower threads.
-use Rattle.std.proofs.Common.{ℕ, ◌≡◌, ◌+◌, ◌-◌, ◌<◌, ◌≤◌, inl, inr, true, false, cond, ltb, List, ◌∷◌, length, Option, None, refl, sym, ap, ◌∙◌, subst, arith}
-use Rattle.std.specs.Prelude.{map, sum_by}
-use Rattle.std.proofs.lemmas.Bool.{cases_Bool, cases_lt}
-use Rattle.std.proofs.lemmas.Bool.Decides.{nat_tests}
-use Rattle.std.proofs.lemmas.List.Sums.{sum_by-append}
-use Rattle.dk_config.specs.Configuration.{Configuration}
-use Rattle.dk_config.specs.Checked.{IsChecked}
-use Rattle.dk_trace.specs.declared.Event.{Event}
-use Rattle.dk_trace.specs.declared.Entry.{Entry}
-use Rattle.dk_trace.specs.Entries.{payer, is_of, is_budget_of, stops}
-use Rattle.dk_trace.specs.Threads.{Thread, threads, family, after_entry, new_rows}
-use Rattle.dk_trace.specs.Jobs.{thread_body_left}
-use Rattle.dk_trace.specs.Holds.{ends_hold, Hold, aged, held_after, held_by, innermost_left, greatest_left, thread_blocking, blocking, is_holder}
-use Rattle.dk_trace.specs.Demand.{own_demand}
-use Rattle.dk_trace.specs.Audit.{Audited, Follows}
-use Rattle.dk_trace.specs.Members.{Has}
+use Rattle.dk_bound.proofs.Names.{ℕ, ◌≡◌, ◌+◌, ◌-◌, ◌<◌, ◌≤◌, inl, inr, true, false, cond, ltb, List, ◌∷◌, length, refl, sym, ap, ◌∙◌, subst, arith, map, sum_by, cases_Bool, cases_lt, nat_tests, sum_by-append, Configuration, IsChecked, Event, Entry, payer, is_of, is_budget_of, stops, Thread, threads, family, after_entry, new_rows, thread_body_left, ends_hold, Hold, aged, held_after, held_by, innermost_left, greatest_left, thread_blocking, blocking, is_holder, own_demand, Audited, Follows, Has, sum_by-flat, sum_by-le, sum_by-less, sum_by-zero, sum_by-map, Numbered-serial, Passed, Turn, now_rem, no-demand, kind, actor-follows, budget-not, payer-none, sum_from-same, family-fits, new-numbered, ThreadsFit, threads-fit, held-mine}
+use Rattle.std.proofs.Common.{Option, None}
 use Rattle.dk_bound.proofs.Holding.{Rising, HoldersFit}
-use Rattle.dk_trace.proofs.Members.{sum_by-flat, sum_by-le, sum_by-less, sum_by-zero, sum_by-map}
-use Rattle.dk_trace.proofs.Distinct.{Numbered-serial}
 use Rattle.dk_bound.proofs.Nesting.{EventFits, Rising-tick, not-last, greatest-aged, greatest-filter, greatest-low, greatest-some, greatest-lock}
-use Rattle.dk_trace.proofs.Chosen.{Passed, Turn, now_rem, no-demand}
-use Rattle.dk_trace.proofs.Entered.{kind}
-use Rattle.dk_trace.proofs.Events.{actor-follows}
-use Rattle.dk_trace.proofs.Whose.{budget-not, payer-none}
-use Rattle.dk_config.proofs.Sums.{sum_from-same}
-use Rattle.dk_trace.proofs.RowsFit.{family-fits, new-numbered, ThreadsFit, threads-fit}
-use Rattle.dk_trace.proofs.Holds.{held-mine}
 use Rattle.dk_bound.proofs.Locks.{Mine, by_budget, by_slack, mine-kind, met, AreMet, event-fits}
 use Rattle.dk_bound.proofs.HoldersFit.{row-nested, kept, spent-free, slack-held}
 

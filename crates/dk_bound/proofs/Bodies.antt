@@ -1,21 +1,5 @@
 -- What an entry leaves of a thread's body, and what the next tick finds.
-use Rattle.dk_trace.proofs.Shares.{share-same}
-use Rattle.std.proofs.Common.{ℕ, ◌≡◌, ◌+◌, ◌-◌, ◌<◌, ◌≤◌, inl, inr, Bool, false, cond, List, ◌∷◌, length, refl, ap, ◌∙◌, arith}
-use Rattle.std.proofs.lemmas.Bool.{cases_Bool}
-use Rattle.dk_config.specs.Configuration.{Configuration}
-use Rattle.dk_config.specs.Checked.{IsChecked}
-use Rattle.dk_config.specs.Windows.{period, window_start}
-use Rattle.dk_config.proofs.Lists.{or-none}
-use Rattle.dk_trace.specs.declared.Entry.{Entry}
-use Rattle.dk_trace.specs.Entries.{is_budget_of, is_out_of, does, is_wait, stops}
-use Rattle.dk_trace.specs.Threads.{Thread, family, after_entry, share}
-use Rattle.dk_trace.specs.Jobs.{Job, job, body_left, thread_body_left, is_closed, rem}
-use Rattle.dk_trace.specs.Audit.{Audited}
-use Rattle.dk_trace.proofs.Windows.{window_start-le, count-charged}
-use Rattle.dk_trace.proofs.Charged.{the_job, same-job}
-use Rattle.dk_trace.specs.Members.{Has}
-use Rattle.dk_trace.proofs.RowsFit.{RowFits}
-use Rattle.std.proofs.lemmas.Bool.Decides.{nat_tests}
+use Rattle.dk_bound.proofs.Names.{share-same, ℕ, ◌≡◌, ◌+◌, ◌-◌, ◌<◌, ◌≤◌, inl, inr, Bool, false, cond, List, ◌∷◌, length, refl, ap, ◌∙◌, arith, cases_Bool, Configuration, IsChecked, period, window_start, or-none, Entry, is_budget_of, is_out_of, does, is_wait, stops, Thread, family, after_entry, share, Job, job, body_left, thread_body_left, is_closed, rem, Audited, window_start-le, count-charged, the_job, same-job, Has, RowFits, nat_tests}
 
 pub level-positive : (c : Configuration) (y : Thread) → IsChecked c → RowFits c y → 0 < period c y.level
 level-positive c y checked fits = checked.positive y.level (let a = fits.high in let b = checked.reaches y.id.process fits.known in omega arith)

@@ -1,45 +1,5 @@
 -- The bound on by when is met: where all spin, a main has its k-th tick no sooner than all that may come before it is done.
-use Rattle.std.proofs.Common.{ℕ, zero, suc, ◌≡◌, ◌+◌, ◌-◌, ◌*◌, ◌/◌, ◌<◌, ◌≤◌, inl, inr, Bool, true, false, ◌&&◌, eqb, leb, ltb, List, [], ◌∷◌, length, refl, sym, ap, ◌∙◌, subst, arith}
-use Rattle.std.specs.Prelude.{Option, Some, None, MatchOption, unwrap_or, option_map}
-use Rattle.std.specs.Option.{option_or, option_map_or}
-use Rattle.std.proofs.lemmas.Bool.{cases_Bool, cases_lt, cases_eq, and_from, or_parts}
-use Rattle.std.proofs.lemmas.Bool.Decides.{nat_tests}
-use Rattle.std.proofs.Math.Nat.{zero-mod, div_self}
-use Rattle.dk_config.specs.Configuration.{Configuration}
-use Rattle.dk_config.specs.Checked.{IsChecked, IsAccepted}
-use Rattle.dk_config.specs.Sums.{below, first_of, sum_from}
-use Rattle.dk_config.specs.Windows.{period, release, main_level, slots, budget, window_start}
-use Rattle.dk_config.specs.Ahead.{windows_begun, stands_after, may_come_before, budgets_begun, process_ahead, ahead, IsEnough}
-use Rattle.dk_config.proofs.Sums.{sum_from-le, sum_from-add, sum_from-same, sum_from-zero}
-use Rattle.dk_config.proofs.FirstOf.{IsFirst, NoAnswer, first_of-is, option_or-none, option_map-some}
-use Rattle.dk_trace.specs.declared.ThreadId.{ThreadId}
-use Rattle.dk_trace.specs.declared.Phase.{Phase}
-use Rattle.dk_trace.specs.declared.Choice.{Choice}
-use Rattle.dk_trace.specs.declared.Label.{Label}
-use Rattle.dk_trace.specs.declared.Entry.{Entry}
-use Rattle.dk_trace.specs.Members.{Has}
-use Rattle.dk_trace.specs.Entries.{payer, kernel_level, is_kernel_at, is_budget_of}
-use Rattle.dk_trace.specs.Threads.{Thread, threads, main_thread, family}
-use Rattle.dk_trace.specs.Jobs.{job, thread_rem, kernel_rem}
-use Rattle.dk_trace.specs.Holds.{is_holding, is_holder}
-use Rattle.dk_trace.specs.Choices.{chosen, choice_at, work_at, slack_at, wish_at, holder_at, ready_at, on_budget, on_slack}
-use Rattle.dk_trace.specs.Demand.{fits}
-use Rattle.dk_trace.specs.Audit.{Audited, HasChosenLabel}
-use Rattle.dk_trace.specs.Guarantees.{past_at, job_from}
-use Rattle.dk_trace.proofs.Windows.{mod-next, spent, count-charged, count-begins}
-use Rattle.dk_trace.proofs.Mains.{main_id, main_row}
-use Rattle.dk_trace.proofs.Families.{family-children, children}
-use Rattle.dk_trace.proofs.Starts.{kernel_paid, one_or_none}
-use Rattle.dk_trace.proofs.LevelDemand.{paid_by_kernel}
-use Rattle.dk_trace.proofs.Labels.{budget-labels, slack-labels, chosen-says}
-use Rattle.dk_trace.proofs.Whose.{payer-none}
-use Rattle.dk_trace.proofs.Members.{find-flat}
-use Rattle.dk_trace.proofs.Rows.{row-of}
-use Rattle.dk_trace.proofs.RowsFit.{threads-fit}
-use Rattle.dk_trace.proofs.Distinct.{same-row}
-use Rattle.dk_trace.proofs.Orderly.{job_at, job-moves}
-use Rattle.dk_trace.proofs.Chosen.{Passed, Turn, by_hold, by_share, now_rem, no-work, turn-of}
-use Rattle.dk_bound.specs.ByWhen.{IsPlainFor, BoundIsMet}
+use Rattle.dk_bound.proofs.Names.{ℕ, zero, suc, ◌≡◌, ◌+◌, ◌-◌, ◌*◌, ◌/◌, ◌<◌, ◌≤◌, inl, inr, Bool, true, false, ◌&&◌, eqb, leb, ltb, List, [], ◌∷◌, length, refl, sym, ap, ◌∙◌, subst, arith, Option, Some, None, MatchOption, unwrap_or, option_map, option_or, option_map_or, cases_Bool, cases_lt, cases_eq, and_from, or_parts, nat_tests, zero-mod, div_self, Configuration, IsChecked, IsAccepted, below, first_of, sum_from, period, release, main_level, slots, budget, window_start, windows_begun, stands_after, may_come_before, budgets_begun, process_ahead, ahead, IsEnough, sum_from-le, sum_from-add, sum_from-same, sum_from-zero, IsFirst, NoAnswer, first_of-is, option_or-none, option_map-some, ThreadId, Phase, Choice, Label, Entry, Has, payer, kernel_level, is_kernel_at, is_budget_of, Thread, threads, main_thread, family, job, thread_rem, kernel_rem, is_holding, is_holder, chosen, choice_at, work_at, slack_at, wish_at, holder_at, ready_at, on_budget, on_slack, fits, Audited, HasChosenLabel, past_at, job_from, mod-next, spent, count-charged, count-begins, main_id, main_row, family-children, children, kernel_paid, one_or_none, paid_by_kernel, budget-labels, slack-labels, chosen-says, payer-none, find-flat, row-of, threads-fit, same-row, job_at, job-moves, Passed, Turn, by_hold, by_share, now_rem, no-work, turn-of, IsPlainFor, BoundIsMet}
 use Rattle.dk_bound.proofs.ClockMoves.{windows_are_done, mod-begins}
 use Rattle.dk_bound.proofs.Demands.{process_paid, kernel_rem-moves}
 use Rattle.dk_bound.proofs.Bounded.{past_at-later, window-start}

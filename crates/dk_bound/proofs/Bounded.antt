@@ -1,24 +1,7 @@
 -- In no window, whole or not, does a thread have more than its share, or the kernel more than its own work needs.
-use Rattle.std.proofs.Common.{ℕ, suc, ◌≡◌, ◌+◌, ◌-◌, ◌%◌, ◌<◌, ◌≤◌, inl, inr, List, [], ◌∷◌, length, drop, take, sym, ap, ◌∙◌, subst, arith}
-use Rattle.std.specs.Prelude.{count_by}
-use Rattle.std.proofs.lemmas.Bool.{cases_lt}
-use Rattle.dk_config.specs.Configuration.{Configuration}
-use Rattle.dk_config.specs.Checked.{IsChecked}
-use Rattle.dk_config.specs.Windows.{period, release, window_start}
-use Rattle.dk_trace.specs.declared.Entry.{Entry}
-use Rattle.dk_trace.specs.Members.{Has}
-use Rattle.dk_trace.specs.Entries.{window, is_budget_of, is_kernel_at}
-use Rattle.dk_trace.specs.Threads.{Thread, family, after_entry, share, new_rows}
-use Rattle.dk_trace.specs.Jobs.{job}
-use Rattle.dk_trace.specs.Audit.{Audited}
-use Rattle.dk_trace.specs.Guarantees.{past_at, job_from, kernel_from, ThreadsBounded, KernelBounded, Bounded}
-use Rattle.dk_trace.proofs.Members.{has-flat}
-use Rattle.dk_trace.proofs.Rows.{row-of, has-next}
-use Rattle.dk_trace.proofs.Fair.{AllFair}
-use Rattle.dk_trace.proofs.Orderly.{job_at, charged-order, jobs-in-order}
+use Rattle.dk_bound.proofs.Names.{ℕ, suc, ◌≡◌, ◌+◌, ◌-◌, ◌%◌, ◌<◌, ◌≤◌, inl, inr, List, [], ◌∷◌, length, drop, take, sym, ap, ◌∙◌, subst, arith, count_by, cases_lt, Configuration, IsChecked, period, release, window_start, Entry, Has, window, is_budget_of, is_kernel_at, Thread, family, after_entry, share, new_rows, job, Audited, past_at, job_from, kernel_from, ThreadsBounded, KernelBounded, Bounded, has-flat, row-of, has-next, AllFair, job_at, charged-order, jobs-in-order, nat_tests}
 use Rattle.dk_bound.proofs.Fits.{ready-of}
 use Rattle.dk_bound.proofs.Received.{past_at-earlier, share-then, share-stop, unmade-used, kernel-charged, kernel-within}
-use Rattle.std.proofs.lemmas.Bool.Decides.{nat_tests}
 
 -- the past of a tick that has not come is the past so far
 pub past_at-later : (past : List Entry) (u : ℕ) → length past ≤ u → past_at past u ≡ past

@@ -1,37 +1,5 @@
 -- By when in its window a main has had so many ticks of its share: an induction along the window.
-use Rattle.std.proofs.Common.{ℕ, zero, suc, ◌≡◌, ◌+◌, ◌-◌, ◌%◌, ◌<◌, ◌≤◌, ◌⊎◌, inl, inr, true, false, IsTrue, List, [], ◌∷◌, length, drop, refl, sym, ap, ◌∙◌, subst, arith}
-use Rattle.std.specs.Prelude.{Some, None}
-use Rattle.std.proofs.lemmas.Bool.{cases_Bool, cases_lt}
-use Rattle.std.proofs.lemmas.Bool.Decides.{nat_tests}
-use Rattle.std.proofs.lemmas.List.{length-drop}
-use Rattle.dk_config.specs.Configuration.{Configuration}
-use Rattle.dk_config.specs.Checked.{IsChecked, IsAccepted}
-use Rattle.dk_config.specs.Ahead.{ahead, NoFasterSlack}
-use Rattle.dk_config.specs.Windows.{period, main_level, window_start}
-use Rattle.dk_trace.specs.declared.Entry.{Entry}
-use Rattle.dk_trace.specs.Members.{Has}
-use Rattle.dk_trace.specs.Entries.{payer, borrower, is_budget_of}
-use Rattle.dk_trace.specs.Threads.{Thread, threads, family, share, is_main}
-use Rattle.dk_trace.specs.Jobs.{Job, job, thread_rem}
-use Rattle.dk_trace.specs.Holds.{blocking}
-use Rattle.dk_trace.specs.Demand.{own_demand}
-use Rattle.dk_trace.specs.Audit.{Audited}
-use Rattle.dk_trace.specs.Guarantees.{past_at, job_from, HadShare}
-use Rattle.dk_trace.proofs.Windows.{mod-next, window_start-le, spent, count-charged}
-use Rattle.dk_trace.proofs.Mains.{main_id, main_row}
-use Rattle.dk_trace.proofs.Labels.{spent-payer}
-use Rattle.dk_trace.proofs.LevelDemand.{paid_by_kernel}
-use Rattle.dk_trace.proofs.Members.{sum_by-term}
-use Rattle.dk_trace.proofs.Shares.{share-same}
-use Rattle.dk_trace.proofs.Rows.{main-has, main-or-child, child-of}
-use Rattle.dk_trace.proofs.RowsFit.{ThreadsFit, threads-fit}
-use Rattle.dk_trace.proofs.Fair.{AllFair}
-use Rattle.dk_trace.proofs.Orderly.{job_at, job-moves, stays-closed}
-use Rattle.dk_trace.proofs.Whose.{payer-budget_of}
-use Rattle.dk_trace.proofs.Chosen.{now_rem}
-use Rattle.dk_trace.proofs.Entered.{Kind, paid, lent, kernel, idle, kind}
-use Rattle.dk_bound.specs.Laws.{Always}
-use Rattle.dk_bound.specs.ByWhen.{HasHad, ByWhen}
+use Rattle.dk_bound.proofs.Names.{ℕ, zero, suc, ◌≡◌, ◌+◌, ◌-◌, ◌%◌, ◌<◌, ◌≤◌, ◌⊎◌, inl, inr, true, false, IsTrue, List, [], ◌∷◌, length, drop, refl, sym, ap, ◌∙◌, subst, arith, Some, None, cases_Bool, cases_lt, nat_tests, length-drop, Configuration, IsChecked, IsAccepted, ahead, NoFasterSlack, period, main_level, window_start, Entry, Has, payer, borrower, is_budget_of, Thread, threads, family, share, is_main, Job, job, thread_rem, blocking, own_demand, Audited, past_at, job_from, HadShare, mod-next, window_start-le, spent, count-charged, main_id, main_row, spent-payer, paid_by_kernel, sum_by-term, share-same, main-has, main-or-child, child-of, ThreadsFit, threads-fit, AllFair, job_at, job-moves, stays-closed, payer-budget_of, now_rem, Kind, paid, lent, kernel, idle, kind, Always, HasHad, ByWhen}
 use Rattle.dk_bound.proofs.Holding.{HoldersFit}
 use Rattle.dk_bound.proofs.Demands.{kept}
 use Rattle.dk_bound.proofs.Fits.{steady-fair, ready-of}

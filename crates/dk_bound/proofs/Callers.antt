@@ -1,34 +1,6 @@
 -- Whoever is in a call stands, and the holds of each thread nest.
-use Rattle.std.proofs.Common.{ℕ, suc, ◌≡◌, ◌-◌, ◌<◌, ◌⊎◌, inl, inr, false, cond, List, [], ◌∷◌, length, refl, sym, ap, ◌∙◌, subst, arith}
-use Rattle.std.specs.Prelude.{Some, None}
-use Rattle.std.proofs.lemmas.Bool.{cases_Bool}
-use Rattle.std.proofs.lemmas.Bool.Decides.{nat_tests}
-use Rattle.dk_config.specs.Configuration.{Configuration}
-use Rattle.dk_config.specs.Checked.{IsChecked}
-use Rattle.dk_trace.specs.declared.ThreadId.{ThreadId}
-use Rattle.dk_trace.specs.declared.Phase.{Phase}
-use Rattle.dk_trace.specs.declared.Source.{Source}
-use Rattle.dk_trace.specs.declared.Work.{Work}
-use Rattle.dk_trace.specs.declared.Label.{Label}
-use Rattle.dk_trace.specs.declared.Choice.{Choice}
-use Rattle.dk_trace.specs.declared.Entry.{Entry}
-use Rattle.dk_trace.specs.Members.{Has}
-use Rattle.dk_trace.specs.Entries.{is_same, thread_of}
-use Rattle.dk_trace.specs.Threads.{Thread, threads, family}
-use Rattle.dk_trace.specs.Jobs.{Job, job, rem, phase, is_closed, thread_rem}
-use Rattle.dk_trace.specs.Holds.{Hold, held_by, is_holding, hold_left}
-use Rattle.dk_trace.specs.Slack.{source, is_entering, want}
-use Rattle.dk_trace.specs.Choices.{chosen}
-use Rattle.dk_trace.specs.Audit.{label_of, HasChosenLabel, work_of, Audited}
-use Rattle.dk_bound.specs.Laws.{Always}
-use Rattle.dk_bound.specs.Callers.{AreNested, HoldsNest, CallerStands, CallersStand}
-use Rattle.dk_trace.proofs.Members.{find-has}
+use Rattle.dk_bound.proofs.Names.{ℕ, suc, ◌≡◌, ◌-◌, ◌<◌, ◌⊎◌, inl, inr, false, cond, List, [], ◌∷◌, length, refl, sym, ap, ◌∙◌, subst, arith, Some, None, cases_Bool, nat_tests, Configuration, IsChecked, ThreadId, Phase, Source, Work, Label, Choice, Entry, Has, is_same, thread_of, Thread, threads, family, Job, job, rem, phase, is_closed, thread_rem, Hold, held_by, is_holding, hold_left, source, is_entering, want, chosen, label_of, HasChosenLabel, work_of, Audited, Always, AreNested, HoldsNest, CallerStands, CallersStand, find-has, chosen-says, same-thread, Reason, kernel_first, thread_first, slack_first, nothing, chosen-reason, threads-fit, wish-wants, want-closed}
 use Rattle.dk_bound.proofs.Holding.{Rising}
-use Rattle.dk_trace.proofs.Labels.{chosen-says}
-use Rattle.dk_trace.proofs.Entered.{same-thread}
-use Rattle.dk_trace.proofs.Chosen.{Reason, kernel_first, thread_first, slack_first, nothing, chosen-reason}
-use Rattle.dk_trace.proofs.RowsFit.{threads-fit}
-use Rattle.dk_trace.proofs.Silent.{wish-wants, want-closed}
 use Rattle.dk_bound.proofs.Sound.{row-known}
 use Rattle.dk_bound.proofs.Joint.{holders-fit}
 

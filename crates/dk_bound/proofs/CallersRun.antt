@@ -1,9 +1,6 @@
 -- Whoever has an event hasn't been stopped.
-use Rattle.std.proofs.Common.{◌≡◌, ◌∙◌, ◌∷◌, sym, Option, Some, None, refl}
-use Rattle.dk_bound.specs.Moves.{AtEachEntry}
-use Rattle.dk_bound.specs.Callers.{CallersRun}
-use Rattle.dk_trace.proofs.RowsFit.{threads-fit}
-use Rattle.dk_trace.proofs.Silent.{stopped-no-event}
+use Rattle.dk_bound.proofs.Names.{◌≡◌, ◌∙◌, ◌∷◌, sym, refl, AtEachEntry, CallersRun, threads-fit, stopped-no-event}
+use Rattle.std.proofs.Common.{Option, Some, None}
 use Rattle.dk_bound.proofs.Fits.{steady-fair}
 use Rattle.dk_bound.proofs.Joint.{steady}
 

@@ -1,26 +1,7 @@
 -- At most one holder keeps a level waiting, and no longer than certification allows.
-use Rattle.std.proofs.Common.{ℕ, ◌≡◌, ◌<◌, ◌≤◌, ◌⊎◌, inl, inr, Bool, true, false, ◌&&◌, ◌||◌, leb, ltb, List, [], ◌∷◌, refl, ap, arith}
-use Rattle.std.specs.Prelude.{map, filter}
-use Rattle.std.specs.List.{list_any}
-use Rattle.std.specs.Option.{option_map_or}
-use Rattle.std.proofs.lemmas.Bool.{cases_Bool, cases_lt, and_from}
-use Rattle.std.proofs.lemmas.Bool.Decides.{nat_tests}
-use Rattle.dk_config.specs.Configuration.{Configuration}
-use Rattle.dk_config.specs.Checked.{IsChecked}
-use Rattle.dk_config.specs.Sums.{greatest}
-use Rattle.dk_config.specs.Windows.{main_level, max_level, slots, ceiling, longest_hold}
-use Rattle.dk_config.specs.Certification.{uses, is_user, can_block, level_blocking}
-use Rattle.dk_config.proofs.CheckedConfig.{use_of}
-use Rattle.dk_trace.specs.declared.ThreadId.{ThreadId}
-use Rattle.dk_trace.specs.declared.Entry.{Entry}
-use Rattle.dk_trace.specs.Threads.{Thread, threads}
-use Rattle.dk_trace.specs.Holds.{Hold, held_by, greatest_left, effective_level, thread_blocking, blocking, is_holder}
-use Rattle.dk_trace.specs.Members.{Has}
+use Rattle.dk_bound.proofs.Names.{ℕ, ◌≡◌, ◌<◌, ◌≤◌, ◌⊎◌, inl, inr, Bool, true, false, ◌&&◌, ◌||◌, leb, ltb, List, [], ◌∷◌, refl, ap, arith, map, filter, list_any, option_map_or, cases_Bool, cases_lt, and_from, nat_tests, Configuration, IsChecked, greatest, main_level, max_level, slots, ceiling, longest_hold, uses, is_user, can_block, level_blocking, use_of, ThreadId, Entry, Thread, threads, Hold, held_by, greatest_left, effective_level, thread_blocking, blocking, is_holder, Has, sum-one, RowFits, ThreadsFit, get-has, list_any-has}
 use Rattle.dk_bound.proofs.Holding.{Users, HoldersFit}
-use Rattle.dk_trace.proofs.Distinct.{sum-one}
 use Rattle.dk_bound.proofs.Nesting.{level-most, greatest-level}
-use Rattle.dk_trace.proofs.RowsFit.{RowFits, ThreadsFit}
-use Rattle.dk_trace.proofs.Members.{get-has, list_any-has}
 use Rattle.dk_bound.proofs.HoldersFit.{row-users, row-under, holds-nothing}
 
 pub greatest-has : {X : Type 0} (f : X → ℕ) (test : X → Bool) (xs : List X) (x : X) → Has xs x → test x ≡ true → f x ≤ greatest (map f (filter test xs))

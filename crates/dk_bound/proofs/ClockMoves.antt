@@ -1,34 +1,6 @@
 -- The move to the next tick, and where windows begin: jobs and demand.
-use Rattle.std.proofs.Common.{ℕ, suc, ◌≡◌, ◌+◌, ◌*◌, ◌/◌, ◌%◌, ◌<◌, ◌≤◌, inl, inr, true, false, eqb, leb, List, ◌∷◌, length, refl, ap, subst, arith, ◌∙◌, sym, []}
-use Rattle.std.specs.Prelude.{sum_by}
-use Rattle.std.specs.Int.{◌∣◌}
-use Rattle.std.proofs.lemmas.Bool.{cases_Bool}
-use Rattle.std.proofs.lemmas.Bool.Decides.{nat_tests}
-use Rattle.std.proofs.Math.Nat.{zero-mod, mod-mod_of_dvd}
-use Rattle.std.proofs.lemmas.Nat.Gcd.{dvd_trans, mod-eq-zero_of_dvd}
-use Rattle.dk_config.specs.Configuration.{Configuration}
-use Rattle.dk_config.specs.Checked.{IsChecked, IsAccepted}
-use Rattle.dk_config.specs.Sums.{sum_from}
-use Rattle.dk_config.specs.Windows.{period, release, window_start, window_end}
-use Rattle.dk_trace.specs.declared.Entry.{Entry}
-use Rattle.dk_trace.specs.Members.{Has}
-use Rattle.dk_trace.specs.Entries.{is_kernel_at, window}
-use Rattle.dk_trace.specs.Threads.{Thread, threads, family, share}
-use Rattle.dk_trace.specs.Jobs.{job, rem, thread_rem, kernel_rem}
-use Rattle.dk_trace.specs.Demand.{thread_demand, kernel_demand, own_demand, remaining_demand}
-use Rattle.dk_trace.specs.Audit.{Audited}
-use Rattle.dk_bound.specs.Laws.{Always}
-use Rattle.dk_bound.specs.Moves.{released, AtEachEntry, shares_to_come}
-use Rattle.dk_bound.specs.ClockMoves.{begins, ClockKeeps, WindowsAreDone, starting_shares, WindowsRelease}
-use Rattle.dk_trace.proofs.Windows.{mod-next, count-begins}
-use Rattle.dk_trace.proofs.Members.{sum_by-same, sum_by-flat}
-use Rattle.dk_config.proofs.Sums.{sum_from-same, sum_from-add}
-use Rattle.dk_trace.proofs.Starts.{begins-together, starts-within, starts-begins}
-use Rattle.dk_trace.proofs.LevelDemand.{kernel-begins}
-use Rattle.dk_trace.proofs.RowsFit.{ThreadsFit, threads-fit}
-use Rattle.dk_trace.proofs.Charged.{same-job}
+use Rattle.dk_bound.proofs.Names.{ℕ, suc, ◌≡◌, ◌+◌, ◌*◌, ◌/◌, ◌%◌, ◌<◌, ◌≤◌, inl, inr, true, false, eqb, leb, List, ◌∷◌, length, refl, ap, subst, arith, ◌∙◌, sym, [], sum_by, ◌∣◌, cases_Bool, nat_tests, zero-mod, mod-mod_of_dvd, dvd_trans, mod-eq-zero_of_dvd, Configuration, IsChecked, IsAccepted, sum_from, period, release, window_start, window_end, Entry, Has, is_kernel_at, window, Thread, threads, family, share, job, rem, thread_rem, kernel_rem, thread_demand, kernel_demand, own_demand, remaining_demand, Audited, Always, released, AtEachEntry, shares_to_come, begins, ClockKeeps, WindowsAreDone, starting_shares, WindowsRelease, mod-next, count-begins, sum_by-same, sum_by-flat, sum_from-same, sum_from-add, begins-together, starts-within, starts-begins, kernel-begins, ThreadsFit, threads-fit, same-job, job-moves, begins-open, begin-order}
 use Rattle.dk_bound.proofs.HoldersFit.{WindowEnds}
-use Rattle.dk_trace.proofs.Orderly.{job-moves, begins-open, begin-order}
 use Rattle.dk_bound.proofs.Begins.{thread_part}
 use Rattle.dk_bound.proofs.Demands.{kept, up_to, kernel_rem-moves, own-moves}
 use Rattle.dk_bound.proofs.Fits.{ends-done}

@@ -1,28 +1,5 @@
 -- Which event closes whose window.
-use Rattle.std.proofs.Common.{ℕ, ◌≡◌, ◌<◌, inl, inr, Bool, true, false, not, ◌&&◌, ◌||◌, eqb, List, [], ◌∷◌, length, refl, sym, ap, ◌∙◌, subst, arith}
-use Rattle.std.specs.Prelude.{Option, Some, None, is_none}
-use Rattle.std.specs.List.{list_any}
-use Rattle.std.specs.Option.{option_map_or}
-use Rattle.std.proofs.lemmas.Bool.{cases_Bool, and_parts, not-false}
-use Rattle.std.proofs.lemmas.Bool.Decides.{nat_tests}
-use Rattle.dk_config.specs.Configuration.{Configuration}
-use Rattle.dk_trace.specs.declared.Event.{Event}
-use Rattle.dk_trace.specs.declared.Entry.{Entry}
-use Rattle.dk_trace.specs.Members.{Has}
-use Rattle.dk_trace.specs.Entries.{is_same, main_of, is_of, has_event, is_wait, is_end, is_delete_of, quiet}
-use Rattle.dk_trace.specs.Threads.{Thread, threads, family, is_main}
-use Rattle.dk_trace.specs.Refusals.{is_running_child, delete_reasons}
-use Rattle.dk_bound.specs.Moves.{AtEachEntry}
-use Rattle.dk_bound.specs.EventMoves.{closes}
-use Rattle.dk_bound.specs.EventCases.{may_close, WhoCloses}
-use Rattle.dk_trace.proofs.Events.{none-holds, whose, not-main-of}
-use Rattle.dk_trace.proofs.Charged.{family-charged}
-use Rattle.dk_trace.proofs.Distinct.{same-row}
-use Rattle.dk_trace.proofs.RowsFit.{among-threads}
-use Rattle.dk_trace.proofs.Rows.{row-of}
-use Rattle.dk_trace.proofs.Silent.{stopped-no-event}
-use Rattle.dk_trace.proofs.Entered.{done-event}
-use Rattle.dk_trace.proofs.Same.{same-id, make-id}
+use Rattle.dk_bound.proofs.Names.{ℕ, ◌≡◌, ◌<◌, inl, inr, Bool, true, false, not, ◌&&◌, ◌||◌, eqb, List, [], ◌∷◌, length, refl, sym, ap, ◌∙◌, subst, arith, Option, Some, None, is_none, list_any, option_map_or, cases_Bool, and_parts, not-false, nat_tests, Configuration, Event, Entry, Has, is_same, main_of, is_of, has_event, is_wait, is_end, is_delete_of, quiet, Thread, threads, family, is_main, is_running_child, delete_reasons, AtEachEntry, closes, may_close, WhoCloses, none-holds, whose, not-main-of, family-charged, same-row, among-threads, row-of, stopped-no-event, done-event, same-id, make-id}
 use Rattle.dk_bound.proofs.EventMoves.{IsEntry, entry-is}
 
 pub and-zero : (b : Bool) (s : ℕ) → s ≡ 0 → (b && eqb 0 s) ≡ b

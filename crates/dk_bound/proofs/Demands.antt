@@ -1,29 +1,6 @@
 -- An entry lowers what the levels up to j need by what it did for them, and the move to the next tick never raises it.
-use Rattle.std.proofs.Common.{ℕ, suc, ◌≡◌, ◌+◌, ◌-◌, ◌%◌, ◌<◌, ◌≤◌, inl, inr, Bool, true, cond, eqb, leb, List, ◌∷◌, length, refl, ap, ◌∙◌, subst, arith}
-use Rattle.std.specs.Prelude.{sum_by, count_by, map, take}
-use Rattle.std.specs.Int.{◌∣◌}
-use Rattle.std.proofs.lemmas.Bool.{cases_Bool}
-use Rattle.std.proofs.lemmas.Bool.Decides.{nat_tests}
-use Rattle.std.proofs.lemmas.List.Sums.{sum_by-append}
-use Rattle.dk_config.specs.Configuration.{Configuration}
-use Rattle.dk_config.specs.Sums.{sum_from}
-use Rattle.dk_config.specs.Windows.{period, release, window_end}
-use Rattle.dk_trace.specs.declared.Entry.{Entry}
-use Rattle.dk_trace.specs.Entries.{is_kernel_at}
-use Rattle.dk_trace.specs.Threads.{Thread, family, after_entry, threads, share, new_rows}
-use Rattle.dk_trace.specs.Jobs.{thread_rem, kernel_rem, rem}
-use Rattle.dk_trace.specs.Demand.{sum_starts, thread_demand, kernel_demand, own_demand, remaining_demand}
-use Rattle.dk_trace.specs.Audit.{Audited}
-use Rattle.dk_trace.proofs.Windows.{mod-next, spent, count-charged, count-begins, paid-le}
-use Rattle.dk_trace.proofs.Mains.{window_start-within}
-use Rattle.dk_trace.proofs.Starts.{kernel_paid, one_or_none, pays, starts-within, starts-begins}
-use Rattle.dk_config.proofs.Sums.{sum_from-le, sum_from-add}
-use Rattle.dk_trace.proofs.LevelDemand.{paid_by_kernel}
-use Rattle.dk_config.specs.Checked.{IsChecked}
-use Rattle.dk_trace.proofs.Fair.{AllFair}
-use Rattle.dk_trace.specs.Members.{Has}
-use Rattle.dk_trace.proofs.Members.{sum_by-le, sum_by-same, sum_by-zero, sum_by-add, sum_by-map, sum_by-flat}
-use Rattle.dk_trace.proofs.Orderly.{job-moves, charge-row, charge-new, begin-order, jobs-in-order}
+use Rattle.dk_bound.proofs.Names.{ℕ, suc, ◌≡◌, ◌+◌, ◌-◌, ◌%◌, ◌<◌, ◌≤◌, inl, inr, Bool, true, cond, eqb, leb, List, ◌∷◌, length, refl, ap, ◌∙◌, subst, arith, sum_by, count_by, map, ◌∣◌, cases_Bool, nat_tests, sum_by-append, Configuration, sum_from, period, release, window_end, Entry, is_kernel_at, Thread, family, after_entry, threads, share, new_rows, thread_rem, kernel_rem, rem, sum_starts, thread_demand, kernel_demand, own_demand, remaining_demand, Audited, mod-next, spent, count-charged, count-begins, paid-le, window_start-within, kernel_paid, one_or_none, pays, starts-within, starts-begins, sum_from-le, sum_from-add, paid_by_kernel, IsChecked, AllFair, Has, sum_by-le, sum_by-same, sum_by-zero, sum_by-add, sum_by-map, sum_by-flat, job-moves, charge-row, charge-new, begin-order, jobs-in-order}
+use Rattle.std.specs.Prelude.{take}
 use Rattle.dk_bound.proofs.Promises.{futures, futures-entry}
 use Rattle.dk_bound.proofs.Begins.{thread_part}
 

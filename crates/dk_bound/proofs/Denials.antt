@@ -1,22 +1,5 @@
 -- A denial has its level, which has work and not a tick to give, and is told only where slack is denied.
-use Rattle.std.proofs.Common.{ℕ, zero, suc, ◌≡◌, ◌+◌, ◌-◌, ◌<◌, ◌≤◌, inl, inr, Bool, true, false, cond, ◌&&◌, eqb, ltb, List, length, sym, ap, subst, arith}
-use Rattle.std.specs.Prelude.{is_some, Option, Some, None, unwrap_or, option_map, MatchOption}
-use Rattle.std.specs.List.{list_all}
-use Rattle.std.specs.Option.{option_or}
-use Rattle.std.proofs.lemmas.Bool.{cases_Bool, cases_lt, cases_eq}
-use Rattle.std.proofs.lemmas.Bool.Decides.{nat_tests}
-use Rattle.dk_config.specs.Configuration.{Configuration}
-use Rattle.dk_config.specs.Sums.{numbers, below, first_of}
-use Rattle.dk_config.specs.Windows.{window_end}
-use Rattle.dk_trace.specs.declared.Choice.{Choice}
-use Rattle.dk_trace.specs.declared.Entry.{Entry}
-use Rattle.dk_trace.specs.Threads.{Thread}
-use Rattle.dk_trace.specs.Holds.{blocking}
-use Rattle.dk_trace.specs.Demand.{own_demand, remaining_demand, fits, fits_at, is_tight_at}
-use Rattle.dk_trace.specs.Choices.{work_at, wish_at, claims_slack_at, denied}
-use Rattle.dk_bound.specs.Statements.{DemandFits, IsDenied, DeniedFor, DenialIsTight}
-use Rattle.dk_trace.proofs.Members.{numbers-has, has-numbers, find-some}
-use Rattle.dk_config.proofs.FirstOf.{first_of-is, NoAnswer, IsFirst, option_or-none}
+use Rattle.dk_bound.proofs.Names.{ℕ, zero, suc, ◌≡◌, ◌+◌, ◌-◌, ◌<◌, ◌≤◌, inl, inr, Bool, true, false, cond, ◌&&◌, eqb, ltb, List, length, sym, ap, subst, arith, is_some, Option, Some, None, unwrap_or, option_map, MatchOption, list_all, option_or, cases_Bool, cases_lt, cases_eq, nat_tests, Configuration, numbers, below, first_of, window_end, Choice, Entry, Thread, blocking, own_demand, remaining_demand, fits, fits_at, is_tight_at, work_at, wish_at, claims_slack_at, denied, DemandFits, IsDenied, DeniedFor, DenialIsTight, numbers-has, has-numbers, find-some, first_of-is, NoAnswer, IsFirst, option_or-none}
 
 -- where not all numbers pass a test, one fails it
 fails-at : (test : ℕ → Bool) (low n : ℕ) → list_all test (numbers low n) ≡ false → (k : ℕ) × (low ≤ k) × (k < low + n) × (test k ≡ false)

@@ -1,32 +1,5 @@
 -- The cases of an event: it closes nobody's window, one thread's, or those of a whole process.
-use Rattle.std.proofs.Math.Bool.{and-false}
-use Rattle.std.proofs.Common.{ℕ, zero, suc, ◌≡◌, ◌+◌, ◌<◌, ◌≤◌, inl, inr, Bool, true, false, cond, not, ◌&&◌, ◌||◌, eqb, leb, ltb, List, [], ◌∷◌, length, refl, sym, ap, ◌∙◌, subst, arith}
-use Rattle.std.specs.Prelude.{sum_by, Option, is_none}
-use Rattle.std.specs.Option.{option_map_or}
-use Rattle.std.proofs.lemmas.Bool.{cases_Bool, cases_eq}
-use Rattle.std.proofs.lemmas.Bool.Decides.{nat_tests}
-use Rattle.dk_config.specs.Configuration.{Configuration}
-use Rattle.dk_config.specs.Checked.{IsChecked, IsAccepted}
-use Rattle.dk_config.specs.Sums.{sum_from}
-use Rattle.dk_trace.specs.declared.ThreadId.{ThreadId}
-use Rattle.dk_trace.specs.declared.Event.{Event}
-use Rattle.dk_trace.specs.declared.Entry.{Entry}
-use Rattle.dk_trace.specs.Members.{Has}
-use Rattle.dk_trace.specs.Entries.{is_same, main_of, is_of, does, has_event, is_end, is_delete_of, stops, quiet}
-use Rattle.dk_trace.specs.Threads.{Thread, threads, family, is_main}
-use Rattle.dk_trace.specs.Holds.{Hold, held_by, held_after, thread_blocking}
-use Rattle.dk_trace.specs.Audit.{Audited}
-use Rattle.dk_bound.specs.Moves.{AtEachEntry, shares_to_come}
-use Rattle.dk_bound.specs.EventMoves.{closes, given_up, given_up_by, lost_shares}
-use Rattle.dk_bound.specs.EventCases.{changes_holds, StopsFreeBlocking, EventKeeps, IsClosedAlone, OneIsClosed, IsMainsEnd, ProcessIsClosed}
-use Rattle.dk_trace.proofs.Mains.{main_id}
-use Rattle.dk_trace.proofs.Members.{sum_by-same, sum_by-zero, sum_by-add, sum_by-flat, flat-has}
-use Rattle.dk_config.proofs.Sums.{sum_from-same, sum_from-zero}
-use Rattle.dk_trace.proofs.Exchange.{sum-only}
-use Rattle.dk_trace.proofs.Rows.{row-of}
-use Rattle.dk_trace.proofs.Same.{same-id}
-use Rattle.dk_trace.proofs.Families.{both-zero}
-use Rattle.dk_trace.proofs.Events.{whose, not-main-of}
+use Rattle.dk_bound.proofs.Names.{and-false, ℕ, zero, suc, ◌≡◌, ◌+◌, ◌<◌, ◌≤◌, inl, inr, Bool, true, false, cond, not, ◌&&◌, ◌||◌, eqb, leb, ltb, List, [], ◌∷◌, length, refl, sym, ap, ◌∙◌, subst, arith, sum_by, Option, is_none, option_map_or, cases_Bool, cases_eq, nat_tests, Configuration, IsChecked, IsAccepted, sum_from, ThreadId, Event, Entry, Has, is_same, main_of, is_of, does, has_event, is_end, is_delete_of, stops, quiet, Thread, threads, family, is_main, Hold, held_by, held_after, thread_blocking, Audited, AtEachEntry, shares_to_come, closes, given_up, given_up_by, lost_shares, changes_holds, StopsFreeBlocking, EventKeeps, IsClosedAlone, OneIsClosed, IsMainsEnd, ProcessIsClosed, main_id, sum_by-same, sum_by-zero, sum_by-add, sum_by-flat, flat-has, sum_from-same, sum_from-zero, sum-only, row-of, same-id, both-zero, whose, not-main-of}
 use Rattle.dk_bound.proofs.Demands.{cond-none}
 use Rattle.dk_bound.proofs.TickMoves.{blocking-moved}
 use Rattle.dk_bound.proofs.EventMoves.{IsEntry, entry-is, event_lowers_own, event_lowers_remaining, event_given_up, event_moves_holds, event_moves_blocking, open-keeps}

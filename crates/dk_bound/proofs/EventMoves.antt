@@ -1,41 +1,6 @@
 -- The event at the end of a tick: what it does to jobs, demand and blocking.
-use Rattle.std.proofs.Common.{ℕ, ◌-◌, suc, ◌≡◌, ◌+◌, ◌<◌, ◌≤◌, inl, inr, Bool, true, false, cond, ◌&&◌, ◌||◌, eqb, leb, ltb, List, [], ◌∷◌, length, refl, sym, ap, ◌∙◌, arith}
-use Rattle.std.specs.Prelude.{sum_by, count_by, Option, None, is_none}
-use Rattle.std.specs.List.{list_any}
-use Rattle.std.specs.Option.{option_or, option_map_or}
-use Rattle.std.specs.Bool.{then_some}
-use Rattle.std.proofs.lemmas.Bool.{cases_Bool}
-use Rattle.std.proofs.lemmas.Bool.Decides.{nat_tests}
-use Rattle.dk_config.specs.Configuration.{Configuration}
-use Rattle.dk_config.specs.Checked.{IsChecked, IsAccepted}
-use Rattle.dk_config.specs.Sums.{sum_from}
-use Rattle.dk_config.specs.Windows.{period, release, window_start, window_end}
-use Rattle.dk_trace.specs.declared.ThreadId.{ThreadId}
-use Rattle.dk_trace.specs.declared.Entry.{Entry}
-use Rattle.dk_trace.specs.Members.{Has}
-use Rattle.dk_trace.specs.Entries.{is_of, is_budget_of, is_out_of, does, is_wait, is_end, stops, window, quiet}
-use Rattle.dk_trace.specs.Threads.{Thread, threads, family, after_entry, share}
-use Rattle.dk_trace.specs.Jobs.{job, thread_rem, kernel_rem, is_closed}
-use Rattle.dk_trace.specs.Holds.{held_by, held_after, greatest_left, thread_blocking, blocking}
-use Rattle.dk_trace.specs.Demand.{sum_starts, kernel_demand, own_demand, remaining_demand}
-use Rattle.dk_trace.specs.Audit.{Audited}
-use Rattle.dk_bound.specs.Moves.{AtEachEntry, shares_to_come}
-use Rattle.dk_bound.specs.EventMoves.{closes, closed_if, EventCloses, EventLowersRem, NewHaveNothing, EventKeepsKernel, given_up, given_up_by, EventLowersOwn, lost_shares, EventLowersRemaining, GivenUp, EventMovesHolds, EventMovesBlocking}
-use Rattle.dk_trace.proofs.Exchange.{sum-exchange, sum-only}
-use Rattle.dk_trace.proofs.Windows.{window-charged, window_start-le, count-charged}
-use Rattle.dk_trace.proofs.Mains.{main_id}
-use Rattle.dk_trace.proofs.Members.{sum_by-same, sum_by-zero, sum_by-add, sum_by-flat}
-use Rattle.dk_config.proofs.Sums.{sum_from-same, sum_from-add}
-use Rattle.dk_trace.proofs.RowsFit.{ThreadsFit, threads-fit}
-use Rattle.dk_trace.proofs.Charged.{same-job, quiet-stops, family-charged, job-charged}
-use Rattle.dk_trace.proofs.Fair.{AllFair}
+use Rattle.dk_bound.proofs.Names.{ℕ, ◌-◌, suc, ◌≡◌, ◌+◌, ◌<◌, ◌≤◌, inl, inr, Bool, true, false, cond, ◌&&◌, ◌||◌, eqb, leb, ltb, List, [], ◌∷◌, length, refl, sym, ap, ◌∙◌, arith, sum_by, count_by, Option, None, is_none, list_any, option_or, option_map_or, then_some, cases_Bool, nat_tests, Configuration, IsChecked, IsAccepted, sum_from, period, release, window_start, window_end, ThreadId, Entry, Has, is_of, is_budget_of, is_out_of, does, is_wait, is_end, stops, window, quiet, Thread, threads, family, after_entry, share, job, thread_rem, kernel_rem, is_closed, held_by, held_after, greatest_left, thread_blocking, blocking, sum_starts, kernel_demand, own_demand, remaining_demand, Audited, AtEachEntry, shares_to_come, closes, closed_if, EventCloses, EventLowersRem, NewHaveNothing, EventKeepsKernel, given_up, given_up_by, EventLowersOwn, lost_shares, EventLowersRemaining, GivenUp, EventMovesHolds, EventMovesBlocking, sum-exchange, sum-only, window-charged, window_start-le, count-charged, main_id, sum_by-same, sum_by-zero, sum_by-add, sum_by-flat, sum_from-same, sum_from-add, ThreadsFit, threads-fit, same-job, quiet-stops, family-charged, job-charged, AllFair, share-same, share-new, window_end-above, new-row, Quiet, quiet-take, quiet-used, quiet-outs, stops-main, stops-child, new-silent, charge-row, charge-new, jobs-in-order, held-other, held-mine}
 use Rattle.dk_bound.proofs.Fits.{steady-fair}
-use Rattle.dk_trace.proofs.Shares.{share-same, share-new}
-use Rattle.dk_trace.proofs.Rows.{window_end-above}
-use Rattle.dk_trace.proofs.Events.{new-row}
-use Rattle.dk_trace.proofs.Silent.{Quiet, quiet-take, quiet-used, quiet-outs, stops-main, stops-child}
-use Rattle.dk_trace.proofs.Orderly.{new-silent, charge-row, charge-new, jobs-in-order}
-use Rattle.dk_trace.proofs.Holds.{held-other, held-mine}
 use Rattle.dk_bound.proofs.Begins.{thread_part}
 use Rattle.dk_bound.proofs.Promises.{futures, futures-kept, futures-ended}
 use Rattle.dk_bound.proofs.Demands.{cond-none, kept, up_to}

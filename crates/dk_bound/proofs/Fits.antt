@@ -1,32 +1,5 @@
 -- What a level with unfinished work still needs fits its window, after each entry and after the move to the next tick.
-use Rattle.std.proofs.Common.{ℕ, suc, ◌≡◌, ◌+◌, ◌-◌, ◌%◌, ◌<◌, ◌≤◌, inl, inr, true, cond, eqb, leb, List, [], ◌∷◌, length, refl, sym, ap, subst, arith}
-use Rattle.std.specs.Prelude.{Some, None}
-use Rattle.std.proofs.lemmas.Bool.{cases_Bool}
-use Rattle.std.proofs.lemmas.Bool.Decides.{nat_tests}
-use Rattle.std.proofs.Math.Nat.{zero-mod}
-use Rattle.dk_config.specs.Configuration.{Configuration}
-use Rattle.dk_config.specs.Windows.{period, window_end}
-use Rattle.dk_trace.specs.declared.Phase.{Phase}
-use Rattle.dk_trace.specs.declared.Source.{Source}
-use Rattle.dk_trace.specs.declared.Choice.{Choice}
-use Rattle.dk_trace.specs.declared.Entry.{Entry}
-use Rattle.dk_trace.specs.Entries.{kernel_level}
-use Rattle.dk_trace.specs.Threads.{threads}
-use Rattle.dk_trace.specs.Jobs.{job, phase, thread_rem, kernel_rem}
-use Rattle.dk_trace.specs.Slack.{is_entering, source}
-use Rattle.dk_trace.specs.Holds.{blocking}
-use Rattle.dk_trace.specs.Demand.{own_demand, remaining_demand, kernel_demand}
-use Rattle.dk_trace.specs.Choices.{chosen}
-use Rattle.dk_trace.specs.Audit.{HasChosenLabel, Audited}
-use Rattle.dk_trace.proofs.Windows.{mod-next}
-use Rattle.dk_trace.proofs.Mains.{window_start-within}
-use Rattle.dk_config.proofs.Sums.{sum_from-term}
-use Rattle.dk_trace.proofs.LevelDemand.{paid_by_kernel}
-use Rattle.dk_trace.proofs.Labels.{kernel-none, budget-labels, slack-labels, chosen-says}
-use Rattle.dk_config.specs.Checked.{IsChecked, IsAccepted}
-use Rattle.dk_bound.specs.Statements.{DemandFits, BlocksAtMost}
-use Rattle.dk_trace.proofs.Members.{sum_by-le}
-use Rattle.dk_trace.proofs.Fair.{Fair, kernel_works, thread_works, thread_borrows, nobody, AllFair}
+use Rattle.dk_bound.proofs.Names.{ℕ, suc, ◌≡◌, ◌+◌, ◌-◌, ◌%◌, ◌<◌, ◌≤◌, inl, inr, true, cond, eqb, leb, List, [], ◌∷◌, length, refl, sym, ap, subst, arith, Some, None, cases_Bool, nat_tests, zero-mod, Configuration, period, window_end, Phase, Source, Choice, Entry, kernel_level, threads, job, phase, thread_rem, kernel_rem, is_entering, source, blocking, own_demand, remaining_demand, kernel_demand, chosen, HasChosenLabel, Audited, mod-next, window_start-within, sum_from-term, paid_by_kernel, kernel-none, budget-labels, slack-labels, chosen-says, IsChecked, IsAccepted, DemandFits, BlocksAtMost, sum_by-le, Fair, kernel_works, thread_works, thread_borrows, nobody, AllFair}
 use Rattle.dk_bound.proofs.Begins.{thread_part, remaining-begins}
 use Rattle.dk_bound.proofs.Demands.{kept, KernelReady, paid_by_threads, remaining-entry, remaining-moves, own-entry, own-moves}
 

@@ -1,22 +1,5 @@
 -- Slack goes to whom the rules lend it.
-use Rattle.std.proofs.Math.Bool.{and-false}
-use Rattle.std.proofs.Common.{ℕ, ◌≡◌, Bool, true, false, cond, ◌&&◌, List, [], ◌∷◌, length, refl, ap, ◌∙◌}
-use Rattle.std.specs.Prelude.{Option, Some, None, unwrap_or, option_map}
-use Rattle.std.specs.Option.{option_or}
-use Rattle.dk_config.specs.Configuration.{Configuration}
-use Rattle.dk_config.specs.Sums.{below, first_of}
-use Rattle.dk_trace.specs.declared.ThreadId.{ThreadId}
-use Rattle.dk_trace.specs.declared.Label.{Label}
-use Rattle.dk_trace.specs.declared.Choice.{Choice}
-use Rattle.dk_trace.specs.declared.Entry.{Entry}
-use Rattle.dk_trace.specs.Entries.{borrower}
-use Rattle.dk_trace.specs.Threads.{Thread}
-use Rattle.dk_trace.specs.Demand.{fits}
-use Rattle.dk_trace.specs.Choices.{chosen, choice_at, work_at, wish_at, claims_slack_at, on_slack}
-use Rattle.dk_trace.specs.Audit.{HasChosenLabel, Audited}
-use Rattle.dk_trace.specs.Guarantees.{Granted}
-use Rattle.std.proofs.lemmas.Bool.Decides.{nat_tests}
-use Rattle.std.proofs.Common.{arith}
+use Rattle.dk_bound.proofs.Names.{and-false, ℕ, ◌≡◌, Bool, true, false, cond, ◌&&◌, List, [], ◌∷◌, length, refl, ap, ◌∙◌, Option, Some, None, unwrap_or, option_map, option_or, Configuration, below, first_of, ThreadId, Label, Choice, Entry, borrower, Thread, fits, chosen, choice_at, work_at, wish_at, claims_slack_at, on_slack, HasChosenLabel, Audited, Granted, nat_tests, arith}
 
 abbrev pub lends_to : Choice → Option ThreadId
 lends_to (Choice.Slack x source phase) = Some x

@@ -1,37 +1,9 @@
 -- A tick of a holder, a lock and an unlock: what they do to blocking, level by level.
-use Rattle.std.proofs.Math.Bool.{and-false}
-use Rattle.std.proofs.Common.{ℕ, suc, ◌≡◌, ◌+◌, ◌-◌, ◌<◌, ◌≤◌, ◌⊎◌, inl, inr, true, false, cond, not, eqb, leb, ltb, List, [], ◌∷◌, length, refl, sym, ap, ◌∙◌, subst, arith}
-use Rattle.std.specs.Prelude.{map, Option, Some, None}
-use Rattle.std.specs.Option.{option_map_or}
-use Rattle.std.proofs.lemmas.Bool.{cases_Bool, cases_lt}
-use Rattle.std.proofs.lemmas.Bool.Decides.{nat_tests}
-use Rattle.dk_config.specs.Configuration.{Configuration}
-use Rattle.dk_config.specs.Checked.{IsChecked, IsAccepted}
-use Rattle.dk_config.specs.Windows.{main_level, ceiling, longest_hold}
-use Rattle.dk_trace.specs.declared.ThreadId.{ThreadId}
-use Rattle.dk_trace.specs.declared.Event.{Event}
-use Rattle.dk_trace.specs.declared.Entry.{Entry}
-use Rattle.dk_trace.specs.Members.{Has}
-use Rattle.dk_trace.specs.Entries.{is_of, is_end, is_delete_of, stops, quiet}
-use Rattle.dk_trace.specs.Threads.{Thread, threads}
-use Rattle.dk_trace.specs.Jobs.{thread_body_left}
-use Rattle.dk_trace.specs.Holds.{Hold, aged, given_back, held_after, held_by, is_holding, is_innermost, is_held, hold_left, innermost_left, level_holding, effective_level, greatest_left, thread_blocking, blocking}
-use Rattle.dk_trace.specs.Audit.{Audited}
-use Rattle.dk_bound.specs.Laws.{Always}
-use Rattle.dk_bound.specs.Moves.{AtEachTick, AtEachEntry}
-use Rattle.dk_bound.specs.EventMoves.{EventMovesBlocking}
-use Rattle.dk_bound.specs.HoldMoves.{lies_between, holds_part, TickAgesHolds, BlockingIsByHolds, NothingBlocksAtStart, TickBlocksByHolds, TickLowersBlocking, LockRaisesBlocking, UnlockLowersBlocking}
-use Rattle.dk_trace.proofs.Whose.{of-thread}
-use Rattle.dk_trace.proofs.Events.{actor-follows}
-use Rattle.dk_trace.proofs.Members.{sum_by-zero}
-use Rattle.dk_trace.proofs.RowsFit.{ThreadsFit, threads-fit}
+use Rattle.dk_bound.proofs.Names.{and-false, ℕ, suc, ◌≡◌, ◌+◌, ◌-◌, ◌<◌, ◌≤◌, ◌⊎◌, inl, inr, true, false, cond, not, eqb, leb, ltb, List, [], ◌∷◌, length, refl, sym, ap, ◌∙◌, subst, arith, map, Option, Some, None, option_map_or, cases_Bool, cases_lt, nat_tests, Configuration, IsChecked, IsAccepted, main_level, ceiling, longest_hold, ThreadId, Event, Entry, Has, is_of, is_end, is_delete_of, stops, quiet, Thread, threads, thread_body_left, Hold, aged, given_back, held_after, held_by, is_holding, is_innermost, is_held, hold_left, innermost_left, level_holding, effective_level, greatest_left, thread_blocking, blocking, Audited, Always, AtEachTick, AtEachEntry, EventMovesBlocking, lies_between, holds_part, TickAgesHolds, BlockingIsByHolds, NothingBlocksAtStart, TickBlocksByHolds, TickLowersBlocking, LockRaisesBlocking, UnlockLowersBlocking, of-thread, actor-follows, sum_by-zero, ThreadsFit, threads-fit, quiet-stops, held-other, held-mine, aged-held, both-zero}
 use Rattle.dk_bound.proofs.Holding.{Rising, Users, HoldersFit}
 use Rattle.dk_bound.proofs.HoldersFit.{row-nested, row-users}
 use Rattle.dk_bound.proofs.Nesting.{Rising-lower, Rising-tick, not-last, given_back-free, Users-aged, Users-filter, IsUnder, users-under, level-most, greatest-low, greatest-some, greatest-level}
 use Rattle.dk_bound.proofs.Locks.{held-quiet, met, lock-met, unlock-met}
-use Rattle.dk_trace.proofs.Charged.{quiet-stops}
-use Rattle.dk_trace.proofs.Holds.{held-other, held-mine, aged-held}
-use Rattle.dk_trace.proofs.Families.{both-zero}
 use Rattle.dk_bound.proofs.Joint.{holders-fit}
 use Rattle.dk_bound.proofs.TickMoves.{threads-charged, tick_moves_blocking, not-of}
 use Rattle.dk_bound.proofs.EventMoves.{event_moves_blocking}

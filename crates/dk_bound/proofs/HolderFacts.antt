@@ -1,22 +1,8 @@
 -- What the invariant says of a single holder: it runs, it isn't closed, and it has time for each mutex that it holds.
-use Rattle.std.proofs.Common.{ℕ, suc, ◌≡◌, ◌<◌, ◌≤◌, inl, inr, true, List, [], ◌∷◌, length, Option, Some, None, refl, arith}
-use Rattle.std.proofs.lemmas.Bool.{cases_lt}
-use Rattle.dk_config.specs.Configuration.{Configuration}
-use Rattle.dk_config.specs.Checked.{IsChecked}
-use Rattle.dk_config.specs.Windows.{window_start}
-use Rattle.dk_trace.specs.declared.Entry.{Entry}
-use Rattle.dk_trace.specs.Members.{Has}
-use Rattle.dk_trace.specs.Threads.{Thread, threads}
-use Rattle.dk_trace.specs.Jobs.{job, thread_body_left}
-use Rattle.dk_trace.specs.Holds.{Hold, held_by, hold_left, is_holder}
-use Rattle.dk_trace.specs.Audit.{Audited}
-use Rattle.dk_bound.specs.Statements.{HolderStands}
-use Rattle.dk_trace.proofs.Rows.{row-of, window_end-above}
-use Rattle.dk_trace.proofs.Silent.{closed-stopped}
+use Rattle.dk_bound.proofs.Names.{ℕ, suc, ◌≡◌, ◌<◌, ◌≤◌, inl, inr, true, List, [], ◌∷◌, length, refl, arith, cases_lt, Configuration, IsChecked, window_start, Entry, Has, Thread, threads, job, thread_body_left, Hold, held_by, hold_left, is_holder, Audited, HolderStands, row-of, window_end-above, closed-stopped, threads-fit, nat_tests}
+use Rattle.std.proofs.Common.{Option, Some, None}
 use Rattle.dk_bound.proofs.Holding.{Rising, HoldersFit}
-use Rattle.dk_trace.proofs.RowsFit.{threads-fit}
 use Rattle.dk_bound.proofs.HoldersFit.{row-nested, holder-rem, holder-stands, Rising-some}
-use Rattle.std.proofs.lemmas.Bool.Decides.{nat_tests}
 
 Rising-each : (c : Configuration) (low high : ℕ) (held : List Hold) (h : Hold) → Rising c low high held → Has held h → (low ≤ hold_left c h) × (hold_left c h ≤ high)
 Rising-each c low high [] h r has = absurd has

@@ -1,39 +1,9 @@
 -- The holders after an entry, and at the next tick.
-use Rattle.std.proofs.Common.{ℕ, suc, ◌≡◌, ◌-◌, ◌%◌, ◌<◌, ◌≤◌, ◌⊎◌, inl, inr, Bool, true, false, cond, not, eqb, List, [], ◌∷◌, length, Option, Some, None, refl, sym, ap, ◌∙◌, subst, arith, ◌+◌}
-use Rattle.std.specs.Prelude.{map, filter}
-use Rattle.std.proofs.lemmas.Bool.{cases_Bool, cases_lt, cases_eq, and_right}
-use Rattle.std.proofs.lemmas.Bool.Decides.{nat_tests}
-use Rattle.dk_config.specs.Configuration.{Configuration}
-use Rattle.dk_config.specs.Checked.{IsChecked}
-use Rattle.dk_config.specs.Windows.{period, longest_hold}
-use Rattle.dk_trace.specs.declared.ThreadId.{ThreadId}
-use Rattle.dk_trace.specs.declared.Event.{Event}
-use Rattle.dk_trace.specs.declared.Label.{Label}
-use Rattle.dk_trace.specs.declared.Choice.{Choice}
-use Rattle.dk_trace.specs.declared.Phase.{Phase}
-use Rattle.dk_trace.specs.declared.Source.{Source}
-use Rattle.dk_trace.specs.declared.Entry.{Entry}
-use Rattle.dk_trace.specs.Entries.{is_of, is_budget_of, does, is_wait, stops, payer, borrower}
-use Rattle.dk_trace.specs.Threads.{Thread, threads, family, after_entry}
-use Rattle.dk_trace.specs.Jobs.{Job, job, phase, body_left, thread_body_left, thread_rem}
-use Rattle.dk_trace.specs.Holds.{Hold, aged, held_after, held_by, is_holding, level_holding, effective_level, is_holder}
-use Rattle.dk_trace.specs.Audit.{work_of, HasChosenLabel, MayHave, Audited, Follows}
-use Rattle.dk_trace.specs.Slack.{source, is_entering}
-use Rattle.dk_trace.specs.Choices.{chosen}
-use Rattle.dk_trace.proofs.Windows.{mod-next, count-charged}
-use Rattle.dk_trace.specs.Members.{Has}
+use Rattle.dk_bound.proofs.Names.{ℕ, suc, ◌≡◌, ◌-◌, ◌%◌, ◌<◌, ◌≤◌, ◌⊎◌, inl, inr, Bool, true, false, cond, not, eqb, List, [], ◌∷◌, length, refl, sym, ap, ◌∙◌, subst, arith, ◌+◌, map, filter, cases_Bool, cases_lt, cases_eq, and_right, nat_tests, Configuration, IsChecked, period, longest_hold, ThreadId, Event, Label, Choice, Phase, Source, Entry, is_of, is_budget_of, does, is_wait, stops, payer, borrower, Thread, threads, family, after_entry, Job, job, phase, body_left, thread_body_left, thread_rem, Hold, aged, held_after, held_by, is_holding, level_holding, effective_level, is_holder, work_of, HasChosenLabel, MayHave, Audited, Follows, source, is_entering, chosen, mod-next, count-charged, Has, same-row, Passed, Turn, by_hold, by_share, now_rem, Reason, kernel_first, thread_first, slack_first, nothing, chosen-reason, wishing-none, budget-labels, slack-labels, chosen-says, Kind, paid, lent, kernel, idle, kind, actor-follows, budget-not, of-payer, of-borrower, of-nobody, RowFits, ThreadsFit, threads-fit, row-stays, job-moves, held-stopped, held-other, held-mine, aged-holding}
+use Rattle.std.proofs.Common.{Option, Some, None}
 use Rattle.dk_bound.proofs.Holding.{Rising, Users, Holder, HoldersFit}
-use Rattle.dk_trace.proofs.Distinct.{same-row}
 use Rattle.dk_bound.proofs.Nesting.{EventFits, Rising-none, Rising-after, Users-aged, Users-after, IsUnder, under-aged, users-under, level-aged, level-filter}
-use Rattle.dk_trace.proofs.Chosen.{Passed, Turn, by_hold, by_share, now_rem, Reason, kernel_first, thread_first, slack_first, nothing, chosen-reason, wishing-none}
-use Rattle.dk_trace.proofs.Labels.{budget-labels, slack-labels, chosen-says}
-use Rattle.dk_trace.proofs.Entered.{Kind, paid, lent, kernel, idle, kind}
-use Rattle.dk_trace.proofs.Events.{actor-follows}
-use Rattle.dk_trace.proofs.Whose.{budget-not, of-payer, of-borrower, of-nobody}
-use Rattle.dk_trace.proofs.RowsFit.{RowFits, ThreadsFit, threads-fit, row-stays}
 use Rattle.dk_bound.proofs.Bodies.{level-positive, body-entry, body-rem, body-stands}
-use Rattle.dk_trace.proofs.Orderly.{job-moves}
-use Rattle.dk_trace.proofs.Holds.{held-stopped, held-other, held-mine, aged-holding}
 use Rattle.dk_bound.proofs.Locks.{Mine, by_budget, by_slack, mine-kind, met, AreMet, event-fits, locks-own, waits, waits-none, runs-on, lock-met}
 
 pub holds-nothing : (held : List Hold) → is_holding held ≡ false → held ≡ []

@@ -1,13 +1,6 @@
 -- What is true of the holders of mutexes at each moment of a past that follows the rules: the invariant of the induction.
+use Rattle.dk_bound.proofs.Names.{Configuration, is_user, ThreadId, Entry, Thread, threads, job, thread_body_left, Hold, held_by, is_holding, hold_left, effective_level, is_holder, Has}
 use Rattle.std.specs.Prelude.{ℕ, suc, ◌≡◌, ◌≤◌, ◌<◌, ◌⊎◌, true, List, [], ◌∷◌}
-use Rattle.dk_config.specs.Configuration.{Configuration}
-use Rattle.dk_config.specs.Certification.{is_user}
-use Rattle.dk_trace.specs.declared.ThreadId.{ThreadId}
-use Rattle.dk_trace.specs.declared.Entry.{Entry}
-use Rattle.dk_trace.specs.Threads.{Thread, threads}
-use Rattle.dk_trace.specs.Jobs.{job, thread_body_left}
-use Rattle.dk_trace.specs.Holds.{Hold, held_by, is_holding, hold_left, effective_level, is_holder}
-use Rattle.dk_trace.specs.Members.{Has}
 
 -- the innermost hold has at least low left, each further one more than the one inside it, and none more than high
 abbrev pub Rising : Configuration → ℕ → ℕ → List Hold → Type 0

@@ -1,38 +1,9 @@
 -- The holders fit and what is left fits its window: one induction over the past.
-use Rattle.std.proofs.Common.{ℕ, zero, suc, ◌≡◌, ◌+◌, ◌-◌, ◌<◌, ◌≤◌, inl, inr, Bool, true, false, eqb, leb, List, [], ◌∷◌, length, Some, subst, arith}
-use Rattle.std.specs.Prelude.{sum_by}
-use Rattle.std.specs.List.{list_all}
-use Rattle.std.proofs.lemmas.Bool.{cases_Bool, cases_lt, cases_eq}
-use Rattle.std.proofs.lemmas.Bool.Decides.{nat_tests}
-use Rattle.dk_config.specs.Configuration.{Configuration}
-use Rattle.dk_config.specs.Checked.{IsChecked, IsAccepted}
-use Rattle.dk_config.specs.Sums.{numbers}
-use Rattle.dk_config.specs.Windows.{period, window_end}
-use Rattle.dk_trace.specs.declared.Choice.{Choice}
-use Rattle.dk_trace.specs.declared.Entry.{Entry}
-use Rattle.dk_trace.specs.Entries.{payer, kernel_level, is_budget_of}
-use Rattle.dk_trace.specs.Threads.{Thread, threads, family}
-use Rattle.dk_trace.specs.Jobs.{thread_rem}
-use Rattle.dk_trace.specs.Holds.{blocking}
-use Rattle.dk_trace.specs.Demand.{own_demand, remaining_demand, fits, fits_at}
-use Rattle.dk_trace.specs.Choices.{chosen}
-use Rattle.dk_trace.specs.Audit.{Audited}
-use Rattle.dk_trace.proofs.Windows.{mod-next, spent}
-use Rattle.dk_config.proofs.Sums.{sum_from-term}
-use Rattle.dk_trace.proofs.Starts.{kernel_paid}
-use Rattle.dk_trace.proofs.LevelDemand.{paid_by_kernel}
-use Rattle.dk_trace.proofs.Labels.{spent-payer, kernel_paid-level}
-use Rattle.dk_trace.proofs.Members.{sum_by-term, has-flat}
-use Rattle.dk_trace.proofs.Fair.{Fair, kernel_works, thread_works, thread_borrows, nobody}
+use Rattle.dk_bound.proofs.Names.{ℕ, zero, suc, ◌≡◌, ◌+◌, ◌-◌, ◌<◌, ◌≤◌, inl, inr, Bool, true, false, eqb, leb, List, [], ◌∷◌, length, subst, arith, sum_by, list_all, cases_Bool, cases_lt, cases_eq, nat_tests, Configuration, IsChecked, IsAccepted, numbers, period, window_end, Choice, Entry, payer, kernel_level, is_budget_of, Thread, threads, family, thread_rem, blocking, own_demand, remaining_demand, fits, fits_at, chosen, Audited, mod-next, spent, sum_from-term, kernel_paid, paid_by_kernel, spent-payer, kernel_paid-level, sum_by-term, has-flat, Fair, kernel_works, thread_works, thread_borrows, nobody, BlocksAtMost, Has, Turn, Reason, kernel_first, thread_first, slack_first, nothing, now_rem, no-demand, chosen-reason, Kind, paid, lent, kernel, idle, kind, payer-budget_of, ThreadsFit, threads-fit}
+use Rattle.std.proofs.Common.{Some}
 use Rattle.dk_bound.proofs.Demands.{kept, up_to, process_paid, paid_by_threads}
 use Rattle.dk_bound.proofs.Fits.{TickRoom, Steady, ends-done}
-use Rattle.dk_bound.specs.Statements.{BlocksAtMost}
-use Rattle.dk_trace.specs.Members.{Has}
 use Rattle.dk_bound.proofs.Holding.{HoldersFit}
-use Rattle.dk_trace.proofs.Chosen.{Turn, Reason, kernel_first, thread_first, slack_first, nothing, now_rem, no-demand, chosen-reason}
-use Rattle.dk_trace.proofs.Entered.{Kind, paid, lent, kernel, idle, kind}
-use Rattle.dk_trace.proofs.Whose.{payer-budget_of}
-use Rattle.dk_trace.proofs.RowsFit.{ThreadsFit, threads-fit}
 use Rattle.dk_bound.proofs.HoldersFit.{holder-rem, WindowEnds, holders-entry, holders-move, holders-start}
 use Rattle.dk_bound.proofs.Certified.{blocking-certified}
 use Rattle.dk_bound.proofs.Blocking.{blocking-falls, blocking-pays, blocking-unpaid}

@@ -1,35 +1,7 @@
 -- Who asks for slack at the end of a tick has not been stopped.
-use Rattle.std.proofs.Common.{ℕ, ◌≡◌, ◌<◌, ◌⊎◌, inl, inr, Bool, true, false, List, ◌∷◌, length, refl, sym, ap, ◌∙◌, subst, arith, suc, ◌-◌, take, ◌||◌}
-use Rattle.std.specs.Prelude.{Option, Some, None, if◌then◌else◌}
-use Rattle.std.specs.Option.{option_or}
-use Rattle.std.specs.Bool.{then_some}
-use Rattle.std.proofs.lemmas.Bool.{cases_Bool, cases_lt}
-use Rattle.dk_config.specs.Configuration.{Configuration}
-use Rattle.dk_config.specs.Checked.{IsChecked, IsAccepted}
-use Rattle.dk_config.specs.Windows.{period, window_start, window_end}
-use Rattle.dk_trace.specs.declared.Entry.{Entry}
-use Rattle.dk_trace.specs.Members.{Has}
-use Rattle.dk_trace.specs.Entries.{is_of, stops, window, quiet}
-use Rattle.dk_trace.specs.Threads.{Thread, threads, family, new_rows, after_entry}
-use Rattle.dk_trace.specs.Slack.{want, no_request, last_request, request, asked}
-use Rattle.dk_trace.specs.Choices.{chosen}
-use Rattle.dk_trace.specs.Audit.{Audited}
-use Rattle.dk_trace.specs.declared.Label.{Label}
-use Rattle.dk_trace.specs.Jobs.{is_closed, Job}
-use Rattle.dk_bound.specs.Moves.{AtEachEntry}
-use Rattle.dk_bound.specs.Lasting.{AskersLast}
-use Rattle.dk_bound.specs.TickMoves.{TickSpends}
-use Rattle.dk_bound.specs.EventMoves.{EventCloses, closes}
-use Rattle.dk_trace.proofs.Windows.{window-charged}
-use Rattle.dk_trace.proofs.Events.{new-row}
-use Rattle.dk_trace.proofs.Rows.{row-of, has-next, window_end-above}
-use Rattle.dk_trace.proofs.RowsFit.{threads-fit}
-use Rattle.dk_trace.proofs.Entered.{acts-of}
-use Rattle.dk_trace.proofs.Silent.{Quiet, gone-quiet, gone-not-acting, want-gone, want-closed, stopped-test, closed-stopped}
-use Rattle.dk_trace.proofs.Requests.{request-left, request-window}
+use Rattle.dk_bound.proofs.Names.{ℕ, ◌≡◌, ◌<◌, ◌⊎◌, inl, inr, Bool, true, false, List, ◌∷◌, length, refl, sym, ap, ◌∙◌, subst, arith, suc, ◌-◌, take, ◌||◌, Option, Some, None, if◌then◌else◌, option_or, then_some, cases_Bool, cases_lt, Configuration, IsChecked, IsAccepted, period, window_start, window_end, Entry, Has, is_of, stops, window, quiet, Thread, threads, family, new_rows, after_entry, want, no_request, last_request, request, asked, chosen, Audited, Label, is_closed, Job, AtEachEntry, AskersLast, TickSpends, EventCloses, closes, window-charged, new-row, row-of, has-next, window_end-above, threads-fit, acts-of, Quiet, gone-quiet, gone-not-acting, want-gone, want-closed, stopped-test, closed-stopped, request-left, request-window, nat_tests}
 use Rattle.dk_bound.proofs.Fits.{steady-fair}
 use Rattle.dk_bound.proofs.Joint.{steady}
-use Rattle.std.proofs.lemmas.Bool.Decides.{nat_tests}
 
 cases-of : (n t : ℕ) (stop : Option ℕ) (b : Bool) → option_or stop (then_some b n) ≡ Some t → (stop ≡ Some t) ⊎ ((stop ≡ None) × (t ≡ n))
 cases-of n t stop b h = grind (arith, nat_tests)

@@ -1,12 +1,5 @@
 -- The laws, from the induction over the past.
-use Rattle.std.proofs.Common.{inl, inr, [], ◌∷◌, length, refl}
-use Rattle.dk_trace.specs.Threads.{threads}
-use Rattle.dk_trace.specs.Choices.{chosen}
-use Rattle.dk_trace.specs.Guarantees.{Received, Bounded}
-use Rattle.dk_bound.specs.Statements.{DemandFits, LockFindsFree, OneBlocks, BlocksAtMost, DenialIsTight, TimelineFits, SourceFits, ChoosesKnown, ChoosesWithCause, EndsSpent, LastTickExecutes, HoldersStand, LevelsDiffer, BeginsFree}
-use Rattle.dk_bound.specs.Laws.{Always, AlwaysGranted, AcceptsUnfailing}
-use Rattle.dk_trace.proofs.Distinct.{same-row}
-use Rattle.dk_trace.proofs.RowsFit.{threads-fit}
+use Rattle.dk_bound.proofs.Names.{inl, inr, [], ◌∷◌, length, refl, threads, chosen, Received, Bounded, DemandFits, LockFindsFree, OneBlocks, BlocksAtMost, DenialIsTight, TimelineFits, SourceFits, ChoosesKnown, ChoosesWithCause, EndsSpent, LastTickExecutes, HoldersStand, LevelsDiffer, BeginsFree, Always, AlwaysGranted, AcceptsUnfailing, same-row, threads-fit}
 use Rattle.dk_bound.proofs.HoldersFit.{free-at-begin}
 use Rattle.dk_bound.proofs.HolderFacts.{holder-facts}
 use Rattle.dk_bound.proofs.Certified.{one-blocks, levels-differ, same-or}

@@ -1,34 +1,5 @@
 -- By when in its window all threads of a level have had their shares: an induction along the window, as for a main.
-use Rattle.std.proofs.Common.{ℕ, suc, ◌≡◌, ◌+◌, ◌-◌, ◌%◌, ◌<◌, ◌≤◌, ◌⊎◌, inl, inr, true, false, eqb, leb, ltb, List, [], ◌∷◌, length, refl, sym, ap, ◌∙◌, subst, arith}
-use Rattle.std.specs.Prelude.{sum_by, min, Some, None}
-use Rattle.std.specs.Option.{option_map_or}
-use Rattle.std.proofs.lemmas.Bool.{cases_Bool, cases_lt}
-use Rattle.std.proofs.lemmas.Bool.Decides.{nat_tests}
-use Rattle.std.proofs.lemmas.List.{length-drop}
-use Rattle.dk_config.specs.Configuration.{Configuration}
-use Rattle.dk_config.specs.Checked.{IsChecked, IsAccepted}
-use Rattle.dk_config.specs.Windows.{period, main_level, max_level, slots}
-use Rattle.dk_config.specs.Ahead.{slowest_up_to, level_ahead, NoFasterSlack}
-use Rattle.dk_config.proofs.Sums.{sum_from-term}
-use Rattle.dk_trace.specs.declared.Entry.{Entry}
-use Rattle.dk_trace.specs.Members.{Has}
-use Rattle.dk_trace.specs.Entries.{borrower}
-use Rattle.dk_trace.specs.Threads.{Thread, threads, family}
-use Rattle.dk_trace.specs.Jobs.{Job, job, rem, thread_rem}
-use Rattle.dk_trace.specs.Holds.{blocking}
-use Rattle.dk_trace.specs.Demand.{own_demand}
-use Rattle.dk_trace.specs.Audit.{Audited}
-use Rattle.dk_trace.specs.Guarantees.{past_at}
-use Rattle.dk_trace.proofs.LevelDemand.{paid_by_kernel}
-use Rattle.dk_trace.proofs.Members.{sum_by-term}
-use Rattle.dk_trace.proofs.RowsFit.{RowFits, ThreadsFit, threads-fit}
-use Rattle.dk_trace.proofs.Fair.{AllFair}
-use Rattle.dk_trace.proofs.Orderly.{job_at}
-use Rattle.dk_trace.proofs.Whose.{payer-budget_of}
-use Rattle.dk_trace.proofs.Chosen.{Passed, no-demand}
-use Rattle.dk_trace.proofs.Entered.{Kind, paid, lent, kernel, idle, kind}
-use Rattle.dk_bound.specs.Laws.{Always}
-use Rattle.dk_bound.specs.ByWhen.{HasHad, AllByWhen}
+use Rattle.dk_bound.proofs.Names.{ℕ, suc, ◌≡◌, ◌+◌, ◌-◌, ◌%◌, ◌<◌, ◌≤◌, ◌⊎◌, inl, inr, true, false, eqb, leb, ltb, List, [], ◌∷◌, length, refl, sym, ap, ◌∙◌, subst, arith, sum_by, min, Some, None, option_map_or, cases_Bool, cases_lt, nat_tests, length-drop, Configuration, IsChecked, IsAccepted, period, main_level, max_level, slots, slowest_up_to, level_ahead, NoFasterSlack, sum_from-term, Entry, Has, borrower, Thread, threads, family, Job, job, rem, thread_rem, blocking, own_demand, Audited, past_at, paid_by_kernel, sum_by-term, RowFits, ThreadsFit, threads-fit, AllFair, job_at, payer-budget_of, Passed, no-demand, Kind, paid, lent, kernel, idle, kind, Always, HasHad, AllByWhen}
 use Rattle.dk_bound.proofs.Holding.{HoldersFit}
 use Rattle.dk_bound.proofs.Demands.{kept, own-entry, own-moves, process_demand}
 use Rattle.dk_bound.proofs.Begins.{thread_part}

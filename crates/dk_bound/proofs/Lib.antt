@@ -1,3 +1,4 @@
+pub mod Names
 pub mod AbsentRows
 pub mod Ahead
 pub mod Accepted

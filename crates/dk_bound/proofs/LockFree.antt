@@ -1,30 +1,8 @@
 -- A lock never finds its mutex held.
-use Rattle.dk_trace.proofs.Whose.{thread-of}
-use Rattle.dk_trace.proofs.Members.{find-has}
-use Rattle.std.proofs.Common.{ℕ, ◌≡◌, ◌-◌, ◌<◌, ◌≤◌, inl, inr, true, false, cond, List, ◌∷◌, length, None, sym, ap, ◌∙◌, subst, arith}
-use Rattle.std.specs.Prelude.{map, Some}
-use Rattle.std.proofs.lemmas.Bool.{cases_Bool}
-use Rattle.dk_config.specs.Configuration.{Configuration}
-use Rattle.dk_config.specs.Checked.{IsChecked}
-use Rattle.dk_config.specs.Windows.{ceiling, longest_hold}
-use Rattle.dk_config.specs.Certification.{is_user}
-use Rattle.dk_trace.specs.declared.ThreadId.{ThreadId}
-use Rattle.dk_trace.specs.declared.Entry.{Entry}
-use Rattle.dk_trace.specs.Entries.{is_of, is_budget_of, thread_of, is_same}
-use Rattle.dk_trace.specs.Threads.{Thread, threads, family}
-use Rattle.dk_trace.specs.Jobs.{job, thread_body_left}
-use Rattle.dk_trace.specs.Holds.{Hold, aged, held_by, is_holding, is_held, effective_level}
-use Rattle.dk_trace.specs.Choices.{chosen}
-use Rattle.dk_trace.specs.Refusals.{lock_refusal}
-use Rattle.dk_trace.specs.Audit.{Audited, HasChosenLabel, without_event, row_of}
-use Rattle.dk_trace.specs.Members.{Has}
+use Rattle.dk_bound.proofs.Names.{thread-of, find-has, ℕ, ◌≡◌, ◌-◌, ◌<◌, ◌≤◌, inl, inr, true, false, cond, List, ◌∷◌, length, sym, ap, ◌∙◌, subst, arith, map, Some, cases_Bool, Configuration, IsChecked, ceiling, longest_hold, is_user, ThreadId, Entry, is_of, is_budget_of, thread_of, is_same, Thread, threads, family, job, thread_body_left, Hold, aged, held_by, is_holding, is_held, effective_level, chosen, lock_refusal, Audited, HasChosenLabel, without_event, row_of, Has, Passed, Turn, kind-label, ThreadsFit, threads-fit, among-threads, same-id, aged-held}
+use Rattle.std.proofs.Common.{None}
 use Rattle.dk_bound.proofs.Holding.{HoldersFit}
 use Rattle.dk_bound.proofs.Nesting.{level-held}
-use Rattle.dk_trace.proofs.Chosen.{Passed, Turn}
-use Rattle.dk_trace.proofs.Entered.{kind-label}
-use Rattle.dk_trace.proofs.RowsFit.{ThreadsFit, threads-fit, among-threads}
-use Rattle.dk_trace.proofs.Same.{same-id}
-use Rattle.dk_trace.proofs.Holds.{aged-held}
 use Rattle.dk_bound.proofs.Bodies.{body-rem}
 use Rattle.dk_bound.proofs.Locks.{lock-met, LockMet, Mine, by_budget, by_slack, mine-kind}
 use Rattle.dk_bound.proofs.HoldersFit.{holds-nothing, before-holders, actor-row}

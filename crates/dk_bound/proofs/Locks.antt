@@ -1,32 +1,7 @@
 -- What an event of the chosen thread has met: what a lock, an unlock and a wait say of its holds.
-use Rattle.dk_trace.proofs.Events.{none-holds}
-use Rattle.std.proofs.Common.{ℕ, ◌≡◌, ◌+◌, ◌-◌, ◌<◌, inl, inr, Bool, true, false, cond, not, ◌&&◌, ◌||◌, leb, ltb, List, [], ◌∷◌, length, Option, Some, None, refl, sym, ap, ◌∙◌, subst, arith}
-use Rattle.std.specs.Prelude.{map}
-use Rattle.std.specs.Option.{option_map_or}
-use Rattle.std.proofs.lemmas.Bool.{cases_Bool, not-false}
-use Rattle.std.proofs.lemmas.Bool.Decides.{nat_tests}
-use Rattle.dk_config.specs.Configuration.{Configuration}
-use Rattle.dk_config.specs.Checked.{IsChecked}
-use Rattle.dk_config.specs.Windows.{longest_hold}
-use Rattle.dk_config.specs.Certification.{is_user}
-use Rattle.dk_trace.specs.declared.ThreadId.{ThreadId}
-use Rattle.dk_trace.specs.declared.Event.{Event}
-use Rattle.dk_trace.specs.declared.Entry.{Entry}
-use Rattle.dk_trace.specs.Entries.{is_of, is_budget_of, is_out_of, is_wait, stops}
-use Rattle.dk_trace.specs.Threads.{Thread, threads, family}
-use Rattle.dk_trace.specs.Jobs.{job, body_left, thread_body_left}
-use Rattle.dk_trace.specs.Holds.{is_innermost, Hold, aged, held_after, held_by, is_holding, is_held, innermost_left}
-use Rattle.dk_trace.specs.Refusals.{lock_reasons}
-use Rattle.dk_trace.specs.Audit.{Follows, without_event, done_refusal}
-use Rattle.dk_trace.proofs.Charged.{job-charged, quiet-stops}
-use Rattle.dk_trace.specs.Members.{Has}
-use Rattle.dk_trace.proofs.Distinct.{same-row}
+use Rattle.dk_bound.proofs.Names.{none-holds, ℕ, ◌≡◌, ◌+◌, ◌-◌, ◌<◌, inl, inr, Bool, true, false, cond, not, ◌&&◌, ◌||◌, leb, ltb, List, [], ◌∷◌, length, refl, sym, ap, ◌∙◌, subst, arith, map, option_map_or, cases_Bool, not-false, nat_tests, Configuration, IsChecked, longest_hold, is_user, ThreadId, Event, Entry, is_of, is_budget_of, is_out_of, is_wait, stops, Thread, threads, family, job, body_left, thread_body_left, is_innermost, Hold, aged, held_after, held_by, is_holding, is_held, innermost_left, lock_reasons, Follows, without_event, done_refusal, job-charged, quiet-stops, Has, same-row, Passed, Turn, now_rem, Kind, paid, lent, kernel, idle, done-event, of-payer, of-borrower, of-nobody, payer-budget_of, payer-none, ThreadsFit, among-threads, held-mine}
+use Rattle.std.proofs.Common.{Option, Some, None}
 use Rattle.dk_bound.proofs.Nesting.{LockFits, EventFits, LocksOwn, ends}
-use Rattle.dk_trace.proofs.Chosen.{Passed, Turn, now_rem}
-use Rattle.dk_trace.proofs.Entered.{Kind, paid, lent, kernel, idle, done-event}
-use Rattle.dk_trace.proofs.Whose.{of-payer, of-borrower, of-nobody, payer-budget_of, payer-none}
-use Rattle.dk_trace.proofs.RowsFit.{ThreadsFit, among-threads}
-use Rattle.dk_trace.proofs.Holds.{held-mine}
 use Rattle.dk_bound.proofs.Bodies.{body-spent}
 
 pub held-quiet : (x : ThreadId) (e : Entry) (past : List Entry) → is_of x e ≡ true → held_by x (without_event e ∷ past) ≡ map aged (held_by x past)

@@ -1,24 +1,6 @@
 -- The holds of one thread: the time left rises from the innermost to the outermost.
-use Rattle.std.proofs.Common.{ℕ, suc, ◌≡◌, ◌-◌, ◌<◌, ◌≤◌, ◌⊎◌, inl, inr, Bool, true, false, not, eqb, leb, List, [], ◌∷◌, refl, sym, ap, subst, arith, cond}
-use Rattle.std.specs.Prelude.{map, filter, min, Option, Some, None}
-use Rattle.std.proofs.lemmas.Bool.{cases_lt, cases_eq, cases_Bool}
-use Rattle.std.proofs.lemmas.Bool.Decides.{nat_tests}
-use Rattle.dk_config.specs.Configuration.{Configuration}
-use Rattle.dk_config.specs.Checked.{IsChecked}
-use Rattle.dk_config.specs.Windows.{main_level}
-use Rattle.std.specs.Option.{option_map_or}
-use Rattle.dk_config.specs.Windows.{ceiling, longest_hold}
-use Rattle.dk_config.specs.Certification.{is_user}
-use Rattle.dk_trace.specs.declared.Event.{Event}
-use Rattle.dk_trace.specs.Entries.{is_end, quiet, is_of}
-use Rattle.dk_trace.specs.Holds.{is_innermost, ends_hold, Hold, aged, given_back, held_after, level_holding, is_holding, is_held, hold_left, innermost_left, least_ceiling, greatest_left, hold_left as past_left, held_by}
-use Rattle.dk_trace.specs.Members.{Has}
-use Rattle.dk_trace.specs.declared.ThreadId.{ThreadId}
-use Rattle.dk_trace.specs.declared.Entry.{Entry}
-use Rattle.dk_trace.specs.declared.Label.{Label}
-use Rattle.dk_trace.proofs.Holds.{ceiling-aged, ceiling-most, quiet-held}
+use Rattle.dk_bound.proofs.Names.{ℕ, suc, ◌≡◌, ◌-◌, ◌<◌, ◌≤◌, ◌⊎◌, inl, inr, Bool, true, false, not, eqb, leb, List, [], ◌∷◌, refl, sym, ap, subst, arith, cond, map, filter, min, Option, Some, None, cases_lt, cases_eq, cases_Bool, nat_tests, Configuration, IsChecked, main_level, option_map_or, ceiling, longest_hold, is_user, Event, is_end, quiet, is_of, is_innermost, ends_hold, Hold, aged, given_back, held_after, level_holding, is_holding, is_held, hold_left, innermost_left, least_ceiling, greatest_left, past_left, held_by, Has, ThreadId, Entry, Label, ceiling-aged, ceiling-most, quiet-held, AreNested}
 use Rattle.dk_bound.proofs.Holding.{Rising, Users}
-use Rattle.dk_bound.specs.Callers.{AreNested}
 
 pub Rising-lower : (c : Configuration) (low low' high : ℕ) (held : List Hold) → low' ≤ low → Rising c low high held → Rising c low' high held
 Rising-lower c low low' high [] le r = tt

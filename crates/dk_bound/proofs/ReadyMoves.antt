@@ -1,20 +1,5 @@
 -- The ready lists of the levels under each move.
-use Rattle.std.proofs.Common.{ℕ, zero, suc, ◌≡◌, ◌+◌, ◌%◌, ◌<◌, ◌≤◌, Bool, true, false, ◌&&◌, eqb, ltb, List, [], ◌∷◌, ◌++◌, length, refl, sym, ap, ◌∙◌, subst, arith}
-use Rattle.std.specs.Prelude.{map, flat_map}
-use Rattle.std.proofs.lemmas.Bool.Decides.{nat_tests}
-use Rattle.dk_config.specs.Configuration.{Configuration}
-use Rattle.dk_config.specs.Sums.{numbers}
-use Rattle.dk_config.specs.Windows.{period}
-use Rattle.dk_trace.specs.declared.ThreadId.{ThreadId}
-use Rattle.dk_trace.specs.declared.Label.{Label}
-use Rattle.dk_trace.specs.declared.Entry.{Entry}
-use Rattle.dk_trace.specs.Members.{Has}
-use Rattle.dk_trace.specs.Entries.{quiet}
-use Rattle.dk_trace.specs.Threads.{Thread, threads, family, after_entry, new_rows}
-use Rattle.dk_trace.specs.Jobs.{rem, thread_rem}
-use Rattle.dk_bound.specs.Moves.{AtEachEntry}
-use Rattle.dk_bound.specs.ReadyMoves.{is_ready, ids_of, ready, EventKeepsReady, ClockMovesReady}
-use Rattle.dk_trace.proofs.Orderly.{charge-new, job-moves}
+use Rattle.dk_bound.proofs.Names.{ℕ, zero, suc, ◌≡◌, ◌+◌, ◌%◌, ◌<◌, ◌≤◌, Bool, true, false, ◌&&◌, eqb, ltb, List, [], ◌∷◌, ◌++◌, length, refl, sym, ap, ◌∙◌, subst, arith, map, flat_map, nat_tests, Configuration, numbers, period, ThreadId, Label, Entry, Has, quiet, Thread, threads, family, after_entry, new_rows, rem, thread_rem, AtEachEntry, is_ready, ids_of, ready, EventKeepsReady, ClockMovesReady, charge-new, job-moves}
 use Rattle.dk_bound.proofs.TickMoves.{threads-charged}
 use Rattle.dk_bound.proofs.EventMoves.{IsEntry, entry-is, rem-kept}
 use Rattle.dk_bound.proofs.ClockMoves.{over-is, begins-mod, within-mod}

@@ -1,35 +1,7 @@
 -- Each thread has its share of each window that has ended, or was closed and has paid its way out; the kernel has its own ticks.
-use Rattle.std.proofs.Common.{ℕ, suc, ◌≡◌, ◌+◌, ◌-◌, ◌%◌, ◌<◌, ◌≤◌, ◌⊎◌, inl, inr, Bool, true, false, ◌&&◌, ◌||◌, eqb, leb, ltb, IsTrue, List, [], ◌∷◌, length, drop, refl, sym, ap, ◌∙◌, subst, arith}
-use Rattle.std.specs.Prelude.{sum_by, count_by, take, not, Option}
-use Rattle.std.specs.List.{list_any}
-use Rattle.std.specs.Option.{option_or, option_map_or}
-use Rattle.std.specs.Bool.{then_some}
-use Rattle.std.proofs.lemmas.Bool.{cases_Bool, cases_lt}
-use Rattle.std.proofs.lemmas.Bool.Decides.{nat_tests}
-use Rattle.std.proofs.Math.Nat.{zero-mod}
-use Rattle.dk_config.specs.Configuration.{Configuration}
-use Rattle.dk_config.specs.Windows.{period, release, window_start, window_end}
-use Rattle.dk_trace.specs.declared.Entry.{Entry}
-use Rattle.dk_trace.specs.Entries.{window, is_kernel_at, does, is_wait, stops}
-use Rattle.dk_trace.specs.Threads.{Thread, family, threads, after_entry, is_void, share, new_rows}
-use Rattle.dk_trace.specs.Jobs.{Job, job, rem, thread_rem}
-use Rattle.dk_trace.specs.Audit.{Audited}
-use Rattle.dk_trace.specs.Guarantees.{past_at, job_from, HadShare, ThreadsReceived, KernelReceived, Received}
-use Rattle.dk_trace.proofs.Windows.{mod-next, count-charged, count-begins}
-use Rattle.dk_trace.proofs.Starts.{kernel_paid, one_or_none, pays}
-use Rattle.dk_trace.proofs.Charged.{the_job}
-use Rattle.dk_trace.proofs.Families.{lent, lent_at-children}
-use Rattle.dk_trace.proofs.Mains.{stopped_before-same, window_start-within}
-use Rattle.dk_config.specs.Checked.{IsChecked, IsAccepted}
-use Rattle.dk_trace.proofs.Fair.{AllFair}
-use Rattle.dk_trace.specs.Members.{Has}
-use Rattle.dk_trace.proofs.Members.{has-flat, flat-has, sum_by-term}
-use Rattle.dk_trace.proofs.Orders.{InOrder, rem-shut}
-use Rattle.dk_trace.proofs.Events.{new-row}
-use Rattle.dk_trace.proofs.Rows.{row-of, has-next, window_end-above, family-some}
-use Rattle.dk_trace.proofs.Shares.{lent-same, child-same_at, share-child}
-use Rattle.dk_trace.proofs.Silent.{quiet-drop, quiet-take, quiet-used}
-use Rattle.dk_trace.proofs.Orderly.{job_at, charged-order, jobs-in-order, new-quiet}
+use Rattle.dk_bound.proofs.Names.{ℕ, suc, ◌≡◌, ◌+◌, ◌-◌, ◌%◌, ◌<◌, ◌≤◌, ◌⊎◌, inl, inr, Bool, true, false, ◌&&◌, ◌||◌, eqb, leb, ltb, IsTrue, List, [], ◌∷◌, length, drop, refl, sym, ap, ◌∙◌, subst, arith, sum_by, count_by, Option, list_any, option_or, option_map_or, then_some, cases_Bool, cases_lt, nat_tests, zero-mod, Configuration, period, release, window_start, window_end, Entry, window, is_kernel_at, does, is_wait, stops, Thread, family, threads, after_entry, is_void, share, new_rows, Job, job, rem, thread_rem, Audited, past_at, job_from, HadShare, ThreadsReceived, KernelReceived, Received, mod-next, count-charged, count-begins, kernel_paid, one_or_none, pays, the_job, lent_at-children, stopped_before-same, window_start-within, IsChecked, IsAccepted, AllFair, Has, has-flat, flat-has, sum_by-term, InOrder, rem-shut, new-row, row-of, has-next, window_end-above, family-some, lent-same, child-same_at, share-child, quiet-drop, quiet-take, quiet-used, job_at, charged-order, jobs-in-order, new-quiet}
+use Rattle.std.specs.Prelude.{take, not}
+use Rattle.dk_trace.proofs.Families.{lent}
 use Rattle.dk_bound.proofs.Demands.{KernelReady, kept}
 use Rattle.dk_bound.proofs.Fits.{Steady, steady-fair, ready-of, ends-done}
 

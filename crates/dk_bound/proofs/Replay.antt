@@ -1,22 +1,5 @@
 -- Lists of entries that follow the rules, or rules with another choice, told by computing.
-use Rattle.std.proofs.Common.{ℕ, ◌≡◌, ◌==◌, Bool, true, false, not, cond, ◌&&◌, List, [], ◌∷◌, length}
-use Rattle.std.specs.Prelude.{Option, Some, None, MatchOption, is_none}
-use Rattle.std.specs.Option.{option_map_or}
-use Rattle.std.proofs.lemmas.Bool.{and_parts}
-use Rattle.dk_config.specs.Configuration.{Configuration}
-use Rattle.dk_trace.specs.declared.ThreadId.{ThreadId}
-use Rattle.dk_trace.specs.declared.Work.{Work}
-use Rattle.dk_trace.specs.declared.Label.{Label}
-use Rattle.dk_trace.specs.declared.Choice.{Choice}
-use Rattle.dk_trace.specs.declared.Event.{Event}
-use Rattle.dk_trace.specs.declared.Entry.{Entry}
-use Rattle.dk_trace.specs.Entries.{thread_of}
-use Rattle.dk_trace.specs.Choices.{chosen}
-use Rattle.dk_trace.specs.Threads.{Thread}
-use Rattle.dk_trace.specs.Holds.{held_by, innermost_left}
-use Rattle.dk_trace.specs.Audit.{label_of, work_of, HasChosenLabel, MayHave, row_of, done_refusal, next_serial, HasNextSerial, without_event, ThreadFollows, Audited}
-use Rattle.std.proofs.lemmas.Bool.Decides.{nat_tests}
-use Rattle.std.proofs.Common.{arith}
+use Rattle.dk_bound.proofs.Names.{ℕ, ◌≡◌, ◌==◌, Bool, true, false, not, cond, ◌&&◌, List, [], ◌∷◌, length, Option, Some, None, MatchOption, is_none, option_map_or, and_parts, Configuration, ThreadId, Work, Label, Choice, Event, Entry, thread_of, chosen, Thread, held_by, innermost_left, label_of, work_of, HasChosenLabel, MayHave, row_of, done_refusal, next_serial, HasNextSerial, without_event, ThreadFollows, Audited, nat_tests, arith}
 
 abbrev pub Chooser : Type 0
 Chooser = Configuration → List Entry → Choice

@@ -1,34 +1,6 @@
 -- Every choice names a thread that has a row, and a holder that is chosen in the last tick of a hold executes in it.
-use Rattle.std.proofs.Common.{ℕ, ◌≡◌, ◌-◌, ◌<◌, ◌≤◌, inl, inr, true, false, List, length, Some, refl, sym, ap, ◌∙◌, subst, arith}
-use Rattle.std.proofs.lemmas.Bool.Decides.{nat_tests}
-use Rattle.dk_config.specs.Configuration.{Configuration}
-use Rattle.dk_config.specs.Checked.{IsChecked}
-use Rattle.dk_trace.specs.declared.ThreadId.{ThreadId}
-use Rattle.dk_trace.specs.declared.Phase.{Phase}
-use Rattle.dk_trace.specs.declared.Work.{Work}
-use Rattle.dk_trace.specs.declared.Choice.{Choice}
-use Rattle.dk_trace.specs.declared.Entry.{Entry}
-use Rattle.dk_trace.specs.Members.{Has}
-use Rattle.dk_trace.specs.Entries.{is_same, thread_of}
-use Rattle.dk_trace.specs.Threads.{Thread, threads, family}
-use Rattle.dk_trace.specs.Jobs.{Job, job, phase, body_left}
-use Rattle.dk_trace.specs.Holds.{held_by, is_holding, innermost_left, is_holder}
-use Rattle.dk_trace.specs.Choices.{chosen}
-use Rattle.dk_trace.specs.Slack.{source}
-use Rattle.dk_trace.proofs.Labels.{budget-labels, slack-labels}
-use Rattle.dk_trace.specs.Audit.{label_of, row_of, Audited, HasChosenLabel}
-use Rattle.dk_trace.specs.declared.Label.{Label}
-use Rattle.dk_bound.specs.Statements.{chosen_thread, IsKnown, HasCause, ChoosesKnown, LastTickExecutes}
-use Rattle.dk_bound.specs.Standing.{ChoiceHolds, ChosenHolds}
-use Rattle.dk_trace.proofs.Members.{find-some, flat-has}
-use Rattle.dk_trace.proofs.Silent.{wish-wants}
-use Rattle.dk_trace.proofs.Fair.{Fair, kernel_works, thread_works, thread_borrows, nobody}
-use Rattle.dk_trace.proofs.Distinct.{same-row}
-use Rattle.dk_trace.proofs.Whose.{label-payer, label-borrower, label-nobody}
-use Rattle.dk_trace.proofs.Chosen.{Reason, chosen-reason, wishing-none}
-use Rattle.dk_trace.proofs.Entered.{Kind, kind-label}
-use Rattle.dk_trace.proofs.RowsFit.{ThreadsFit, threads-fit}
-use Rattle.dk_trace.proofs.Same.{same-id, same-self}
+use Rattle.dk_bound.proofs.Names.{ℕ, ◌≡◌, ◌-◌, ◌<◌, ◌≤◌, inl, inr, true, false, List, length, refl, sym, ap, ◌∙◌, subst, arith, nat_tests, Configuration, IsChecked, ThreadId, Phase, Work, Choice, Entry, Has, is_same, thread_of, Thread, threads, family, Job, job, phase, body_left, held_by, is_holding, innermost_left, is_holder, chosen, source, budget-labels, slack-labels, label_of, row_of, Audited, HasChosenLabel, Label, chosen_thread, IsKnown, HasCause, ChoosesKnown, LastTickExecutes, ChoiceHolds, ChosenHolds, find-some, flat-has, wish-wants, Fair, kernel_works, thread_works, thread_borrows, nobody, same-row, label-payer, label-borrower, label-nobody, Reason, chosen-reason, wishing-none, Kind, kind-label, ThreadsFit, threads-fit, same-id, same-self}
+use Rattle.std.proofs.Common.{Some}
 use Rattle.dk_bound.proofs.Holding.{HoldersFit}
 use Rattle.dk_bound.proofs.HoldersFit.{row-nested, holder-rem, holder-stands, Rising-some}
 

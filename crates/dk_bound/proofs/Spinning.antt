@@ -1,31 +1,8 @@
 -- Lists of entries in which no thread does anything but execute: nobody holds, waits, stops or has children.
-use Rattle.std.proofs.Math.Bool.{and-false}
-use Rattle.std.proofs.Math.Nat.{zero-div}
-use Rattle.std.proofs.Common.{ℕ, zero, suc, ◌≡◌, ◌-◌, inl, inr, Bool, false, List, [], ◌∷◌, length, take, refl, ap, ◌∙◌, arith}
-use Rattle.std.specs.Prelude.{map, Option, Some, None, MatchOption}
-use Rattle.std.specs.List.{list_any}
-use Rattle.std.proofs.lemmas.Bool.{cases_Bool}
-use Rattle.std.proofs.lemmas.Bool.Decides.{nat_tests}
-use Rattle.std.proofs.lemmas.List.Sums.{sum_by-cons}
-use Rattle.dk_config.specs.Configuration.{Configuration}
-use Rattle.dk_config.specs.Windows.{main_level, budget}
-use Rattle.dk_trace.specs.declared.ThreadId.{ThreadId}
-use Rattle.dk_trace.specs.declared.Work.{Work}
-use Rattle.dk_trace.specs.declared.Event.{Event}
-use Rattle.dk_trace.specs.declared.Entry.{Entry}
-use Rattle.dk_trace.specs.Entries.{thread_of, is_of, does, is_wait, stops, quiet}
-use Rattle.dk_trace.specs.Threads.{main_thread, family, share}
-use Rattle.dk_trace.specs.Jobs.{job, thread_rem, is_closed}
-use Rattle.dk_trace.specs.Holds.{aged, held_after, held_by, innermost_left}
-use Rattle.dk_trace.specs.Choices.{chosen}
-use Rattle.dk_trace.specs.Audit.{label_of, ThreadFollows, Audited}
-use Rattle.dk_trace.proofs.Mains.{main_id, main_row, main_stop}
-use Rattle.dk_trace.proofs.Families.{children, family-children, lent_of, lent}
-use Rattle.dk_trace.proofs.Shares.{share-main}
-use Rattle.dk_trace.proofs.Holds.{held-mine, held-other}
+use Rattle.dk_bound.proofs.Names.{and-false, zero-div, ℕ, zero, suc, ◌≡◌, ◌-◌, inl, inr, Bool, false, List, [], ◌∷◌, length, take, refl, ap, ◌∙◌, arith, map, Option, Some, None, MatchOption, list_any, cases_Bool, nat_tests, sum_by-cons, Configuration, main_level, budget, ThreadId, Work, Event, Entry, thread_of, is_of, does, is_wait, stops, quiet, main_thread, family, share, job, thread_rem, is_closed, aged, held_after, held_by, innermost_left, chosen, label_of, ThreadFollows, Audited, main_id, main_row, main_stop, children, family-children, lent_of, share-main, held-mine, held-other, spent}
+use Rattle.dk_trace.proofs.Families.{lent}
 use Rattle.dk_bound.proofs.Begins.{thread_part}
 use Rattle.dk_bound.proofs.Demands.{process_demand, process_paid, kept, up_to}
-use Rattle.dk_trace.proofs.Windows.{spent}
 
 -- no entry has an event
 abbrev pub AllSpin : List Entry → Type 0

@@ -1,34 +1,9 @@
 -- Threads that ask for slack are neither void nor ended; and who holds is known.
-use Rattle.std.proofs.Common.{ℕ, ◌≡◌, ◌<◌, inl, inr, true, List, [], ◌∷◌, length, refl, subst, arith}
-use Rattle.std.specs.Prelude.{Option, Some}
-use Rattle.std.proofs.lemmas.Bool.{cases_lt}
-use Rattle.dk_config.specs.Configuration.{Configuration}
-use Rattle.dk_config.specs.Windows.{window_start}
-use Rattle.dk_config.specs.Certification.{is_user}
-use Rattle.dk_config.specs.Checked.{IsChecked}
-use Rattle.dk_trace.specs.declared.Entry.{Entry}
-use Rattle.dk_trace.specs.Members.{Has}
-use Rattle.dk_trace.specs.Threads.{Thread}
-use Rattle.dk_trace.specs.Jobs.{thread_rem}
-use Rattle.dk_trace.specs.Holds.{Hold, held_by}
-use Rattle.dk_trace.specs.Slack.{want}
-use Rattle.dk_trace.specs.Audit.{Audited}
-use Rattle.dk_bound.specs.Laws.{Always}
-use Rattle.dk_bound.specs.Standing.{ThreadsPlaced, IsThere, AskersThere, HoldersKnown}
-use Rattle.dk_trace.proofs.RowsFit.{threads-fit}
-use Rattle.dk_trace.proofs.Rows.{row-of, window_end-above}
-use Rattle.dk_trace.proofs.Silent.{gone-quiet, want-gone, want-closed, closed-stopped}
+use Rattle.dk_bound.proofs.Names.{ℕ, ◌≡◌, ◌<◌, inl, inr, true, List, [], ◌∷◌, length, refl, subst, arith, Option, Some, cases_lt, Configuration, window_start, is_user, IsChecked, Entry, Has, Thread, thread_rem, Hold, held_by, want, Audited, Always, ThreadsPlaced, IsThere, AskersThere, HoldersKnown, threads-fit, row-of, window_end-above, gone-quiet, want-gone, want-closed, closed-stopped, Reason, kernel_first, thread_first, slack_first, nothing, Turn, by_hold, by_share, chosen-reason, wishing-none, wish-wants, Choice, chosen, is_wishing, ChoiceHolds, ChosenHolds, nat_tests}
 use Rattle.dk_bound.proofs.Fits.{steady-fair}
 use Rattle.dk_bound.proofs.Joint.{holders-fit, steady}
 use Rattle.dk_bound.proofs.Holding.{Users, HoldersFit}
 use Rattle.dk_bound.proofs.HoldersFit.{holder-rem}
-use Rattle.dk_trace.proofs.Chosen.{Reason, kernel_first, thread_first, slack_first, nothing, Turn, by_hold, by_share, chosen-reason, wishing-none}
-use Rattle.dk_trace.proofs.Silent.{wish-wants}
-use Rattle.dk_trace.specs.declared.Choice.{Choice}
-use Rattle.dk_trace.specs.Choices.{chosen}
-use Rattle.dk_trace.specs.Slack.{is_wishing}
-use Rattle.dk_bound.specs.Standing.{ChoiceHolds, ChosenHolds}
-use Rattle.std.proofs.lemmas.Bool.Decides.{nat_tests}
 
 pub threads_placed : Always ThreadsPlaced
 threads_placed c past checked accepted audited x among =

@@ -1,45 +1,6 @@
 -- A tick of the choice, before its event is known: what it does to jobs, demand and blocking.
-use Rattle.std.proofs.Common.{ℕ, zero, suc, ◌≡◌, ◌+◌, ◌-◌, ◌≤◌, inl, inr, Bool, true, false, cond, eqb, leb, ltb, List, ◌∷◌, length, refl, sym, ap, ◌∙◌, arith}
-use Rattle.std.specs.Prelude.{sum_by, flat_map, Some, None}
-use Rattle.std.specs.Option.{option_or, option_map_or}
-use Rattle.std.proofs.lemmas.Bool.{cases_Bool}
-use Rattle.std.proofs.lemmas.Bool.Decides.{nat_tests}
-use Rattle.dk_config.specs.Configuration.{Configuration}
-use Rattle.dk_config.specs.Checked.{IsChecked, IsAccepted}
-use Rattle.dk_config.specs.Sums.{numbers, sum_from}
-use Rattle.dk_config.specs.Windows.{window_end}
-use Rattle.dk_trace.specs.declared.ThreadId.{ThreadId}
-use Rattle.dk_trace.specs.declared.Label.{Label}
-use Rattle.dk_trace.specs.declared.Entry.{Entry}
-use Rattle.dk_trace.specs.Members.{Has}
-use Rattle.dk_trace.specs.Entries.{is_same, payer, thread_of, kernel_level, is_of, is_budget_of, is_out_of, is_kernel_at, quiet}
-use Rattle.dk_trace.specs.Threads.{Thread, threads, share}
-use Rattle.dk_trace.specs.Jobs.{Job, job, rem, thread_rem, kernel_rem}
-use Rattle.dk_trace.specs.Holds.{thread_blocking, blocking}
-use Rattle.dk_trace.specs.Demand.{sum_starts, thread_demand, kernel_demand, own_demand, remaining_demand}
-use Rattle.dk_trace.specs.Slack.{level_of}
-use Rattle.dk_trace.specs.Choices.{chosen}
-use Rattle.dk_trace.specs.Audit.{HasChosenLabel, Audited}
-use Rattle.dk_trace.specs.JobSteps.{spent as spent_job}
-use Rattle.dk_bound.specs.Moves.{AtEachTick}
-use Rattle.dk_bound.specs.TickMoves.{TickKeepsThreads, TickSpends, TickLowersRem, TickLowersKernel, working_level, worked, TickLowersOwn, TickLowersRemaining, TickMovesBlocking}
-use Rattle.dk_trace.proofs.Exchange.{sum-exchange, sum-only}
-use Rattle.dk_trace.proofs.Windows.{spent, count-charged, paid-le}
-use Rattle.dk_trace.proofs.Whose.{thread-of, payer-none}
-use Rattle.dk_trace.proofs.Members.{find-some, sum_by-same, sum_by-zero, sum_by-add}
-use Rattle.dk_trace.proofs.Same.{same-self}
-use Rattle.dk_config.proofs.Sums.{sum_from-same, sum_from-add, sum_from-zero}
-use Rattle.dk_config.proofs.Progressions.{sum_every-each}
-use Rattle.dk_trace.proofs.Distinct.{Distinct, same-row}
-use Rattle.dk_trace.proofs.RowsFit.{ThreadsFit, threads-fit}
-use Rattle.dk_trace.proofs.Orders.{Ticks}
-use Rattle.dk_trace.proofs.Charged.{the_job, quiet-stops, family-charged, share-charged, job-charged}
-use Rattle.dk_trace.proofs.Fair.{Fair}
+use Rattle.dk_bound.proofs.Names.{ℕ, zero, suc, ◌≡◌, ◌+◌, ◌-◌, ◌≤◌, inl, inr, Bool, true, false, cond, eqb, leb, ltb, List, ◌∷◌, length, refl, sym, ap, ◌∙◌, arith, sum_by, flat_map, Some, None, option_or, option_map_or, cases_Bool, nat_tests, Configuration, IsChecked, IsAccepted, numbers, sum_from, window_end, ThreadId, Label, Entry, Has, is_same, payer, thread_of, kernel_level, is_of, is_budget_of, is_out_of, is_kernel_at, quiet, Thread, threads, share, Job, job, rem, thread_rem, kernel_rem, thread_blocking, blocking, sum_starts, thread_demand, kernel_demand, own_demand, remaining_demand, level_of, chosen, HasChosenLabel, Audited, spent_job, AtEachTick, TickKeepsThreads, TickSpends, TickLowersRem, TickLowersKernel, working_level, worked, TickLowersOwn, TickLowersRemaining, TickMovesBlocking, sum-exchange, sum-only, spent, count-charged, paid-le, thread-of, payer-none, find-some, sum_by-same, sum_by-zero, sum_by-add, same-self, sum_from-same, sum_from-add, sum_from-zero, sum_every-each, Distinct, same-row, ThreadsFit, threads-fit, Ticks, the_job, quiet-stops, family-charged, share-charged, job-charged, Fair, kernel_paid, one_or_none, pays, Kind, paid, lent, kernel, idle, kind-label, ticks-of, same-id, held-mine}
 use Rattle.dk_bound.proofs.Fits.{kernel-is-ready}
-use Rattle.dk_trace.proofs.Starts.{kernel_paid, one_or_none, pays}
-use Rattle.dk_trace.proofs.Entered.{Kind, paid, lent, kernel, idle, kind-label, ticks-of}
-use Rattle.dk_trace.proofs.Same.{same-id}
-use Rattle.dk_trace.proofs.Holds.{held-mine}
 use Rattle.dk_bound.proofs.Demands.{cond-none, kept}
 use Rattle.dk_bound.proofs.Nesting.{greatest-aged}
 use Rattle.dk_bound.proofs.Joint.{fair-choice, holders-fit}

@@ -1,27 +1,6 @@
 -- A serial that isn't given yet pays for nothing and has asked for nothing.
-use Rattle.std.proofs.Common.{◌≡◌, List, Some, subst, suc, length, None, true, refl, inr, zero, ◌∙◌, sym, ℕ, inl, ◌∷◌, ap, ◌<◌, take, arith, Option, ◌≤◌, []}
-use Rattle.std.proofs.lemmas.List.{length-append, length-map}
-use Rattle.std.specs.Prelude.{MatchOption}
-use Rattle.dk_config.specs.Configuration.{Configuration}
-use Rattle.dk_config.specs.Checked.{IsChecked, IsAccepted}
-use Rattle.dk_trace.specs.declared.Choice.{Choice}
-use Rattle.dk_trace.specs.Entries.{payer, is_of, is_same}
-use Rattle.dk_trace.specs.declared.ThreadId.{ThreadId}
-use Rattle.dk_trace.specs.declared.Entry.{Entry}
-use Rattle.dk_trace.specs.Audit.{label_of, HasNextSerial, done_refusal, Follows, without_event, ThreadFollows, row_of, Audited}
-use Rattle.dk_trace.specs.declared.Work.{Work}
-use Rattle.dk_trace.specs.Threads.{Thread, family}
-use Rattle.dk_trace.specs.declared.Event.{Event}
-use Rattle.dk_trace.specs.Slack.{asked, last_request}
-use Rattle.dk_trace.specs.Choices.{chosen}
-use Rattle.dk_trace.specs.Members.{Has}
-use Rattle.dk_trace.proofs.Members.{find-has, has-length}
-use Rattle.dk_trace.proofs.Whose.{of-thread}
-use Rattle.dk_trace.proofs.Same.{same-id}
-use Rattle.dk_bound.specs.Standing.{HasWork, ChoiceHolds, ChosenHolds}
-use Rattle.dk_bound.specs.Rows.{FamiliesStand, RowsAreNamed}
-use Rattle.dk_bound.specs.Laws.{Always}
-use Rattle.std.proofs.lemmas.Bool.Decides.{nat_tests}
+use Rattle.dk_bound.proofs.Names.{◌≡◌, List, subst, suc, length, true, refl, inr, zero, ◌∙◌, sym, ℕ, inl, ◌∷◌, ap, ◌<◌, take, arith, ◌≤◌, [], length-append, length-map, MatchOption, Configuration, IsChecked, IsAccepted, Choice, payer, is_of, is_same, ThreadId, Entry, label_of, HasNextSerial, done_refusal, Follows, without_event, ThreadFollows, row_of, Audited, Work, Thread, family, Event, asked, last_request, chosen, Has, find-has, has-length, of-thread, same-id, HasWork, ChoiceHolds, ChosenHolds, FamiliesStand, RowsAreNamed, Always, nat_tests}
+use Rattle.std.proofs.Common.{Some, None, Option}
 
 -- whose budget pays has work by the choice
 payer-works : (c : Configuration) (past : List Entry) (choice : Choice) (work : Work) (x : ThreadId) → ChoiceHolds c past choice → payer (label_of choice work) ≡ Some x → HasWork c past x

@@ -1,19 +1,5 @@
 -- The rules of choice with other threads, another share, or another rest of a share.
-use Rattle.std.proofs.Common.{ℕ, ◌≡◌, ◌+◌, ◌-◌, ◌==◌, ◌&&◌, Bool, true, List, length, refl}
-use Rattle.std.specs.Prelude.{Option, Some, None, if◌then◌else◌, nat_lt, nat_le, sum_by, find, filter, option_map, unwrap_or}
-use Rattle.std.specs.List.{list_all}
-use Rattle.std.specs.Option.{option_or}
-use Rattle.dk_config.specs.Configuration.{Configuration}
-use Rattle.dk_config.specs.Sums.{below, first_of, sum_up_to}
-use Rattle.dk_config.specs.Windows.{window_start, window_end}
-use Rattle.dk_trace.specs.declared.Choice.{Choice}
-use Rattle.dk_trace.specs.declared.Entry.{Entry}
-use Rattle.dk_trace.specs.Threads.{Thread, threads, share}
-use Rattle.dk_trace.specs.Jobs.{Job, job, rem, phase, kernel_rem}
-use Rattle.dk_trace.specs.Holds.{blocking}
-use Rattle.dk_trace.specs.Slack.{want, oldest}
-use Rattle.dk_trace.specs.Demand.{sum_starts, kernel_demand}
-use Rattle.dk_trace.specs.Choices.{chosen, holder_at, on_slack}
+use Rattle.dk_bound.proofs.Names.{ℕ, ◌≡◌, ◌+◌, ◌-◌, ◌==◌, ◌&&◌, Bool, true, List, length, refl, Option, Some, None, if◌then◌else◌, nat_lt, nat_le, sum_by, find, filter, option_map, unwrap_or, list_all, option_or, Configuration, below, first_of, sum_up_to, window_start, window_end, Choice, Entry, Thread, threads, share, Job, job, rem, phase, kernel_rem, blocking, want, oldest, sum_starts, kernel_demand, chosen, holder_at, on_slack}
 use Rattle.dk_bound.proofs.Replay.{Chooser}
 
 pub record Variant : Type 0 where
