@@ -1,32 +1,26 @@
 -- What is known of output that is gathered.
-use Rattle.std.specs.Prelude.{ℕ, List, Option, None}
-use Rattle.std.specs.Io.Buffered.{writer_buffer, writer_contents, writer_inner}
+use Rattle.std.specs.Prelude.{ℕ, ◌≡◌, List, Option}
+use Rattle.std.specs.Io.KnownBytes.{append_known}
 use Rattle.dk_outside.specs.Views.{SinkView}
+use Rattle.dk_edge.specs.Buffer.{waiting_in}
 use Rattle.dk_edge.specs.declared.out_sink.OutSink.{OutSink}
 
-abbrev pub out_faults : {W : Type 0} → OutSink W → ℕ
-out_faults s = s.faults
-
--- the writer that pieces are handed on to
-abbrev pub handed_to : {W : Type 0} → OutSink W → W
-handed_to s = writer_inner s.out
+-- the output that pieces are handed on to
+abbrev pub handed_to : {S : Type 0} → OutSink S → S
+handed_to s = s.out
 
 -- what waits to be handed on
-abbrev pub held_back : {W : Type 0} → OutSink W → List ℕ
-held_back s = writer_buffer s.out
+abbrev pub held_back : {S : Type 0} → OutSink S → List ℕ
+held_back s = waiting_in s.held
 
--- what was handed on and then what is held back, where the writer tells its contents
-abbrev pub taken : {W : Type 0} → (W → Option (List ℕ)) → OutSink W → Option (List ℕ)
-taken contents s = writer_contents contents s.out
+-- what is seen of it as a sink: of what was written, what the output took and then what is held back
+abbrev pub out_view : {S : Type 0} → (S → SinkView) → OutSink S → SinkView
+out_view seen s = record {
+  written = append_known (seen (handed_to s)).written (held_back s);
+  faults = (seen (handed_to s)).faults;
+  capacity = (seen (handed_to s)).capacity;
+}
 
--- a sink doesn't tell what was written
-abbrev pub untold : Option (List ℕ)
-untold = None
-
--- and not how many bytes it has room for
-abbrev pub unknown : Option ℕ
-unknown = None
-
--- what is seen of it as a sink
-abbrev pub out_view : {W : Type 0} → OutSink W → SinkView
-out_view s = record { written = untold; faults = out_faults s; capacity = unknown }
+-- what was written is what the output took and then some bytes that it didn't take
+abbrev pub IsFrontOf : Option (List ℕ) → Option (List ℕ) → Type 0
+IsFrontOf took written = (rest : List ℕ) × (written ≡ append_known took rest)

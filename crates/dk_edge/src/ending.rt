@@ -1,15 +1,18 @@
 //! How a program ends.
-ghost use Rattle.std.specs.Prelude.{◌≡◌, IsOk, IsErr};
+ghost use Rattle.std.specs.Prelude.{◌≡◌, Ok, Err};
+ghost use Rattle.dk_edge.specs.declared.running.EdgeFault.TheVariants.{NoMemory, Output};
 
-use dk_outside::SinkError;
+use crate::running::EdgeFault;
 
-/// The status of the process: that of the call, or `sink_fault` where its last piece couldn't be handed on.
-pub fn final_status<T: Copy>(status: T, sink_fault: T, last: Result<(), SinkError>) -> T
-    ensures handed_on { IsOk last → result ≡ status }
-    ensures failed { IsErr last → result ≡ sink_fault }
+/// The status of the process: that of the call, or the one for what ended it at the edge.
+pub fn final_status<T: Copy>(no_memory: T, sink_fault: T, ended: Result<T, EdgeFault>) -> T
+    ensures ended { (status : T) → ended ≡ Ok status → result ≡ status }
+    ensures memory { ended ≡ Err NoMemory → result ≡ no_memory }
+    ensures output { ended ≡ Err Output → result ≡ sink_fault }
 {
-    match last {
-        Ok(()) => status,
-        Err(_) => sink_fault,
+    match ended {
+        Ok(status) => status,
+        Err(EdgeFault::NoMemory) => no_memory,
+        Err(EdgeFault::Output) => sink_fault,
     }
 }

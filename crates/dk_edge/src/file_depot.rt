@@ -1,110 +1,98 @@
 //! The files that are opened by name.
-ghost use Rattle.std.specs.Prelude.{◌≡◌, ◌≢◌, ◌+◌, ◌<◌, ◌≤◌, ◌^◌, Err, IfOk, IfSome, IsErrOf, OnErr, take, vec_len};
+ghost use Rattle.std.specs.Prelude.{◌≡◌, ◌≢◌, ◌+◌, ◌<◌, ◌≤◌, ◌^◌, Err, IfOk, IfSome, IsErrOf, OnErr, OnOk, take, vec_len};
 ghost use Rattle.dk_outside.specs.Counts.{Rises};
-ghost use Rattle.dk_outside.specs.Files.{CountsStray, IsReading};
+ghost use Rattle.dk_outside.specs.Files.{CountsFailedRead, CountsStray, IsReading};
 ghost use Rattle.dk_outside.specs.declared.depot.DepotError.TheVariants.{Failed};
-ghost use Rattle.dk_edge.specs.FileDepot.{AreFirst, file_depot_view, file_faults, file_given, opener_of, untold};
+ghost use Rattle.dk_edge.specs.FileDepot.{file_depot_view, file_given, opener_of};
+ghost use Rattle.dk_edge.specs.Opener.{AreFirst};
 
 use crate::opener::Opener;
 use dk_outside::{Depot, DepotError};
 use std::alloc::Global;
-use std::fs::OpenFile;
-use std::io;
-use std::io::{ErrorKind, Read};
 
-/// The files of an opener, such as the system. As a depot it doesn't tell what they hold.
+/// How many bytes are asked for at once.
+const CHUNK: usize = 65_536;
+
+/// The files of an opener, such as the system's. As a depot it tells what the opener does, and counts its failures.
 #[derive(Drop)]
-pub struct FileDepot<'a, R: Opener> {
-    rt: &'a R,
-    faults: u64,
+pub struct FileDepot<R: Opener> {
+    opener: R,
     given: u64,
 }
 
-impl<'a, R: Opener> FileDepot<'a, R> {
-    pub fn new(rt: &'a R) -> Self
-        ensures opener { opener_of result ≡ rt.now }
+impl<R: Opener> FileDepot<R> {
+    pub fn new(opener: R) -> Self
+        ensures opener { opener_of result ≡ opener }
         ensures given { file_given result ≡ 0 }
-        ensures faults { file_faults result ≡ 0 }
     {
-        FileDepot {
-            rt,
-            faults: 0,
-            given: 0,
-        }
+        FileDepot { opener, given: 0 }
     }
 }
 
-/// What a reader gives, or its first `most` bytes where that is more, in a block of `room` bytes that grows where it
-/// must.
-pub fn first_bytes<R: Read + Drop>(
-    reader: R,
-    alloc: Global,
-    room: usize,
-    most: usize,
-) -> io::Result<Vec<u8>>
-    ensures short { IfOk result (λ v. vec_len v ≤ most) }
-    ensures first { IfOk result (λ v. IfSome (R.remaining reader) (λ bytes. v.items ≡ take most bytes)) }
+// Room for the bytes that the file is said to have, up to the most.
+fn room_for(told: u64, most: usize) -> usize
+    ensures { result ≤ most }
 {
+    told.min(most as u64) as usize
+}
+
+// Reads on until there are so many bytes, or the file is at its end.
+#[tactic(auto, using(crate::proofs::ReadingLemmas::nothing_read, crate::proofs::ReadingLemmas::read_more, crate::proofs::ReadingLemmas::all_read, crate::proofs::ReadingLemmas::most_read))]
+fn read_on<R: Opener>(
+    opener: &mut R,
+    file: &mut R::File,
+    bytes: &mut Vec<u8>,
+    most: usize,
+) -> Result<(), DepotError>
+    requires { vec_len bytes.old ≡ 0 }
+    ensures short { OnOk result (vec_len bytes.new ≤ most) }
+    ensures first { OnOk result (IfSome (R.left file.old) (λ whole. bytes.new.items ≡ take most whole)) }
+    ensures counted { CountsFailedRead result (R.failures opener.old) (R.failures opener.new) }
+    ensures failed { R.failures opener.old ≤ R.failures opener.new }
+    ensures strays { R.strays opener.new ≡ R.strays opener.old }
+    ensures same { R.contents opener.new ≡ R.contents opener.old }
+{
+    let mut buffer = [0u8; CHUNK];
+    while bytes.len() < most {
+        let room = (most - bytes.len()).min(CHUNK);
+        let n = opener.read_from(file, &mut buffer[..room])?;
+        if n == 0 {
+            return Ok(());
+        }
+        bytes.extend_from_slice(&buffer[..n])?;
+    }
+    Ok(())
+}
+
+// The file, or its first bytes where it is longer, in one block of about its size. The file is opened once.
+fn read_up_to<R: Opener>(
+    opener: &mut R,
+    alloc: Global,
+    name: &str,
+    most: usize,
+) -> Result<Vec<u8>, DepotError>
+    ensures short { IfOk result (λ v. vec_len v ≤ most) }
+    ensures told { IfSome (R.contents opener.old) (λ at. IfOk result (λ v. AreFirst (at name.now) most v.items)) }
+    ensures counted { CountsFailedRead result (R.failures opener.old) (R.failures opener.new) }
+    ensures failed { R.failures opener.old ≤ R.failures opener.new }
+    ensures rise { R.strays opener.old ≤ R.strays opener.new }
+    ensures stray { IfSome (R.contents opener.old)
+        (λ at. CountsStray at name.now (R.strays opener.old) (R.strays opener.new)) }
+    ensures same { R.contents opener.new ≡ R.contents opener.old }
+{
+    let mut file = opener.open_at(name)?;
+    let room = room_for(opener.length_of(&file), most);
     let mut bytes = Vec::with_capacity(alloc, room)?;
-    reader.take(most as u64).read_to_end(&mut bytes)?;
-    bytes.truncate(most);
+    read_on(opener, &mut file, &mut bytes, most)?;
     Ok(bytes)
 }
 
-// Room for the bytes that the file tells of, up to the most, and for one more: the read that finds the end asks for it.
-fn room_for<F: OpenFile>(file: &F, most: usize) -> usize
-    ensures { result ≤ most + 1 }
-{
-    let told = match file.metadata() {
-        Ok(metadata) => metadata.len(),
-        Err(_) => 0,
-    };
-    (told.min(most as u64) as usize).saturating_add(1)
-}
+impl<R: Opener> Depot for FileDepot<R> {
+    ghost seen = { file_depot_view R.contents R.failures R.strays };
 
-// The file, or its first bytes where it is longer, in one block of about its size.
-fn read_up_to<R: Opener>(rt: &R, alloc: Global, name: &str, most: usize) -> io::Result<Vec<u8>>
-    ensures short { IfOk result (λ v. vec_len v ≤ most) }
-    ensures told { IfSome (R.contents rt.now) (λ at. IfOk result (λ v. AreFirst (at name.now) most v.items)) }
-{
-    let file = rt.open_at(name)?;
-    let room = room_for(&file, most);
-    first_bytes(file, alloc, room, most)
-}
-
-impl<R: Opener> Depot for FileDepot<'_, R> {
-    ghost seen = { file_depot_view };
-
-    fn read(&mut self, alloc: Global, name: &str, limit: u32) -> Result<Vec<u8>, DepotError>
-        requires { file_given self.old + limit + 1 < 2 ^ 64 }
-
-        // Where the opener tells its files: the whole of the one that is named, or its first limit + 1 bytes.
-        ensures told { IfSome (R.contents (opener_of self.old)) (λ at. IfOk result (λ v. IsReading at name.now limit v.items)) }
-        ensures opener { opener_of self.new ≡ opener_of self.old }
-
-        // The trait's own conditions, which a method with conditions of its own says once more: of a depot that tells
-        // no file the ones on files ask nothing.
-        ensures short { IfOk result (λ v. vec_len v ≤ limit + 1) }
-        ensures held { IfSome untold (λ at. IfOk result (λ v. IsReading at name.now limit v.items)) }
-        ensures given_ok { IfOk result (λ v. file_given self.new ≡ file_given self.old + vec_len v) }
-        ensures given_err { OnErr result (file_given self.new ≡ file_given self.old) }
-        ensures cause { IsErrOf result Failed → Rises (file_faults self.old) (file_faults self.new) }
-        ensures stays { result ≢ Err Failed → file_faults self.new ≡ file_faults self.old }
-        ensures faults { file_faults self.old ≤ file_faults self.new }
-        ensures stray { IfSome untold (λ at. CountsStray at name.now 0 0) }
-        ensures strays { 0 ≤ 0 }
-        ensures same { untold ≡ untold }
-    {
-        match read_up_to(self.rt, alloc, name, limit as usize + 1) {
-            Ok(bytes) => {
-                self.given += bytes.len() as u64;
-                Ok(bytes)
-            }
-            Err(e) if e.kind() == ErrorKind::OutOfMemory => Err(DepotError::NoMemory),
-            Err(_) => {
-                self.faults = self.faults.saturating_add(1);
-                Err(DepotError::Failed)
-            }
-        }
+    fn read(&mut self, alloc: Global, name: &str, limit: u32) -> Result<Vec<u8>, DepotError> {
+        let bytes = read_up_to(&mut self.opener, alloc, name, limit as usize + 1)?;
+        self.given += bytes.len() as u64;
+        Ok(bytes)
     }
 }

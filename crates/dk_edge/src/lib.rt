@@ -1,16 +1,24 @@
-//! The trusted edge of a program: the words of the process, the real files and standard output.
+//! The edge of a program: the words of the process, the files that are opened by name, and output that is gathered.
 //!
-//! It meets the traits of the outside, and no clause tells what a real file holds or what reaches standard output.
+//! What a contract says of them, it says over any words, any opener and any output that tell what they hold. The system
+//! is one of each that doesn't tell, in four methods that are taken on trust.
 #![tactic(auto)]
 
+mod buffer;
 mod ending;
 mod file_depot;
 mod opener;
 mod out_sink;
+mod running;
+mod system;
+mod system_words;
 mod words;
 
 pub use ending::final_status;
-pub use file_depot::{FileDepot, first_bytes};
+pub use file_depot::FileDepot;
 pub use opener::Opener;
 pub use out_sink::OutSink;
-pub use words::{words_given, words_of};
+pub use running::{EdgeFault, Program, run};
+pub use system::{StandardOutput, SystemFiles};
+pub use system_words::ProcessWords;
+pub use words::{Word, Words, words_of};

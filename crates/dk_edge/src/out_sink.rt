@@ -1,96 +1,102 @@
 //! Output that is gathered.
-ghost use Rattle.std.specs.Prelude.{◌≡◌, ◌<◌, ◌≤◌, Ok, [], length, take, IfOk, IfSome, IsNone, OnOk, OnErr, IsErr};
-ghost use Rattle.std.specs.Io.KnownBytes.{Appends, Keeps};
+ghost use Rattle.std.specs.Prelude.{◌≡◌, ◌<◌, ◌≤◌, Ok, [], length, take, IfErr, IfOk, IsErr, IsOk, OnOk, OnErr};
 ghost use Rattle.dk_outside.specs.Counts.{Rises};
-ghost use Rattle.dk_outside.specs.Written.{Appends as AppendsTold};
-ghost use Rattle.dk_edge.specs.OutSink.{handed_to, held_back, out_faults, out_view, taken, unknown, untold};
+ghost use Rattle.dk_outside.specs.Written.{Appends};
+ghost use Rattle.dk_edge.specs.Buffer.{HasRoom};
+ghost use Rattle.dk_edge.specs.OutSink.{IsFrontOf, handed_to, held_back, out_view};
 
-use dk_outside::{NoMemory, Sink, SinkError};
+use crate::buffer::Buffer;
+use dk_outside::{Sink, SinkError};
 use std::alloc::Global;
-use std::io::{BufWriter, Write};
 
-/// The most bytes that are held back.
-const ROOM: usize = 65_536;
-
-/// Output that is gathered, and handed on in pieces of up to 65,536 bytes. It doesn't tell what was written.
+/// Output that is gathered, and handed on in pieces of up to 65,536 bytes.
 ///
-/// What is held back at the end is handed on by `finish`.
+/// What is held back at the end is handed on by `finish`. It counts no fault of its own: its count is the output's.
 #[derive(Drop)]
-pub struct OutSink<W: Write + Drop> {
-    out: BufWriter<W>,
-    faults: u64,
+pub struct OutSink<S: Sink + Drop> {
+    out: S,
+    held: Buffer,
 }
 
-impl<W: Write + Drop> OutSink<W> {
-    /// A sink in front of `out`. No later call needs memory.
-    pub fn reserve(alloc: Global, out: W) -> Result<Self, NoMemory>
+impl<S: Sink + Drop> OutSink<S> {
+    /// A sink in front of `out`, which is given back where memory runs out. No later call has an answer for want of
+    /// memory.
+    pub fn reserve(alloc: Global, out: S) -> Result<Self, S>
         ensures out { IfOk result (λ s. handed_to s ≡ out) }
         ensures empty { IfOk result (λ s. held_back s ≡ []) }
-        ensures faults { IfOk result (λ s. out_faults s ≡ 0) }
+        ensures back { IfErr result (λ given_back. given_back ≡ out) }
     {
-        match BufWriter::with_capacity(alloc, ROOM, out) {
-            Ok(out) => Ok(OutSink { out, faults: 0 }),
-            Err(_) => Err(NoMemory),
+        match Buffer::reserve(alloc) {
+            Ok(held) => Ok(OutSink { out, held }),
+            Err(_) => Err(out),
         }
     }
 
-    /// Takes the first bytes of a piece, and hands on what was held where there is no room for them.
-    #[inline(always)]
-    fn gather(&mut self, piece: &[u8]) -> Option<usize>
-        ensures short { IfSome result (λ n. n ≤ length piece.now) }
-        ensures gathered { IfSome result (λ n. Appends (taken W.contents self.old) (taken W.contents self.new)
-            (take n piece.now)) }
-        ensures kept { IsNone result → Keeps (taken W.contents self.old) (taken W.contents self.new) }
-        ensures faults { out_faults self.new ≡ out_faults self.old }
-    {
-        let front = &piece[..piece.len().min(ROOM - 1)];
-        self.out.write(front).ok()
-    }
-
-    /// Hands on what is still held. A failure may show only here.
-    pub fn finish(&mut self) -> Result<(), SinkError>
+    /// Hands on all that is held back. What the output didn't take stays held back.
+    fn hand_on(&mut self) -> Result<(), SinkError>
         ensures all { OnOk result (held_back self.new ≡ []) }
-        ensures same { Keeps (taken W.contents self.old) (taken W.contents self.new) }
-        ensures cause { IsErr result → Rises (out_faults self.old) (out_faults self.new) }
-        ensures stays { OnOk result (out_faults self.new ≡ out_faults self.old) }
+        ensures room { OnOk result (HasRoom self.new.held) }
+        ensures written { (out_view S.seen self.new).written ≡ (out_view S.seen self.old).written }
+        ensures cause { IsErr result → Rises (out_view S.seen self.old).faults (out_view S.seen self.new).faults }
+        ensures stays { OnOk result ((out_view S.seen self.new).faults ≡ (out_view S.seen self.old).faults) }
+        ensures faults { (out_view S.seen self.old).faults ≤ (out_view S.seen self.new).faults }
+        ensures same { (out_view S.seen self.new).capacity ≡ (out_view S.seen self.old).capacity }
+        ensures nothing { held_back self.old ≡ [] → handed_to self.new ≡ handed_to self.old }
+        ensures nothing_fails { held_back self.old ≡ [] → IsOk result }
     {
-        if self.out.flush().is_err() {
-            self.faults = self.faults.saturating_add(1);
-            return Err(SinkError::Failed);
+        while !self.held.waiting().is_empty() {
+            let n = self.out.write(self.held.waiting())?;
+            if n == 0 {
+                return Err(SinkError::Failed);
+            }
+            self.held.drop_first(n);
         }
+        self.held.clear();
         Ok(())
+    }
+
+    /// Hands on what is still held back, and gives the output back. A failure may show only here.
+    pub fn finish(self) -> (S, Result<(), SinkError>)
+        // The output took all that was written, or the front of it where it failed.
+        ensures all { OnOk result.1 ((S.seen result.0).written ≡ (out_view S.seen self).written) }
+        ensures front { IsFrontOf (S.seen result.0).written (out_view S.seen self).written }
+        ensures cause { IsErr result.1 → Rises (out_view S.seen self).faults (S.seen result.0).faults }
+        ensures stays { OnOk result.1 ((S.seen result.0).faults ≡ (out_view S.seen self).faults) }
+        ensures faults { (out_view S.seen self).faults ≤ (S.seen result.0).faults }
+        ensures same { (S.seen result.0).capacity ≡ (out_view S.seen self).capacity }
+        ensures nothing { held_back self ≡ [] → result.0 ≡ handed_to self }
+        ensures nothing_fails { held_back self ≡ [] → IsOk result.1 }
+    {
+        let mut sink = self;
+        let last = sink.hand_on();
+        let OutSink { out, held: _ } = sink;
+        (out, last)
     }
 }
 
-impl<W: Write + Drop> Sink for OutSink<W> {
-    ghost seen = { out_view };
+// Bytes for which there is no room are left for the next call.
+impl<S: Sink + Drop> Sink for OutSink<S> {
+    ghost seen = { out_view S.seen };
 
     #[inline(always)]
     fn write(&mut self, piece: &[u8]) -> Result<usize, SinkError>
-        // What was handed on and what is held back, in this order, are what was taken: it grows by what this call takes.
-        ensures gathered { IfOk result (λ n. Appends (taken W.contents self.old) (taken W.contents self.new)
-            (take n piece.now)) }
-        ensures kept { OnErr result (Keeps (taken W.contents self.old) (taken W.contents self.new)) }
+        // A failure of the output is answered as one.
+        ensures fails { OnOk result ((out_view S.seen self.new).faults ≡ (out_view S.seen self.old).faults) }
 
         ensures part { IfOk result (λ n. n ≤ length piece.now) }
-        ensures appended { IfOk result (λ n. AppendsTold untold untold (take n piece.now)) }
-        ensures err { OnErr result (untold ≡ untold) }
-        ensures cause { IsErr result → Rises (out_faults self.old) (out_faults self.new) }
-        ensures none_taken { result ≡ Ok 0 → 0 < length piece.now → Rises (out_faults self.old) (out_faults self.new) }
-        ensures stays { IfOk result (λ n. 0 < n → out_faults self.new ≡ out_faults self.old) }
-        ensures faults { out_faults self.old ≤ out_faults self.new }
-        ensures same { unknown ≡ unknown }
+        ensures appended { IfOk result (λ n. Appends (out_view S.seen self.old).written (out_view S.seen self.new).written
+            (take n piece.now)) }
+        ensures err { OnErr result ((out_view S.seen self.new).written ≡ (out_view S.seen self.old).written) }
+        ensures cause { IsErr result → Rises (out_view S.seen self.old).faults (out_view S.seen self.new).faults }
+        ensures none_taken { result ≡ Ok 0 → 0 < length piece.now
+            → Rises (out_view S.seen self.old).faults (out_view S.seen self.new).faults }
+        ensures stays { IfOk result (λ n. 0 < n → (out_view S.seen self.new).faults ≡ (out_view S.seen self.old).faults) }
+        ensures faults { (out_view S.seen self.old).faults ≤ (out_view S.seen self.new).faults }
+        ensures same { (out_view S.seen self.new).capacity ≡ (out_view S.seen self.old).capacity }
     {
-        match self.gather(piece) {
-            Some(0) => {
-                self.faults = self.faults.saturating_add(1);
-                Ok(0)
-            }
-            Some(n) => Ok(n),
-            None => {
-                self.faults = self.faults.saturating_add(1);
-                Err(SinkError::Failed)
-            }
+        if self.held.is_full() {
+            self.hand_on()?;
         }
+        Ok(self.held.take(piece))
     }
 }

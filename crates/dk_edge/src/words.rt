@@ -1,63 +1,47 @@
 //! The words of the process.
-ghost use Rattle.std.specs.Prelude.{◌≡◌, ◌≢◌, [], Ok, IfErr, IfOk, IsErr};
-ghost use Rattle.std.specs.Io.{WritesAtMost};
-ghost use Rattle.std.specs.Result.{IsOkAnd};
-ghost use Rattle.std.specs.Vec.Iter.{into_iter_items};
-ghost use Rattle.std.specs.IoError.{error_kind};
+ghost use Rattle.std.specs.Prelude.{◌≡◌, ℕ, List, Option, IfOk, IfSome, drop, map, string_bytes};
+ghost use Rattle.dk_edge.specs.Words.{usable};
 
 use dk_outside::NoMemory;
-use std::alloc::{AllocError, Global};
-use std::env::{self, Args, FillError};
-use std::io;
-use std::io::ErrorKind;
-use std::rt::Env;
+use std::alloc::Global;
 
-/// A process's words, with an empty one in place of the program's own name, which may be any bytes.
+/// What is given under a number.
 #[derive(Drop)]
-struct Nameless<'a, R: Env> {
-    rt: &'a R,
+pub enum Word {
+    Text(String),
+    NotText,
+    /// There are no more.
+    Missing,
 }
 
-impl<R: Env> Env for Nameless<'_, R> {
-    fn arg(&self, i: usize, buf: &mut [u8]) -> Result<usize, FillError>
-        ensures name { i ≡ 0 → result ≡ Ok 0 }
-        ensures bound { WritesAtMost result buf.new }
-    {
-        if i == 0 {
-            return Ok(0);
+/// What gives the words of a process.
+///
+/// Its clause is the premise of all that is proved of words: they are the ones that the process was given.
+pub trait Words {
+    ghost use Rattle.dk_edge.specs.Words.{IsFirst};
+
+    /// The words in order, the program's own name first, where they are told. One that isn't text is `None`.
+    ghost told: { Self → Option (List (Option (List ℕ))) };
+
+    /// The word of a number, counted from 0.
+    fn word(&self, alloc: Global, number: usize) -> Result<Word, NoMemory>
+        ensures { IfSome (told self.now) (λ words. IfOk result (IsFirst (drop number words))) };
+}
+
+/// The words that were given, with an empty one in place of the program's own name, which isn't looked at and may be any
+/// bytes: all of them, or none where one of the others isn't text, which is a faulty command line.
+#[tactic(auto, using(crate::proofs::WordsLemmas::begins, crate::proofs::WordsLemmas::ends, crate::proofs::WordsLemmas::is_spoilt))]
+pub fn words_of<W: Words>(given: &W, alloc: Global) -> Result<Vec<String>, NoMemory>
+    ensures { IfSome (W.told given.now) (λ words. IfOk result (λ v. map string_bytes v.items ≡ usable words)) }
+{
+    let mut words = Vec::new(alloc);
+    words.push(String::new(alloc))?;
+    for number in 1..usize::MAX {
+        match given.word(alloc, number)? {
+            Word::Text(word) => words.push(word)?,
+            Word::NotText => return Ok(Vec::new(alloc)),
+            Word::Missing => return Ok(words),
         }
-        self.rt.arg(i, buf)
     }
-
-    fn var(&self, name: &str, buf: &mut [u8]) -> Result<usize, FillError> {
-        self.rt.var(name, buf)
-    }
-
-    fn var_at(&self, i: usize, buf: &mut [u8]) -> Result<usize, FillError> {
-        self.rt.var_at(i, buf)
-    }
-}
-
-fn collected(args: Args, alloc: Global) -> Result<Vec<String>, AllocError>
-    ensures { IfOk result (λ v. v.items ≡ into_iter_items args) }
-{
-    args.collect(alloc)
-}
-
-/// The words that were given: all of them, or none where one isn't text, which is a faulty command line.
-pub fn words_given(given: io::Result<Args>, alloc: Global) -> Result<Vec<String>, NoMemory>
-    ensures all { IfOk given (λ args. IfOk result (λ v. v.items ≡ into_iter_items args)) }
-    ensures not_text { IfErr given (λ e. error_kind e ≢ ErrorKind.OutOfMemory → IsOkAnd result (λ v. v.items ≡ [])) }
-    ensures memory { IfErr given (λ e. error_kind e ≡ ErrorKind.OutOfMemory → IsErr result) }
-{
-    match given {
-        Ok(args) => Ok(collected(args, alloc)?),
-        Err(e) if e.kind() == ErrorKind::OutOfMemory => Err(NoMemory),
-        Err(_) => Ok(Vec::new(alloc)),
-    }
-}
-
-/// The words of the process, of which the first, the program's own name, isn't looked at.
-pub fn words_of<R: Env>(rt: &R, alloc: Global) -> Result<Vec<String>, NoMemory> {
-    words_given(env::args(&(Nameless { rt }, alloc)), alloc)
+    Err(NoMemory)
 }
