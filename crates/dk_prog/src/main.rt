@@ -1,22 +1,21 @@
-//! The program `deosk`: the words of the process, the real files and standard output.
+//! The program `deosk`: the words of the process, the system's files and standard output.
 #![tactic(auto)]
 
-use dk_edge::{FileDepot, OutSink, final_status, words_of};
-use dk_outside::NoMemory;
-use dk_session::{Status, deosk};
-use std::io;
+mod program;
+
+use crate::program::Deosk;
+use dk_edge::{FileDepot, ProcessWords, StandardOutput, SystemFiles, final_status, run};
+use dk_session::Status;
 use std::process::ExitCode;
 
-/// Does what the words say. A failure of the output may show only at the end.
-fn run(rt: &HostRuntime) -> Result<Status, NoMemory> {
-    let words = words_of(rt, rt.alloc())?;
-    let mut depot = FileDepot::new(rt);
-    let mut sink = OutSink::reserve(rt.alloc(), io::writer(rt))?;
-    let status = deosk(rt.alloc(), words.as_slice(), &mut depot, &mut sink);
-    Ok(final_status(status, Status::SinkFault, sink.finish()))
-}
-
 fn main(rt: HostRuntime) -> ExitCode {
-    let status = run(&rt).unwrap_or(Status::NoMemory);
-    ExitCode::from(status.number())
+    let mut depot = FileDepot::new(SystemFiles::new(&rt));
+    let (ended, _) = run(
+        &Deosk,
+        rt.alloc(),
+        &ProcessWords::new(&rt),
+        &mut depot,
+        StandardOutput::new(&rt),
+    );
+    ExitCode::from(final_status(Status::NoMemory, Status::SinkFault, ended).number())
 }

@@ -1,0 +1,19 @@
+use Rattle.std.proofs.Common.{ap}
+use Rattle.dk_show_prog.proofs.program.DeoskShowProgram.call.Goals as goal
+
+pub returns : goal.returns
+returns g c =
+    let e = c.deosk_show.ensures in
+    record {
+      whole = e.output.whole;
+      cut = e.output.cut;
+      silent = λ silent. ap g.S.Sink.seen (e.output.silent silent);
+      complete = e.complete;
+      usage = e.usage;
+      usage_only = e.usage_only;
+      depot_fault = e.depot_fault;
+      sink_fault = e.sink_fault;
+      no_read_failed = e.no_read_failed;
+      faults = e.faults;
+      same = e.same;
+    }
