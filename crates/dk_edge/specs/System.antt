@@ -1,6 +1,5 @@
 -- What is known of the system's files and its standard output.
-use Rattle.std.specs.Prelude.{ℕ, ◌≡◌, List, Option, None, Result, Ok, Err}
-use Rattle.std.specs.IoError.{error_kind}
+use Rattle.std.specs.Prelude.{ℕ, ◌≡◌, None, Result, Ok, Err}
 use Rattle.dk_outside.specs.Views.{SinkView}
 use Rattle.dk_edge.specs.declared.system.StandardOutput.{StandardOutput}
 use Rattle.dk_edge.specs.declared.system.SystemFiles.{SystemFiles}

@@ -1,4 +1,4 @@
-use Rattle.std.proofs.Common.{ℕ, List, map, string_bytes}
+use Rattle.std.proofs.Common.{map, string_bytes}
 use Rattle.dk_edge.proofs.WordsLemmas.{GatheredIf}
 use Rattle.dk_edge.proofs.words.words_of.Given as goal
 
