@@ -1,0 +1,3 @@
+mod Windows
+mod Undone
+mod Numbers

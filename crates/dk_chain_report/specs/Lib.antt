@@ -1,0 +1,4 @@
+pub mod Finding
+pub mod Steps
+pub mod Changes
+pub mod Report
