@@ -3,3 +3,4 @@ pub mod Leaving
 pub mod Picturing
 pub mod Planning
 pub mod Ends
+mod FewNames
