@@ -2,5 +2,6 @@ pub mod Numerals
 pub mod Leaving
 pub mod Picturing
 pub mod Planning
+pub mod Changing
 pub mod Ends
 mod FewNames

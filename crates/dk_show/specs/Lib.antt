@@ -7,3 +7,4 @@ pub mod Output
 pub mod Leaves
 pub mod Works
 pub mod Loading
+pub mod Impacts

@@ -39,10 +39,12 @@ pub(crate) enum Command {
     Tell(Telling),
     /// How long after an event a chain of processes has answered it.
     Chain,
+    /// What a change of the configuration does to each process.
+    Impact,
 }
 
 /// In the order of the usage line.
-const COMMANDS: [Command; 11] = [
+const COMMANDS: [Command; 12] = [
     Command::Picture,
     Command::Draw(Drawing::Trace),
     Command::Draw(Drawing::Vcd),
@@ -54,6 +56,7 @@ const COMMANDS: [Command; 11] = [
     Command::Tell(Telling::When),
     Command::Tell(Telling::Warnings),
     Command::Chain,
+    Command::Impact,
 ];
 
 impl Command {
@@ -73,6 +76,7 @@ impl Command {
             Command::Tell(Telling::When) => "when",
             Command::Tell(Telling::Warnings) => "warnings",
             Command::Chain => "chain",
+            Command::Impact => "impact",
         }
     }
 

@@ -6,6 +6,8 @@ mod chains;
 mod commands;
 mod faults;
 mod files;
+mod impact_words;
+mod impacts;
 mod loading;
 mod numbers;
 mod pictures;
