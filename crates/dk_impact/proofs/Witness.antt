@@ -1,5 +1,8 @@
 -- The premises can be met all at once by configurations that differ in much: a level before and one after, a process before and one after, another user of the mutex and another ceiling.
-use Rattle.std.proofs.Common.{ℕ, zero, suc, ◌≡◌, ◌+◌, ◌*◌, ◌≤◌, ◌<◌, inr, None, true, false, List, [], ◌∷◌, refl, ap, arith}
+use Rattle.std.proofs.Common.{ℕ, zero, suc, ◌≡◌, ◌+◌, ◌*◌, ◌%◌, ◌≤◌, ◌<◌, ◌⊎◌, inl, inr, None, Bool, true, false, not, List, [], ◌∷◌, map, refl, ap, subst, arith}
+use Rattle.std.specs.Prelude.{slice_index_or}
+use Rattle.std.specs.List.{list_any}
+use Rattle.std.proofs.lemmas.Bool.{cases_lt}
 use Rattle.dk_config.specs.Configuration.{Configuration}
 use Rattle.dk_config.specs.Windows.{longest_hold}
 use Rattle.dk_config.specs.Certification.{is_user}
@@ -7,12 +10,15 @@ use Rattle.dk_config.specs.Tests.{first_broken}
 use Rattle.dk_config.specs.Rules.{all_tests, version_tests, count_tests, range_tests, period_tests, name_tests, again_tests, level_tests, budget_tests, user_tests, slowest_tests}
 use Rattle.dk_config.proofs.CheckedConfig.{checked}
 use Rattle.dk_isa.specs.declared.Instr.TheVariants.{Jmp, Trap}
+use Rattle.dk_trace.specs.declared.Entry.{Entry}
+use Rattle.dk_trace.specs.Entries.{stops}
 use Rattle.dk_world.specs.Run.{world}
 use Rattle.dk_bound.proofs.Accepted.{accepted}
-use Rattle.dk_alone.specs.Alone.{ReadsNoTick}
+use Rattle.dk_alone.specs.Alone.{KeepsToItself, ReadsNoTick}
+use Rattle.dk_alone.specs.Again.{ProcessStandsAgain, window_of}
 use Rattle.dk_alone.proofs.Premises.{program, spinner, call_of}
-use Rattle.dk_impact.specs.Impact.{SeesTheSame, MakesNoThread, IsSameAcross}
-use Rattle.dk_impact.specs.Laws.{ChangesOfOthersHaveNoImpact}
+use Rattle.dk_impact.specs.Impact.{SeesTheSame, MakesNoThread, IsSameAcross, renamed}
+use Rattle.dk_impact.specs.Laws.{ChangesOfOthersHaveNoImpact, FirstWindowsTellAcross}
 
 abbrev old : Configuration
 old = record {
@@ -88,3 +94,42 @@ the-worker-is-the-same law =
     law old new (worker ∷ []) (spinner ∷ worker ∷ []) 0 1 40 (checked old old-passes) (accepted old refl) (checked new new-passes) (accepted new refl)
     (record { known = omega arith; threads = refl; slack = refl; clock = worker-clock }) (record { known = omega arith; threads = refl; slack = refl; clock = worker-clock })
     refl sees refl
+
+-- by itself it stands at tick 80 as it stood at tick 40
+again : ProcessStandsAgain old (worker ∷ []) 0 40 40
+again = record { later = omega arith; begins = refl; begins_later = refl; alike = record { memory = refl; context = refl; stopped = refl } }
+
+-- in a window its main isn't stopped
+abbrev goes-on : List Entry → Bool
+goes-on window = not (list_any (stops (record { process = 1; serial = 0 })) window)
+
+-- a tick of the windows up to tick 80
+first-four : (tick : ℕ) → tick % 20 ≡ 0 → tick < 80 → ((tick ≡ 0) ⊎ (tick ≡ 20)) ⊎ ((tick ≡ 40) ⊎ (tick ≡ 60))
+first-four tick begins early =
+    elim (cases_lt tick 40) [
+      | inl half ↦
+          elim (cases_lt tick 20) [
+            | inl first ↦ inl (inl (omega (arith, begins, first)))
+            | inr second ↦ inl (inr (omega (arith, begins, second, half)))
+          ]
+      | inr half ↦
+          elim (cases_lt tick 60) [
+            | inl third ↦ inr (inl (omega (arith, begins, third, half)))
+            | inr fourth ↦ inr (inr (omega (arith, begins, fourth, early)))
+          ]
+    ]
+
+goes-on-first : (tick : ℕ) → ((tick ≡ 0) ⊎ (tick ≡ 20)) ⊎ ((tick ≡ 40) ⊎ (tick ≡ 60)) → goes-on (map (renamed 1) (window_of old (worker ∷ []) 0 tick)) ≡ true
+goes-on-first tick (inl (inl is)) = ap (λ t. goes-on (map (renamed 1) (window_of old (worker ∷ []) 0 t))) is
+goes-on-first tick (inl (inr is)) = ap (λ t. goes-on (map (renamed 1) (window_of old (worker ∷ []) 0 t))) is
+goes-on-first tick (inr (inl is)) = ap (λ t. goes-on (map (renamed 1) (window_of old (worker ∷ []) 0 t))) is
+goes-on-first tick (inr (inr is)) = ap (λ t. goes-on (map (renamed 1) (window_of old (worker ∷ []) 0 t))) is
+
+-- so four windows of the old configuration show that it is never stopped in the new one, whatever the other does
+pub the-worker-goes-on : FirstWindowsTellAcross → (others : List (List ℕ)) (tick : ℕ) → worker ≡ slice_index_or others 1 [] → tick % 20 ≡ 0
+    → goes-on (window_of new others 1 tick) ≡ true
+the-worker-goes-on law others tick agree begins =
+    law old new (worker ∷ []) others 0 1 40 40 goes-on (checked old old-passes) (accepted old refl) (checked new new-passes) (accepted new refl)
+    (record { known = omega arith; threads = refl; slack = refl; clock = worker-clock })
+    (subst (KeepsToItself new 1) agree (record { known = omega arith; threads = refl; slack = refl; clock = worker-clock }))
+    agree sees again (λ t start early. goes-on-first t (first-four t start early)) tick begins
