@@ -15,7 +15,7 @@ use Rattle.dk_trace.specs.Entries.{stops}
 use Rattle.dk_world.specs.Run.{world}
 use Rattle.dk_bound.proofs.Accepted.{accepted}
 use Rattle.dk_alone.specs.Alone.{KeepsToItself, ReadsNoTick}
-use Rattle.dk_alone.specs.Again.{ProcessStandsAgain, window_of}
+use Rattle.dk_alone.specs.Again.{ProcessStandsAgain, own_window}
 use Rattle.dk_alone.proofs.Premises.{program, spinner, call_of}
 use Rattle.dk_impact.specs.Impact.{SeesTheSame, MakesNoThread, IsSameAcross, renamed}
 use Rattle.dk_impact.specs.Laws.{ChangesOfOthersHaveNoImpact, FirstWindowsTellAcross}
@@ -119,15 +119,15 @@ first-four tick begins early =
           ]
     ]
 
-goes-on-first : (tick : ℕ) → ((tick ≡ 0) ⊎ (tick ≡ 20)) ⊎ ((tick ≡ 40) ⊎ (tick ≡ 60)) → goes-on (map (renamed 1) (window_of old (worker ∷ []) 0 tick)) ≡ true
-goes-on-first tick (inl (inl is)) = ap (λ t. goes-on (map (renamed 1) (window_of old (worker ∷ []) 0 t))) is
-goes-on-first tick (inl (inr is)) = ap (λ t. goes-on (map (renamed 1) (window_of old (worker ∷ []) 0 t))) is
-goes-on-first tick (inr (inl is)) = ap (λ t. goes-on (map (renamed 1) (window_of old (worker ∷ []) 0 t))) is
-goes-on-first tick (inr (inr is)) = ap (λ t. goes-on (map (renamed 1) (window_of old (worker ∷ []) 0 t))) is
+goes-on-first : (tick : ℕ) → ((tick ≡ 0) ⊎ (tick ≡ 20)) ⊎ ((tick ≡ 40) ⊎ (tick ≡ 60)) → goes-on (map (renamed 1) (own_window old (worker ∷ []) 0 tick)) ≡ true
+goes-on-first tick (inl (inl is)) = ap (λ t. goes-on (map (renamed 1) (own_window old (worker ∷ []) 0 t))) is
+goes-on-first tick (inl (inr is)) = ap (λ t. goes-on (map (renamed 1) (own_window old (worker ∷ []) 0 t))) is
+goes-on-first tick (inr (inl is)) = ap (λ t. goes-on (map (renamed 1) (own_window old (worker ∷ []) 0 t))) is
+goes-on-first tick (inr (inr is)) = ap (λ t. goes-on (map (renamed 1) (own_window old (worker ∷ []) 0 t))) is
 
 -- so four windows of the old configuration show that it is never stopped in the new one, whatever the other does
 pub the-worker-goes-on : FirstWindowsTellAcross → (others : List (List ℕ)) (tick : ℕ) → worker ≡ slice_index_or others 1 [] → tick % 20 ≡ 0
-    → goes-on (window_of new others 1 tick) ≡ true
+    → goes-on (own_window new others 1 tick) ≡ true
 the-worker-goes-on law others tick agree begins =
     law old new (worker ∷ []) others 0 1 40 40 goes-on (checked old old-passes) (accepted old refl) (checked new new-passes) (accepted new refl)
     (record { known = omega arith; threads = refl; slack = refl; clock = worker-clock })
