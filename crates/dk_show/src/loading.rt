@@ -56,11 +56,7 @@ fn certified_in(alloc: Global, bytes: &[u8]) -> Result<Config, Refusal>
 }
 
 /// The configuration with the programs of its processes.
-fn with_programs<D: Depot>(
-    alloc: Global,
-    config: Config,
-    depot: &mut D,
-) -> Result<Loaded, Refusal>
+fn with_programs<D: Depot>(alloc: Global, config: Config, depot: &mut D) -> Result<Loaded, Refusal>
     requires unbroken { BreaksNoRule config }
     requires checked { IsChecked config }
     requires accepted { IsAccepted config }
