@@ -58,10 +58,10 @@ _deosk_show_arguments() {
     windows:*:-* | windows:2:*) COMPREPLY=($(compgen -W --strict -- "$word")) ;;
     chain:[2-9]:* | chain:[1-3][0-9]:*) _deosk_processes "${COMP_WORDS[first + 1]}" ;;
     svg:1:* | trace:1:* | vcd:1:* | csv:1:* | windows:1:*) _deosk_files .txt ;;
-    *:1:* | impact:2:*) _deosk_files .toml ;;
+    *:1:*) _deosk_files .toml ;;
     esac
 }
 
 _deosk_commands='certify run inspect plan harmonise migrate asm dis ledger audit gen'
-_deosk_show_commands='svg trace vcd csv windows faults certify margins when warnings chain impact'
+_deosk_show_commands='svg trace vcd csv windows faults certify margins when warnings chain'
 complete -F _deosk deosk deosk-show try

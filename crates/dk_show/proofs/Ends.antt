@@ -27,7 +27,6 @@ use Rattle.dk_show.specs.Answers.{IsAnswer, IsFaulty, refusal_status}
 use Rattle.dk_chain_report.specs.Finding.{processes_named}
 use Rattle.dk_show.specs.Chain.{ChainAsk}
 use Rattle.dk_show.specs.Meaning.{meaning}
-use Rattle.dk_show.proofs.Changing.{impact_ends}
 use Rattle.dk_show.specs.Output.{Files, IsBehind, IsChainIn, IsChainOf, IsDrawn, IsOfBytes, IsOfChain, IsOfDocument, IsOfFaults, IsOfNamed, IsOfPicture, IsOfReading, IsOfRequest, IsOfWindows, IsOutput, IsPicture, IsToldOf, StandsInOutput, end_of, groups_asked, to_of}
 
 drawn_ends : (r : RangeRequest) (j k : Journal) (t u : List ℕ) (s : Status) → j ≡ k
@@ -128,7 +127,6 @@ request_ends (Some (request.Tell t file)) at x y s one two =
     named_ends at file MAX_CONFIG_BYTES why.LongConfig (IsOfDocument t) x y s (λ bad. cc) (λ bytes a b. reading_ends t (reading bytes) x y s a b) one two
 request_ends (Some (request.Chain r)) at x y s one two =
     named_ends at r.file MAX_CONFIG_BYTES why.LongConfig (IsOfChain r) x y s (λ bad. cc) (λ bytes a b. chain_in_ends r (reading bytes) x y s a b) one two
-request_ends (Some (request.Impact old new)) at x y s one two = impact_ends at old new x y s one two
 
 -- a call that ends otherwise has met the outside or want of memory
 pub completes : (files : Option Files) (words : List (List ℕ)) (s : Status) → (IsAnswer s → (y : List ℕ) × StandsInOutput files words y s)

@@ -34,7 +34,6 @@ loud why.LongConfig s silent other = refl
 loud why.NotToml s silent other = refl
 loud (why.Rule f) s silent other = refl
 loud why.NoProcess s silent other = refl
-loud (why.LongProgram p) s silent other = refl
 loud (why.Uncertified level needs window) s silent other = refl
 loud why.LongLedger s silent other = refl
 loud (why.LedgerLine line) s silent other = refl

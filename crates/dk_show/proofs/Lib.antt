@@ -2,6 +2,5 @@ pub mod Numerals
 pub mod Leaving
 pub mod Picturing
 pub mod Planning
-pub mod Changing
 pub mod Ends
 mod FewNames

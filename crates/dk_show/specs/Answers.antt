@@ -1,5 +1,5 @@
 -- What is written where a command is refused, and the status.
-use Rattle.std.specs.Prelude.{ℕ, Bool, true, false, codes, decimal, List, [], ◌++◌, ◌≡◌, ◌⊎◌, Option}
+use Rattle.std.specs.Prelude.{ℕ, Bool, true, false, codes, decimal, List, [], ◌++◌, ◌≡◌, ◌⊎◌}
 use Rattle.dk_config.specs.declared.TheConstants.{MAX_CONFIG_BYTES, MAX_LEDGER_BYTES, MAX_PROGRAM_BYTES}
 use Rattle.dk_fault_words.specs.FaultWords.{fault_text}
 use Rattle.dk_certify_report.specs.Certificate.{failing_text}
@@ -11,7 +11,7 @@ use Rattle.dk_show.specs.declared.status.Status.TheVariants as status
 
 abbrev pub usage_text : List ℕ
 usage_text =
-    codes "usage: deosk-show svg LEDGER [FROM TO] | trace LEDGER [FROM TO] | vcd LEDGER [FROM TO] | csv LEDGER [FROM TO] | windows LEDGER [--strict] | faults FILE | certify FILE | margins FILE | when FILE | warnings FILE | chain FILE NAME... | impact OLD NEW\n"
+    codes "usage: deosk-show svg LEDGER [FROM TO] | trace LEDGER [FROM TO] | vcd LEDGER [FROM TO] | csv LEDGER [FROM TO] | windows LEDGER [--strict] | faults FILE | certify FILE | margins FILE | when FILE | warnings FILE | chain FILE NAME...\n"
 
 -- the end of the line of what has more bytes than may be read
 abbrev pub longer_than : ℕ → List ℕ
@@ -87,11 +87,3 @@ IsEnd status.Config = Unit {0}
 IsEnd status.Uncertified = Unit {0}
 IsEnd status.Refused = Unit {0}
 IsEnd _ = ⊥
-
--- the line and the status of a refusal
-abbrev pub Says : Refusal → List ℕ → Status → Type 0
-Says e text ended = (text ≡ refusal_text e) × (ended ≡ refusal_status e)
-
--- the names of files and what they hold
-abbrev pub Files : Type 0
-Files = List ℕ → Option (List ℕ)

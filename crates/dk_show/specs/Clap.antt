@@ -62,18 +62,3 @@ windows_words_in rows = record {
 abbrev pub windows_given_by : App → List Text → Option WindowsWords
 windows_given_by app ws =
     if length (fault_of app ws) == 0 then Some (windows_words_in (matches_of app ws)) else None
-
--- a command with two files, the old one and the new
-abbrev pub pair_app : List ℕ → App
-pair_app word = with_rule (with_rule (new_app word) (argument (codes "OLD") true)) (argument (codes "NEW") true)
-
--- the words of the two files
-pub record PairWords : Type 0 where
-  pub old : Option Text
-  pub new : Option Text
-
-abbrev pub pair_words_in : List Row → PairWords
-pair_words_in rows = record { old = first_of (codes "OLD") rows; new = first_of (codes "NEW") rows }
-
-abbrev pub pair_given_by : App → List Text → Option PairWords
-pair_given_by app ws = if length (fault_of app ws) == 0 then Some (pair_words_in (matches_of app ws)) else None

@@ -7,4 +7,3 @@ pub mod Output
 pub mod Leaves
 pub mod Works
 pub mod Loading
-pub mod Impacts

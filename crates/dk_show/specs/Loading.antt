@@ -14,7 +14,8 @@ use Rattle.dk_loader.specs.Workload.{Workload}
 use Rattle.dk_show.specs.declared.refusal.Refusal.{Refusal}
 use Rattle.dk_show.specs.declared.refusal.Refusal.TheVariants as why
 use Rattle.dk_show.specs.declared.status.Status.{Status}
-use Rattle.dk_show.specs.Answers.{Files, Says, is_silent}
+use Rattle.dk_show.specs.Answers.{is_silent}
+use Rattle.dk_show.specs.Output.{Files, Says}
 
 -- the configuration, where it is certified
 abbrev pub certified : Configuration → Verdict → Result Configuration Refusal

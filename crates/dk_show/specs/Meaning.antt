@@ -13,7 +13,7 @@ use Rattle.dk_show.specs.declared.request.Request.{Request}
 use Rattle.dk_show.specs.declared.request.Request.TheVariants as request
 use Rattle.dk_config.specs.declared.TheConstants.{MAX_PROCESSES}
 use Rattle.dk_show.specs.Chain.{ChainWords, chain_app, chain_given_by}
-use Rattle.dk_show.specs.Clap.{PairWords, WindowsWords, Words, file_app, file_given_by, given_by, pair_app, pair_given_by, range_app, windows_app, windows_given_by}
+use Rattle.dk_show.specs.Clap.{WindowsWords, Words, file_app, file_given_by, given_by, range_app, windows_app, windows_given_by}
 use Rattle.dk_show.specs.Numbers.{ticks_in}
 
 -- the command word
@@ -29,12 +29,11 @@ word_of (command.Tell telling.Margins) = codes "margins"
 word_of (command.Tell telling.When) = codes "when"
 word_of (command.Tell telling.Warnings) = codes "warnings"
 word_of command.Chain = codes "chain"
-word_of command.Impact = codes "impact"
 
 -- in the order of the usage line
 abbrev pub commands : List Command
 commands = command.Picture ∷ command.Draw drawing.Trace ∷ command.Draw drawing.Vcd ∷ command.Draw drawing.Csv ∷ command.Windows ∷ command.Faults ∷ command.Tell telling.Certify
-    ∷ command.Tell telling.Margins ∷ command.Tell telling.When ∷ command.Tell telling.Warnings ∷ command.Chain ∷ command.Impact ∷ []
+    ∷ command.Tell telling.Margins ∷ command.Tell telling.When ∷ command.Tell telling.Warnings ∷ command.Chain ∷ []
 
 -- the command of this word
 unfoldable pub command_named : List ℕ → Option Command
@@ -119,16 +118,6 @@ chain_request ws = chain_by ws.file ws.names
 abbrev pub asked_chain : List (List ℕ) → Option Request
 asked_chain ws = option_and_then chain_request (chain_given_by (chain_app (word_of command.Chain)) ws)
 
-abbrev pub impact_by : Option (List ℕ) → Option (List ℕ) → Option Request
-impact_by (Some old) (Some new) = Some (request.Impact old new)
-impact_by _ _ = None
-
-abbrev pub impact_request : PairWords → Option Request
-impact_request ws = impact_by ws.old ws.new
-
-abbrev pub asked_impact : List (List ℕ) → Option Request
-asked_impact ws = option_and_then impact_request (pair_given_by (pair_app (word_of command.Impact)) ws)
-
 -- what a command is asked by the words from its own on
 abbrev pub asked : Command → List (List ℕ) → Option Request
 asked (command.Draw d) ws = asked_drawing d ws
@@ -137,7 +126,6 @@ asked command.Windows ws = asked_windows ws
 asked command.Faults ws = asked_faults ws
 asked (command.Tell t) ws = asked_telling t ws
 asked command.Chain ws = asked_chain ws
-asked command.Impact ws = asked_impact ws
 
 -- What the words ask for. The first is the program's name and isn't looked at. `clap` decides which words stand for which
 -- arguments.

@@ -37,9 +37,12 @@ use Rattle.dk_show.specs.declared.refusal.Refusal.{Refusal}
 use Rattle.dk_show.specs.declared.refusal.Refusal.TheVariants as why
 use Rattle.dk_show.specs.declared.status.Status.{Status}
 use Rattle.dk_show.specs.declared.status.Status.TheVariants as status
-pub use Rattle.dk_show.specs.Answers.{Files, Says}
-use Rattle.dk_show.specs.Impacts.{IsOfImpact}
+use Rattle.dk_show.specs.Answers.{refusal_status, refusal_text}
 use Rattle.dk_show.specs.Meaning.{meaning}
+
+-- the names and what they hold
+abbrev pub Files : Type 0
+Files = List ℕ → Option (List ℕ)
 
 -- the text of a ledger's ticks from `from` up to before `to`
 abbrev pub drawn_text : Drawing → ℕ → ℕ → Journal → List ℕ
@@ -55,6 +58,9 @@ from_of (Some range) = range.from
 abbrev pub to_of : Option Range → ℕ → ℕ
 to_of None n = n
 to_of (Some range) n = range.to
+
+abbrev pub Says : Refusal → List ℕ → Status → Type 0
+Says e text ended = (text ≡ refusal_text e) × (ended ≡ refusal_status e)
 
 -- the range ends within the ledger, and this is its text
 pub record IsDrawn (r : RangeRequest) (j : Journal) (text : List ℕ) (ended : Status) : Type 0 where
@@ -213,7 +219,6 @@ IsOfRequest (Some (request.Tell t file)) at text ended =
     IsOfNamed at file MAX_CONFIG_BYTES why.LongConfig (IsOfDocument t) text ended
 IsOfRequest (Some (request.Chain r)) at text ended =
     IsOfNamed at r.file MAX_CONFIG_BYTES why.LongConfig (IsOfChain r) text ended
-IsOfRequest (Some (request.Impact old new)) at text ended = IsOfImpact at old new text ended
 
 -- the text and the status are the output of the words and the files
 abbrev pub IsOutput : List (List ℕ) → Files → List ℕ → Status → Type 0

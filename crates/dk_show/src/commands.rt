@@ -39,12 +39,10 @@ pub(crate) enum Command {
     Tell(Telling),
     /// How long after an event a chain of processes has answered it.
     Chain,
-    /// What a change of the configuration does to each process.
-    Impact,
 }
 
 /// In the order of the usage line.
-const COMMANDS: [Command; 12] = [
+const COMMANDS: [Command; 11] = [
     Command::Picture,
     Command::Draw(Drawing::Trace),
     Command::Draw(Drawing::Vcd),
@@ -56,7 +54,6 @@ const COMMANDS: [Command; 12] = [
     Command::Tell(Telling::When),
     Command::Tell(Telling::Warnings),
     Command::Chain,
-    Command::Impact,
 ];
 
 impl Command {
@@ -76,7 +73,6 @@ impl Command {
             Command::Tell(Telling::When) => "when",
             Command::Tell(Telling::Warnings) => "warnings",
             Command::Chain => "chain",
-            Command::Impact => "impact",
         }
     }
 

@@ -6,8 +6,6 @@ mod chains;
 mod commands;
 mod faults;
 mod files;
-mod impact_words;
-mod impacts;
 mod loading;
 mod numbers;
 mod pictures;

@@ -11,7 +11,6 @@ use crate::Refusal;
 use crate::chains::chain_plan;
 use crate::faults::faults_plan;
 use crate::files::file_at;
-use crate::impacts::impact_plan;
 use crate::pictures::picture_plan;
 use crate::request::{Range, RangeRequest, Request, meaning};
 use crate::telling::telling_plan;
@@ -100,7 +99,6 @@ fn of_request<D: Depot>(alloc: Global, request: &Request, depot: &mut D) -> Resu
         Request::Faults(file) => faults_plan(alloc, file.as_str(), depot),
         Request::Tell(telling, file) => telling_plan(alloc, *telling, file.as_str(), depot),
         Request::Chain(request) => chain_plan(alloc, request, depot),
-        Request::Impact(old, new) => impact_plan(alloc, old.as_str(), new.as_str(), depot),
     }
 }
 

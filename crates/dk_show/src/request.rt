@@ -6,7 +6,6 @@ ghost use Rattle.dk_show.specs.Meaning.{asked, asked_drawing, asked_faults, aske
 
 use crate::chain_words::{ChainRequest, asked_chain};
 use crate::commands::{Command, Drawing, Telling};
-use crate::impact_words::asked_impact;
 use crate::numbers::ticks_in;
 use crate::words::{Given, WindowsGiven, read_file_word, read_range_words, read_windows_words};
 use dk_config::{NoMemory, Text};
@@ -42,8 +41,6 @@ pub(crate) enum Request {
     Tell(Telling, Text),
     /// How long after an event a chain of processes has answered it.
     Chain(ChainRequest),
-    /// What the change from the configuration in the first file to that in the second does to each process.
-    Impact(Text, Text),
 }
 
 /// Both ends of the range, the first below the second, or none of them; else nothing.
@@ -188,7 +185,6 @@ fn asked(alloc: Global, command: Command, words: &[String]) -> Result<Option<Req
         Command::Faults => asked_faults(alloc, words),
         Command::Tell(telling) => asked_telling(alloc, telling, words),
         Command::Chain => asked_chain(alloc, words),
-        Command::Impact => asked_impact(alloc, words),
     }
 }
 
