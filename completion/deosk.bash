@@ -56,7 +56,6 @@ _deosk_arguments() {
 _deosk_show_arguments() {
     case ${COMP_WORDS[first]}:$((COMP_CWORD - first)):$word in
     windows:*:-* | windows:2:*) COMPREPLY=($(compgen -W --strict -- "$word")) ;;
-    chain:[2-9]:* | chain:[1-3][0-9]:*) _deosk_processes "${COMP_WORDS[first + 1]}" ;;
     svg:1:* | trace:1:* | vcd:1:* | csv:1:* | windows:1:*) _deosk_files .txt ;;
     *:1:*) _deosk_files .toml ;;
     esac
