@@ -62,5 +62,5 @@ _deosk_show_arguments() {
 }
 
 _deosk_commands='certify run inspect plan harmonise migrate asm dis ledger audit gen'
-_deosk_show_commands='svg trace vcd csv windows faults certify margins when warnings chain'
+_deosk_show_commands='svg trace vcd csv windows faults certify margins when warnings'
 complete -F _deosk deosk deosk-show try

@@ -1,5 +1,5 @@
 -- Where a text stands with the status of what is done, no other status stands.
-use Rattle.std.proofs.Common.{ℕ, ◌≡◌, ◌∙◌, ◌⊎◌, ◌<◌, inl, inr, List, [], ◌∷◌, length, reverse, sym, ap, subst, refl, arith}
+use Rattle.std.proofs.Common.{ℕ, ◌≡◌, ◌∙◌, ◌⊎◌, ◌<◌, inl, inr, List, length, reverse, sym, ap, subst, refl, arith}
 use Rattle.std.specs.Prelude.{Bool, Option, Some, None, IfSome, Result, Ok, Err}
 use Rattle.dk_config.specs.declared.TheConstants.{MAX_CONFIG_BYTES, MAX_LEDGER_BYTES}
 use Rattle.dk_config.specs.Configuration.{Configuration}
@@ -24,10 +24,8 @@ use Rattle.dk_show.specs.declared.refusal.Refusal.TheVariants as why
 use Rattle.dk_show.specs.declared.status.Status.{Status}
 use Rattle.dk_show.specs.declared.status.Status.TheVariants as status
 use Rattle.dk_show.specs.Answers.{IsAnswer, IsFaulty, refusal_status}
-use Rattle.dk_chain_report.specs.Finding.{processes_named}
-use Rattle.dk_show.specs.Chain.{ChainAsk}
 use Rattle.dk_show.specs.Meaning.{meaning}
-use Rattle.dk_show.specs.Output.{Files, IsBehind, IsChainIn, IsChainOf, IsDrawn, IsOfBytes, IsOfChain, IsOfDocument, IsOfFaults, IsOfNamed, IsOfPicture, IsOfReading, IsOfRequest, IsOfWindows, IsOutput, IsPicture, IsToldOf, StandsInOutput, end_of, groups_asked, to_of}
+use Rattle.dk_show.specs.Output.{Files, IsBehind, IsDrawn, IsOfBytes, IsOfDocument, IsOfFaults, IsOfNamed, IsOfPicture, IsOfReading, IsOfRequest, IsOfWindows, IsOutput, IsPicture, IsToldOf, StandsInOutput, end_of, groups_asked, to_of}
 
 drawn_ends : (r : RangeRequest) (j k : Journal) (t u : List ℕ) (s : Status) → j ≡ k
     → IsDrawn r j t status.Done ⊎ IsBehind r j t status.Done → IsDrawn r k u s ⊎ IsBehind r k u s → s ≡ status.Done
@@ -77,20 +75,6 @@ told_ends telling.When c (verdict.Accepted rows) x y s one two = two.1
 told_ends telling.When c (verdict.Fails level needs window) x y s one two = let bad = one.1 in cc
 told_ends telling.Warnings c v x y s one two = two.1
 
-chain_ends : (c : Configuration) (v : Verdict) (chain : Option (List ℕ)) (x y : List ℕ) (s : Status) → IsChainOf c v chain x status.Done → IsChainOf c v chain y s → s ≡ status.Done
-chain_ends c v None x y s one two = let bad = one.1 in cc
-chain_ends c (verdict.Fails level needs window) (Some chain) x y s one two = let bad = one.1 in cc
-chain_ends c (verdict.Accepted rows) (Some []) x y s one two = absurd one
-chain_ends c (verdict.Accepted rows) (Some (first ∷ rest)) x y s one two = two.1
-
-chain_in_ends : (r : ChainAsk) (read : Result Configuration LoadFault) (x y : List ℕ) (s : Status) → IsChainIn r read x status.Done → IsChainIn r read y s → s ≡ status.Done
-chain_in_ends r (Ok c) x y s one two = chain_ends c (verdict_of c) (processes_named c (r.first ∷ r.rest)) x y s one two
-chain_in_ends r (Err fault.NotToml) x y s one two = let bad = one.1 in cc
-chain_in_ends r (Err (fault.Config f)) x y s one two = let bad = one.1 in cc
-chain_in_ends r (Err fault.Depot) x y s one two = absurd one
-chain_in_ends r (Err (fault.TooLong p)) x y s one two = absurd one
-chain_in_ends r (Err fault.NoMemory) x y s one two = absurd one
-
 reading_ends : (t : Telling) (r : Result Configuration LoadFault) (x y : List ℕ) (s : Status) → IsOfReading t r x status.Done → IsOfReading t r y s → s ≡ status.Done
 reading_ends t (Ok c) x y s one two = told_ends t c (verdict_of c) x y s one two
 reading_ends t (Err fault.NotToml) x y s one two = let bad = one.1 in cc
@@ -125,8 +109,6 @@ request_ends (Some (request.Faults file)) at x y s one two =
     named_ends at file MAX_CONFIG_BYTES why.LongConfig IsOfFaults x y s (λ bad. cc) (λ bytes a b. b.1 ∙ sym a.1) one two
 request_ends (Some (request.Tell t file)) at x y s one two =
     named_ends at file MAX_CONFIG_BYTES why.LongConfig (IsOfDocument t) x y s (λ bad. cc) (λ bytes a b. reading_ends t (reading bytes) x y s a b) one two
-request_ends (Some (request.Chain r)) at x y s one two =
-    named_ends at r.file MAX_CONFIG_BYTES why.LongConfig (IsOfChain r) x y s (λ bad. cc) (λ bytes a b. chain_in_ends r (reading bytes) x y s a b) one two
 
 -- a call that ends otherwise has met the outside or want of memory
 pub completes : (files : Option Files) (words : List (List ℕ)) (s : Status) → (IsAnswer s → (y : List ℕ) × StandsInOutput files words y s)

@@ -33,7 +33,6 @@ loud why.Usage s silent other = refl
 loud why.LongConfig s silent other = refl
 loud why.NotToml s silent other = refl
 loud (why.Rule f) s silent other = refl
-loud why.NoProcess s silent other = refl
 loud (why.Uncertified level needs window) s silent other = refl
 loud why.LongLedger s silent other = refl
 loud (why.LedgerLine line) s silent other = refl

@@ -3,4 +3,3 @@ pub mod Leaving
 pub mod Picturing
 pub mod Planning
 pub mod Ends
-mod FewNames

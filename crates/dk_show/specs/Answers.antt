@@ -11,7 +11,7 @@ use Rattle.dk_show.specs.declared.status.Status.TheVariants as status
 
 abbrev pub usage_text : List ℕ
 usage_text =
-    codes "usage: deosk-show svg LEDGER [FROM TO] | trace LEDGER [FROM TO] | vcd LEDGER [FROM TO] | csv LEDGER [FROM TO] | windows LEDGER [--strict] | faults FILE | certify FILE | margins FILE | when FILE | warnings FILE | chain FILE NAME...\n"
+    codes "usage: deosk-show svg LEDGER [FROM TO] | trace LEDGER [FROM TO] | vcd LEDGER [FROM TO] | csv LEDGER [FROM TO] | windows LEDGER [--strict] | faults FILE | certify FILE | margins FILE | when FILE | warnings FILE\n"
 
 -- the end of the line of what has more bytes than may be read
 abbrev pub longer_than : ℕ → List ℕ
@@ -26,7 +26,6 @@ refusal_text why.NotToml = codes "config: not TOML\n"
 refusal_text (why.Rule f) = fault_text f
 refusal_text (why.Uncertified level needs window) = failing_text level needs window
 refusal_text (why.LongProgram process) = codes "program: process " ++ (decimal process ++ longer_than MAX_PROGRAM_BYTES)
-refusal_text why.NoProcess = codes "chain: no such process\n"
 refusal_text why.LongLedger = codes "ledger:" ++ longer_than MAX_LEDGER_BYTES
 refusal_text (why.LedgerLine line) = codes "ledger: line " ++ (decimal line ++ codes "\n")
 refusal_text (why.RangeEnds ticks) = codes "range: ledger ends at " ++ (decimal ticks ++ codes "\n")
@@ -42,7 +41,6 @@ refusal_status why.NotToml = status.Config
 refusal_status (why.Rule f) = status.Config
 refusal_status (why.Uncertified level needs window) = status.Uncertified
 refusal_status (why.LongProgram process) = status.Refused
-refusal_status why.NoProcess = status.Refused
 refusal_status why.LongLedger = status.Refused
 refusal_status (why.LedgerLine line) = status.Refused
 refusal_status (why.RangeEnds ticks) = status.Refused

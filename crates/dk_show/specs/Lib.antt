@@ -1,7 +1,6 @@
 pub mod Answers
 pub mod Numbers
 pub mod Clap
-pub mod Chain
 pub mod Meaning
 pub mod Output
 pub mod Leaves

@@ -1,5 +1,5 @@
 -- What the words mean.
-use Rattle.std.specs.Prelude.{ℕ, ◌≡◌, ◌<◌, ◌==◌, ◌&&◌, ◌||◌, not, Bool, codes, drop, find, length, nat_lt, slice_get, slice_index, unwrap_or, option_and_then, option_map, List, [], ◌∷◌, Option, Some, None, if◌then◌else◌}
+use Rattle.std.specs.Prelude.{ℕ, ◌≡◌, ◌==◌, ◌&&◌, ◌||◌, not, Bool, codes, drop, find, length, nat_lt, slice_get, slice_index, unwrap_or, option_and_then, option_map, List, [], ◌∷◌, Option, Some, None, if◌then◌else◌}
 use Rattle.std.specs.List.{list_all}
 use Rattle.std.specs.Str.{bytes_eq}
 use Rattle.dk_show.specs.declared.commands.Drawing.{Drawing}
@@ -11,8 +11,6 @@ use Rattle.dk_show.specs.declared.commands.Command.TheVariants as command
 use Rattle.dk_show.specs.declared.request.Range.{Range}
 use Rattle.dk_show.specs.declared.request.Request.{Request}
 use Rattle.dk_show.specs.declared.request.Request.TheVariants as request
-use Rattle.dk_config.specs.declared.TheConstants.{MAX_PROCESSES}
-use Rattle.dk_show.specs.Chain.{ChainWords, chain_app, chain_given_by}
 use Rattle.dk_show.specs.Clap.{WindowsWords, Words, file_app, file_given_by, given_by, range_app, windows_app, windows_given_by}
 use Rattle.dk_show.specs.Numbers.{ticks_in}
 
@@ -28,12 +26,11 @@ word_of (command.Tell telling.Certify) = codes "certify"
 word_of (command.Tell telling.Margins) = codes "margins"
 word_of (command.Tell telling.When) = codes "when"
 word_of (command.Tell telling.Warnings) = codes "warnings"
-word_of command.Chain = codes "chain"
 
 -- in the order of the usage line
 abbrev pub commands : List Command
 commands = command.Picture ∷ command.Draw drawing.Trace ∷ command.Draw drawing.Vcd ∷ command.Draw drawing.Csv ∷ command.Windows ∷ command.Faults ∷ command.Tell telling.Certify
-    ∷ command.Tell telling.Margins ∷ command.Tell telling.When ∷ command.Tell telling.Warnings ∷ command.Chain ∷ []
+    ∷ command.Tell telling.Margins ∷ command.Tell telling.When ∷ command.Tell telling.Warnings ∷ []
 
 -- the command of this word
 unfoldable pub command_named : List ℕ → Option Command
@@ -100,24 +97,6 @@ asked_telling t ws = option_map (request.Tell t) (file_given_by (file_app (word_
 abbrev pub asked_faults : List (List ℕ) → Option Request
 asked_faults ws = option_map request.Faults (file_given_by (file_app (word_of command.Faults)) ws)
 
--- one process, and up to 31 more
-abbrev pub chain_of : List ℕ → List (List ℕ) → Option Request
-chain_of file [] = None
-chain_of file (first ∷ rest) =
-    if nat_lt (length rest) MAX_PROCESSES
-    then Some (request.Chain (record { file = file; first = first; rest = rest }))
-    else None
-
-abbrev pub chain_by : Option (List ℕ) → Option (List (List ℕ)) → Option Request
-chain_by (Some file) (Some names) = chain_of file names
-chain_by _ _ = None
-
-abbrev pub chain_request : ChainWords → Option Request
-chain_request ws = chain_by ws.file ws.names
-
-abbrev pub asked_chain : List (List ℕ) → Option Request
-asked_chain ws = option_and_then chain_request (chain_given_by (chain_app (word_of command.Chain)) ws)
-
 -- what a command is asked by the words from its own on
 abbrev pub asked : Command → List (List ℕ) → Option Request
 asked (command.Draw d) ws = asked_drawing d ws
@@ -125,7 +104,6 @@ asked command.Picture ws = asked_picture ws
 asked command.Windows ws = asked_windows ws
 asked command.Faults ws = asked_faults ws
 asked (command.Tell t) ws = asked_telling t ws
-asked command.Chain ws = asked_chain ws
 
 -- What the words ask for. The first is the program's name and isn't looked at. `clap` decides which words stand for which
 -- arguments.
@@ -134,11 +112,6 @@ meaning words =
     if list_all is_taken_word (drop 1 words)
     then option_and_then (λ c. asked c (drop 1 words)) (command_named (word_at words 1))
     else None
-
--- of a chain, that it has at most 32 processes
-abbrev pub HasFewNames : Request → Type 0
-HasFewNames (request.Chain r) = length r.rest < MAX_PROCESSES
-HasFewNames _ = Unit {0}
 
 abbrev pub MeansNothing : List (List ℕ) → Type 0
 MeansNothing words = meaning words ≡ None

@@ -37,12 +37,10 @@ pub(crate) enum Command {
     /// All that is wrong with the document of a configuration.
     Faults,
     Tell(Telling),
-    /// How long after an event a chain of processes has answered it.
-    Chain,
 }
 
 /// In the order of the usage line.
-const COMMANDS: [Command; 11] = [
+const COMMANDS: [Command; 10] = [
     Command::Picture,
     Command::Draw(Drawing::Trace),
     Command::Draw(Drawing::Vcd),
@@ -53,7 +51,6 @@ const COMMANDS: [Command; 11] = [
     Command::Tell(Telling::Margins),
     Command::Tell(Telling::When),
     Command::Tell(Telling::Warnings),
-    Command::Chain,
 ];
 
 impl Command {
@@ -72,7 +69,6 @@ impl Command {
             Command::Tell(Telling::Margins) => "margins",
             Command::Tell(Telling::When) => "when",
             Command::Tell(Telling::Warnings) => "warnings",
-            Command::Chain => "chain",
         }
     }
 

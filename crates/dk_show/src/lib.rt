@@ -1,8 +1,6 @@
 //! What the program deosk-show does, over any depot and any sink.
 #![tactic(auto)]
 
-mod chain_words;
-mod chains;
 mod commands;
 mod faults;
 mod files;

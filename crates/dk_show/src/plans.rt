@@ -3,12 +3,11 @@ ghost use Rattle.std.specs.Prelude.{◌≡◌, ◌≢◌, ◌⊎◌, ◌^◌, �
 ghost use Rattle.std.specs.Result.{IsErrAnd};
 ghost use Rattle.dk_ledger.specs.Readable.{Journal, IsReadable, text_of};
 ghost use Rattle.dk_show.specs.Leaves.{Reads};
-ghost use Rattle.dk_show.specs.Meaning.{HasFewNames, MeansNothing};
+ghost use Rattle.dk_show.specs.Meaning.{MeansNothing};
 ghost use Rattle.dk_show.specs.Output.{from_of, to_of, IsBehind, IsDrawn, IsOfBytes, IsOfNamed, IsOfRequest, IsOutput};
 ghost use Rattle.dk_show.specs.Works.{IsMade, IsReady, IsUsageOrNoMemory, Plans};
 
 use crate::Refusal;
-use crate::chains::chain_plan;
 use crate::faults::faults_plan;
 use crate::files::file_at;
 use crate::pictures::picture_plan;
@@ -85,8 +84,7 @@ fn drawing_plan<D: Depot>(
 
 /// What a request comes to.
 fn of_request<D: Depot>(alloc: Global, request: &Request, depot: &mut D) -> Result<Work, Refusal>
-    requires given { (D.seen depot.old).given < 2 ^ 62 }
-    requires few { HasFewNames request.now }
+    requires { (D.seen depot.old).given < 2 ^ 62 }
     ensures plans { IfSome (D.seen depot.old).files (λ at. Plans (IsOfRequest (Some request.now) at) result) }
     ensures ready { IfOk result IsReady }
     ensures late { IfErr result (λ e. e ≢ Refusal.Usage) }
@@ -98,7 +96,6 @@ fn of_request<D: Depot>(alloc: Global, request: &Request, depot: &mut D) -> Resu
         Request::Windows { ledger, strict } => windows_plan(alloc, ledger.as_str(), *strict, depot),
         Request::Faults(file) => faults_plan(alloc, file.as_str(), depot),
         Request::Tell(telling, file) => telling_plan(alloc, *telling, file.as_str(), depot),
-        Request::Chain(request) => chain_plan(alloc, request, depot),
     }
 }
 

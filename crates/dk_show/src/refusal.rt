@@ -21,8 +21,6 @@ pub enum Refusal {
     NotToml,
     /// The configuration breaks this rule first.
     Rule(ConfigFault),
-    /// A name of a chain is that of no process.
-    NoProcess,
     /// The first level that may miss its window, with the ticks that it needs and those of its window.
     Uncertified { level: u8, needs: u64, window: u32 },
     /// The program of the process with this number has more than 65,536 bytes.
@@ -49,7 +47,6 @@ impl Refusal {
             Refusal::LongConfig => Status::Config,
             Refusal::NotToml => Status::Config,
             Refusal::Rule(_) => Status::Config,
-            Refusal::NoProcess => Status::Refused,
             Refusal::Uncertified { .. } => Status::Uncertified,
             Refusal::LongProgram(_) => Status::Refused,
             Refusal::LongLedger => Status::Refused,
@@ -69,7 +66,6 @@ impl Refusal {
             Refusal::LongConfig => too_long(alloc, "config:", MAX_CONFIG_BYTES),
             Refusal::NotToml => String::from_str(alloc, "config: not TOML\n"),
             Refusal::Rule(fault) => fault_text(alloc, *fault),
-            Refusal::NoProcess => String::from_str(alloc, "chain: no such process\n"),
             Refusal::Uncertified {
                 level,
                 needs,
@@ -96,7 +92,7 @@ impl From<NoMemory> for Refusal {
 
 /// The usage line. It lists the commands that stand.
 const USAGE: &str =
-    "usage: deosk-show svg LEDGER [FROM TO] | trace LEDGER [FROM TO] | vcd LEDGER [FROM TO] | csv LEDGER [FROM TO] | windows LEDGER [--strict] | faults FILE | certify FILE | margins FILE | when FILE | warnings FILE | chain FILE NAME...\n";
+    "usage: deosk-show svg LEDGER [FROM TO] | trace LEDGER [FROM TO] | vcd LEDGER [FROM TO] | csv LEDGER [FROM TO] | windows LEDGER [--strict] | faults FILE | certify FILE | margins FILE | when FILE | warnings FILE\n";
 
 fn uncertified_text(alloc: Global, level: u8, needs: u64, window: u32) -> Result<String, AllocError>
     ensures { IfOk result (λ s. string_bytes s ≡ refusal_text (Refusal.Uncertified level needs window)) }

@@ -4,7 +4,6 @@ ghost use Rattle.std.specs.List.{list_all};
 ghost use Rattle.dk_show.specs.Numbers.{ticks_in};
 ghost use Rattle.dk_show.specs.Meaning.{asked, asked_drawing, asked_faults, asked_picture, asked_telling, asked_windows, is_plain_word, is_taken_word, meaning, picture_request, range_by, range_of, range_request, windows_request, word_at};
 
-use crate::chain_words::{ChainRequest, asked_chain};
 use crate::commands::{Command, Drawing, Telling};
 use crate::numbers::ticks_in;
 use crate::words::{Given, WindowsGiven, read_file_word, read_range_words, read_windows_words};
@@ -39,8 +38,6 @@ pub(crate) enum Request {
     Faults(Text),
     /// What is told of the configuration in the file of this name.
     Tell(Telling, Text),
-    /// How long after an event a chain of processes has answered it.
-    Chain(ChainRequest),
 }
 
 /// Both ends of the range, the first below the second, or none of them; else nothing.
@@ -67,7 +64,7 @@ fn range_of(from: &str, to: &str) -> Option<Option<Range>>
     }
 }
 
-pub(crate) fn copy_of(alloc: Global, word: &str) -> Result<Text, NoMemory>
+fn copy_of(alloc: Global, word: &str) -> Result<Text, NoMemory>
     ensures { IfOk result (λ t. t ≡ word.now) }
 {
     let copy = String::from_str(alloc, word)?;
@@ -184,7 +181,6 @@ fn asked(alloc: Global, command: Command, words: &[String]) -> Result<Option<Req
         Command::Windows => asked_windows(alloc, words),
         Command::Faults => asked_faults(alloc, words),
         Command::Tell(telling) => asked_telling(alloc, telling, words),
-        Command::Chain => asked_chain(alloc, words),
     }
 }
 

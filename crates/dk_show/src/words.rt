@@ -47,7 +47,7 @@ impl<'a> Model for WindowsGiven<'a> {
 }
 
 /// The command with one argument more.
-pub(crate) fn add_argument<'a>(
+fn add_argument<'a>(
     alloc: Global,
     command: Command<'a>,
     name: &'a str,

@@ -22,8 +22,3 @@ returns-in-Windows-clause-plans g c =
     let strict = c.in-Windows.strict in
     let named = subst (λ (name : List ℕ). IfSome files (λ at. Plans (IsOfNamed at name MAX_LEDGER_BYTES why.LongLedger (IsOfWindows strict)) result)) c.as_str-in-Windows.ensures c.windows_plan.ensures.plans in
     subst (λ (r : Request). IfSome files (λ at. Plans (IsOfRequest (Some r) at) result)) (sym c.in-Windows.is) named
-
-pub returns-in-Chain-clause-plans : goal.returns-in-Chain-clause-plans
-returns-in-Chain-clause-plans g c =
-    let files = (g.D.Depot.seen c.args.depot.now).files in
-    subst (λ (r : Request). IfSome files (λ at. Plans (IsOfRequest (Some r) at) c.chain_plan.result)) (sym c.in-Chain.is) c.chain_plan.ensures.plans

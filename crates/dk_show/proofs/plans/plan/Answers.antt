@@ -3,13 +3,7 @@ use Rattle.std.specs.Prelude.{Option, IfSome}
 use Rattle.dk_show.specs.declared.request.Request.{Request}
 use Rattle.dk_show.specs.Output.{IsOfRequest}
 use Rattle.dk_show.specs.Works.{Plans}
-use Rattle.dk_show.proofs.FewNames.{meant_few}
-use Rattle.dk_show.specs.Meaning.{HasFewNames}
 use Rattle.dk_show.proofs.plans.plan.Goals as goal
-
-pub of_request-requires-clause-few : goal.of_request-requires-clause-few
-of_request-requires-clause-few g c =
-    subst (λ (meant : Option Request). IfSome meant HasFewNames) (sym (sym c.in-Some.is ∙ c.in_ok-request.ensures)) (meant_few _)
 
 pub returns-in-Some-clause-plans : goal.returns-in-Some-clause-plans
 returns-in-Some-clause-plans g c =
