@@ -1,6 +1,6 @@
 -- What is written where a command is refused, and the status.
 use Rattle.std.specs.Prelude.{ℕ, Bool, true, false, codes, decimal, List, [], ◌++◌, ◌≡◌, ◌⊎◌}
-use Rattle.dk_config.specs.declared.TheConstants.{MAX_CONFIG_BYTES, MAX_LEDGER_BYTES, MAX_PROGRAM_BYTES}
+use Rattle.dk_config.specs.declared.TheConstants.{MAX_CONFIG_BYTES, MAX_LEDGER_BYTES}
 use Rattle.dk_fault_words.specs.FaultWords.{fault_text}
 use Rattle.dk_certify_report.specs.Certificate.{failing_text}
 use Rattle.dk_picture.specs.declared.reading.TheConstants.{MAX_GROUPS}
@@ -25,7 +25,6 @@ refusal_text why.LongConfig = codes "config:" ++ longer_than MAX_CONFIG_BYTES
 refusal_text why.NotToml = codes "config: not TOML\n"
 refusal_text (why.Rule f) = fault_text f
 refusal_text (why.Uncertified level needs window) = failing_text level needs window
-refusal_text (why.LongProgram process) = codes "program: process " ++ (decimal process ++ longer_than MAX_PROGRAM_BYTES)
 refusal_text why.LongLedger = codes "ledger:" ++ longer_than MAX_LEDGER_BYTES
 refusal_text (why.LedgerLine line) = codes "ledger: line " ++ (decimal line ++ codes "\n")
 refusal_text (why.RangeEnds ticks) = codes "range: ledger ends at " ++ (decimal ticks ++ codes "\n")
@@ -40,7 +39,6 @@ refusal_status why.LongConfig = status.Config
 refusal_status why.NotToml = status.Config
 refusal_status (why.Rule f) = status.Config
 refusal_status (why.Uncertified level needs window) = status.Uncertified
-refusal_status (why.LongProgram process) = status.Refused
 refusal_status why.LongLedger = status.Refused
 refusal_status (why.LedgerLine line) = status.Refused
 refusal_status (why.RangeEnds ticks) = status.Refused

@@ -5,4 +5,3 @@ pub mod Meaning
 pub mod Output
 pub mod Leaves
 pub mod Works
-pub mod Loading

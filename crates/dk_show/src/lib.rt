@@ -4,7 +4,6 @@
 mod commands;
 mod faults;
 mod files;
-mod loading;
 mod numbers;
 mod pictures;
 mod plans;

@@ -3,7 +3,7 @@ ghost use Rattle.dk_show.specs.Answers.{longer_than, refusal_status, refusal_tex
 ghost use Rattle.dk_show.specs.declared.refusal.Refusal.TheVariants as why;
 
 use crate::Status;
-use dk_config::{ConfigFault, MAX_CONFIG_BYTES, MAX_LEDGER_BYTES, MAX_PROGRAM_BYTES, NoMemory};
+use dk_config::{ConfigFault, MAX_CONFIG_BYTES, MAX_LEDGER_BYTES, NoMemory};
 use dk_fault_words::fault_text;
 use dk_picture::MAX_GROUPS;
 use std::alloc::{AllocError, Global};
@@ -23,8 +23,6 @@ pub enum Refusal {
     Rule(ConfigFault),
     /// The first level that may miss its window, with the ticks that it needs and those of its window.
     Uncertified { level: u8, needs: u64, window: u32 },
-    /// The program of the process with this number has more than 65,536 bytes.
-    LongProgram(u32),
     /// The ledger is too long.
     LongLedger,
     /// The first line, counted from 1, by which a ledger is none.
@@ -48,7 +46,6 @@ impl Refusal {
             Refusal::NotToml => Status::Config,
             Refusal::Rule(_) => Status::Config,
             Refusal::Uncertified { .. } => Status::Uncertified,
-            Refusal::LongProgram(_) => Status::Refused,
             Refusal::LongLedger => Status::Refused,
             Refusal::LedgerLine(_) => Status::Refused,
             Refusal::RangeEnds(_) => Status::Refused,
@@ -71,7 +68,6 @@ impl Refusal {
                 needs,
                 window,
             } => uncertified_text(alloc, *level, *needs, *window),
-            Refusal::LongProgram(process) => long_program_text(alloc, *process),
             Refusal::LongLedger => too_long(alloc, "ledger:", MAX_LEDGER_BYTES),
             Refusal::LedgerLine(line) => ledger_line_text(alloc, *line),
             Refusal::RangeEnds(ticks) => range_ends_text(alloc, *ticks),
@@ -105,13 +101,6 @@ fn too_long(alloc: Global, what: &str, most: u32) -> Result<String, AllocError>
     ensures { IfOk result (λ s. string_bytes s ≡ what.now ++ longer_than most) }
 {
     format!(in alloc; "{what} longer than {most} bytes\n")
-}
-
-fn long_program_text(alloc: Global, process: u32) -> Result<String, AllocError>
-    ensures { IfOk result (λ s. string_bytes s ≡ refusal_text (Refusal.LongProgram process)) }
-{
-    let most = MAX_PROGRAM_BYTES;
-    format!(in alloc; "program: process {process} longer than {most} bytes\n")
 }
 
 fn ledger_line_text(alloc: Global, line: u32) -> Result<String, AllocError>
