@@ -1,8 +1,9 @@
 -- What a program leaves at the edge.
-use Rattle.std.specs.Prelude.{ℕ, ◌≡◌, List, Result, Ok, Err}
+use Rattle.std.specs.Prelude.{ℕ, ◌≡◌, List, Option, IfSome, Result, Ok, Err}
 use Rattle.dk_outside.specs.Counts.{Rises}
 use Rattle.dk_outside.specs.Views.{DepotView, SinkView}
 use Rattle.dk_edge.specs.OutSink.{IsFrontOf}
+use Rattle.dk_edge.specs.Words.{usable}
 use Rattle.dk_edge.specs.declared.running.EdgeFault.{EdgeFault}
 use Rattle.dk_edge.specs.declared.running.EdgeFault.TheVariants.{NoMemory, Output}
 
@@ -28,3 +29,11 @@ abbrev pub Ran : {T : Type 0} → (List (List ℕ) → DepotView → DepotView �
 Ran ends words depot_old depot_new out_old out_new (Ok status) = ends words depot_old depot_new out_old out_new status
 Ran ends words depot_old depot_new out_old out_new (Err Output) = WasCut ends words depot_old depot_new out_old out_new
 Ran ends words depot_old depot_new out_old out_new (Err NoMemory) = (depot_new ≡ depot_old) × (out_new ≡ out_old)
+
+-- One call was made, with all words that were given where these are told, and with some words else; or none was.
+pub record RanOnce {T : Type 0} (ends : List (List ℕ) → DepotView → DepotView → SinkView → SinkView → T → Type 0)
+    (told : Option (List (Option (List ℕ)))) (depot_old depot_new : DepotView) (out_old out_new : SinkView)
+    (result : Result T EdgeFault) : Type 0 where
+  pub words : List (List ℕ)
+  pub given : IfSome told (λ all. words ≡ usable all)
+  pub ran : Ran ends words depot_old depot_new out_old out_new result

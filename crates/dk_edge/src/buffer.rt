@@ -1,5 +1,5 @@
 //! Bytes that wait to be handed on.
-ghost use Rattle.std.specs.Prelude.{◌≡◌, ◌<◌, ◌≤◌, ◌++◌, [], false, IfOk, drop, length, take, vec_len, vec_capacity};
+ghost use Rattle.std.specs.Prelude.{◌≡◌, ◌<◌, ◌≤◌, ◌++◌, [], false, true, IfOk, drop, length, take, vec_len, vec_capacity};
 
 use std::alloc::{AllocError, Global};
 
@@ -27,22 +27,35 @@ impl Buffer {
     }
 
     /// What waits.
-    #[inline(always)]
     pub(crate) fn waiting(&self) -> &[u8]
         ensures { result.now ≡ waiting_in self.now }
     {
         &self.bytes[self.start..]
     }
 
-    #[inline(always)]
     pub(crate) fn is_full(&self) -> bool
         ensures { result ≡ false → HasRoom self.now }
     {
         self.bytes.len() == ROOM
     }
 
-    /// Takes the first bytes of a piece, as many as there is room for.
+    /// Takes a piece whole, where there is room for it.
     #[inline(always)]
+    pub(crate) fn take_whole(&mut self, piece: &[u8]) -> bool
+        ensures taken { result ≡ true → waiting_in self.new ≡ waiting_in self.old ++ piece.now }
+        ensures left { result ≡ false → self.new ≡ self.old }
+    {
+        if piece.len() > ROOM - self.bytes.len() {
+            return false;
+        }
+        match self.bytes.extend_from_slice(piece) {
+            Ok(()) => true,
+            Err(_) => unreachable!(),
+        }
+    }
+
+    /// Takes the first bytes of a piece, as many as there is room for.
+    #[inline(never)]
     pub(crate) fn take(&mut self, piece: &[u8]) -> usize
         ensures part { result ≤ length piece.now }
         ensures some { HasRoom self.old → 0 < length piece.now → 0 < result }

@@ -94,6 +94,10 @@ impl<S: Sink + Drop> Sink for OutSink<S> {
         ensures faults { (out_view S.seen self.old).faults ≤ (out_view S.seen self.new).faults }
         ensures same { (out_view S.seen self.new).capacity ≡ (out_view S.seen self.old).capacity }
     {
+        // Mostly there is room for the whole piece.
+        if self.held.take_whole(piece) {
+            return Ok(piece.len());
+        }
         if self.held.is_full() {
             self.hand_on()?;
         }

@@ -1,9 +1,8 @@
 //! What a program does at the edge.
-ghost use Rattle.std.specs.Prelude.{◌^◌, ◌<◌, ℕ, List, IfSome, map, string_bytes};
+ghost use Rattle.std.specs.Prelude.{◌^◌, ◌<◌, ℕ, List, map, string_bytes};
 ghost use Rattle.dk_outside.specs.Views.{DepotView, SinkView};
-ghost use Rattle.dk_edge.specs.Running.{Ran, WasHandedOn};
+ghost use Rattle.dk_edge.specs.Running.{RanOnce, WasHandedOn};
 ghost use Rattle.dk_edge.specs.OutSink.{out_view};
-ghost use Rattle.dk_edge.specs.Words.{usable};
 
 use crate::out_sink::OutSink;
 use crate::words::{Words, words_of};
@@ -41,7 +40,7 @@ pub trait Program {
 /// Makes the one call of the program, with the words that were given, and hands its output on.
 ///
 /// An Ok is what the call says of the depot and of the output itself. Of a fault of the output it is told that the
-/// output took the front of what the call wrote.
+/// output took the front of what the call wrote. Where the words aren't told, that holds of some words.
 pub fn run<P: Program, W: Words, D: Depot, S: Sink + Drop>(
     program: &P,
     alloc: Global,
@@ -50,8 +49,7 @@ pub fn run<P: Program, W: Words, D: Depot, S: Sink + Drop>(
     out: S,
 ) -> (Result<P::Status, EdgeFault>, S)
     requires { (D.seen depot.old).given < 2 ^ 62 }
-    ensures { IfSome (W.told given.now) (λ words. Ran P.ends (usable words) (D.seen depot.old) (D.seen depot.new)
-        (S.seen out) (S.seen result.1) result.0) }
+    ensures { RanOnce P.ends (W.told given.now) (D.seen depot.old) (D.seen depot.new) (S.seen out) (S.seen result.1) result.0 }
 {
     let words = match words_of(given, alloc) {
         Ok(words) => words,
