@@ -35,27 +35,32 @@ on_ok (Err e) x P is h = absurd (cc)
 pub rises_later : (a b c : ℕ) → a ≤ b → Rises b c → Rises a c
 rises_later a b c before rises = λ short. (let later = rises short in omega (arith, before, later))
 
+-- a fault that was passed on
+pub passed_back : {T U E : Type 0} (r : Result U E) (x y : E) → IsErrAnd r (λ z. z ≡ x) → IsErrOf {T = T} {E = E} (Err x) y → IsErrOf r y
+passed_back r x y at e = grind arith
+
 -- Texts of which the first were written.
 module _ (whole before : List ℕ) where
   -- the next write failed
-  pub cut_short : {A B F : Type 0} (old mid new : SinkView) (f : F) (r : Result B WriteFault) (piece more : List ℕ) → IsErr r → whole ≡ before ++ (piece ++ more)
-      → Appends old.written mid.written before → old.faults ≤ mid.faults → mid.capacity ≡ old.capacity
+  pub cut_short : {A B F : Type 0} (old mid new : SinkView) (f : F) (r : Result B WriteFault) (piece more : List ℕ) → IsErrAnd r (λ e. e ≡ WriteFault.Sink)
+      → whole ≡ before ++ (piece ++ more) → Appends old.written mid.written before → mid.faults ≡ old.faults → mid.capacity ≡ old.capacity
       → Writes {A = A} mid new (Err f) piece → Puts old new r whole
-  cut_short old mid new f (Ok x) piece more fails parts first faults room w = absurd (let no : false ≡ true = fails in cc)
-  cut_short old mid new f (Err e) piece more fails parts first faults room w =
+  cut_short old mid new f (Ok x) piece more sink parts first faults room w = absurd sink
+  cut_short old mid new f (Err e) piece more sink parts first faults room w =
       let later = w.faults in
       record {
         ok = tt;
         err = subst (AppendsPrefix old.written new.written) (sym parts)
             (AppendsPrefix-after old.written mid.written new.written before (piece ++ more) first (AppendsPrefix-append mid.written new.written piece more w.err));
-        cause = λ is. rises_later old.faults mid.faults new.faults faults (w.cause refl);
+        cause = λ is. rises_later old.faults mid.faults new.faults (omega (arith, faults)) (w.cause refl);
+        stays = λ never. (let is : e ≡ WriteFault.Sink = sink in absurd (never (cc)));
         faults = omega (arith, faults, later);
         same = w.same ∙ room;
       }
 
   -- memory ran out
   pub stopped : {B : Type 0} (old mid : SinkView) (r : Result B WriteFault) (more : List ℕ) → IsErr r → (IsErrOf r WriteFault.Sink → ⊥) → whole ≡ before ++ more
-      → Appends old.written mid.written before → old.faults ≤ mid.faults → mid.capacity ≡ old.capacity
+      → Appends old.written mid.written before → mid.faults ≡ old.faults → mid.capacity ≡ old.capacity
       → Puts old mid r whole
   stopped old mid (Ok x) more fails never parts first faults room = absurd (let no : false ≡ true = fails in cc)
   stopped old mid (Err e) more fails never parts first faults room =
@@ -69,19 +74,21 @@ module _ (whole before : List ℕ) where
               (subst (Appends old.written mid.written) (sym (take-append_seam before more)) first),
         );
         cause = λ is. absurd (never is);
-        faults = faults;
+        stays = λ _. faults;
+        faults = omega (arith, faults);
         same = room;
       }
 
   -- all were written
-  pub all_put : {B : Type 0} (old new : SinkView) (x : B) → whole ≡ before → Appends old.written new.written before → old.faults ≤ new.faults → new.capacity ≡ old.capacity
+  pub all_put : {B : Type 0} (old new : SinkView) (x : B) → whole ≡ before → Appends old.written new.written before → new.faults ≡ old.faults → new.capacity ≡ old.capacity
       → Puts old new (Ok x) whole
   all_put old new x same first faults room =
       record {
         ok = subst (Appends old.written new.written) (sym same) first;
         err = tt;
         cause = λ is. absurd (cc);
-        faults = faults;
+        stays = λ _. faults;
+        faults = omega (arith, faults);
         same = room;
       }
 
@@ -95,6 +102,7 @@ module _ (whole before : List ℕ) where
         ok = subst (Appends old.written new.written) (sym parts) (Appends-append old.written mid.written new.written before more v.ok w.ok);
         err = tt;
         cause = λ is. absurd (cc);
+        stays = λ _. w.stays (λ is. absurd (cc)) ∙ v.stays;
         faults = omega (arith, first, later);
         same = w.same ∙ v.same;
       }
@@ -105,6 +113,7 @@ module _ (whole before : List ℕ) where
         ok = tt;
         err = subst (AppendsPrefix old.written new.written) (sym parts) (AppendsPrefix-after old.written mid.written new.written before more v.ok w.err);
         cause = λ is. rises_later old.faults mid.faults new.faults v.faults (w.cause is);
+        stays = λ never. w.stays never ∙ v.stays;
         faults = omega (arith, first, later);
         same = w.same ∙ v.same;
       }
@@ -117,14 +126,17 @@ module _ {A E : Type 0} (old mid new : SinkView) (r : Result A E) (x : A) (befor
       let ok : Appends mid.written new.written piece = on_ok r x _ was wrote.ok in
       subst (Appends old.written new.written) (ap (λ t. before ++ t) is ∙ sym parts) (Appends-append old.written mid.written new.written before piece first ok)
 
+  -- and the sink counted no fault
+  pub stays : new.faults ≡ mid.faults
+  stays = on_ok r x _ was wrote.stays
+
   -- and then memory ran out
   pub stopped_behind : {B : Type 0} (q : Result B WriteFault) (whole more : List ℕ) → IsErr q → IsErrAnd q (λ e. e ≡ WriteFault.NoMemory) → whole ≡ before ++ (own ++ more)
-      → old.faults ≤ mid.faults → mid.capacity ≡ old.capacity → Puts old new q whole
+      → mid.faults ≡ old.faults → mid.capacity ≡ old.capacity → Puts old new q whole
   stopped_behind q whole more fails only parts faults room =
-      let later = wrote.faults in
       stopped whole (before ++ own) old new q more fails
       (λ e. let bad = passed_on {U = Unit {0}} q WriteFault.NoMemory WriteFault.Sink only e in cc)
-      (parts ∙ sym (append_assoc before own more)) (one_more (before ++ own) refl) (omega (arith, faults, later)) (wrote.same ∙ room)
+      (parts ∙ sym (append_assoc before own more)) (one_more (before ++ own) refl) (stays ∙ faults) (wrote.same ∙ room)
 
 -- The texts of these groups have been written, of which the next comes now.
 pub record HasWritten (j : Journal) (text : List LedgerLine → List ℕ) (next : Option LedgerLine) (c : Cutting) (old new : SinkView) : Type 0 where

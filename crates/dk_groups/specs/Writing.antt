@@ -9,7 +9,8 @@ pub record Puts {A : Type 0} (old new : SinkView) (result : Result A WriteFault)
   -- it appends the whole text, or a prefix where it fails
   pub ok : OnOk result (Appends old.written new.written text)
   pub err : OnErr result (AppendsPrefix old.written new.written text)
-  -- where the sink failed its count of faults rose, and that never falls
+  -- where the sink failed its count of faults rose, and else it stays
   pub cause : IsErrOf result WriteFault.Sink → Rises old.faults new.faults
+  pub stays : ¬ IsErrOf result WriteFault.Sink → new.faults ≡ old.faults
   pub faults : old.faults ≤ new.faults
   pub same : new.capacity ≡ old.capacity

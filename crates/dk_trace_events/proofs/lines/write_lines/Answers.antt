@@ -4,7 +4,7 @@ use Rattle.dk_ledger.specs.Heading.{Heading}
 use Rattle.dk_ledger.specs.LineText.{IsNamed}
 use Rattle.dk_ledger.proofs.NextItem.{if_ok}
 use Rattle.dk_groups.specs.Groups.{groups}
-use Rattle.dk_groups.proofs.Going.{all_put, comes_none, comes_some, cut_short, one_more, stopped_behind}
+use Rattle.dk_groups.proofs.Going.{all_put, comes_none, comes_some, cut_short, on_ok, one_more, stopped_behind}
 use Rattle.dk_groups.proofs.InTurn.{next_behind}
 use Rattle.dk_groups.proofs.Texts.{nothing_put}
 use Rattle.dk_ledger.specs.declared.line.LedgerLine.{LedgerLine}
@@ -57,9 +57,8 @@ returns-in_err-write_line-clause-text g c = λ j readable start.
     let comes = comes_some j w.groups c.loop-next.next one c.loop-next.reader c.in-Some.is w.comes in
     let piece = line_text h c.args.from w.groups one in
     let parts = all_behind (line_text h c.args.from) j w.groups one c.loop-next.reader c.args.reader.now.from c.args.reader.now.to readable comes inv.from inv.to in
-    let fails : IsErr c.from_residual.result = search rules in
     cut_short (lines_text h c.args.from (groups c.args.reader.now.from c.args.reader.now.to j.entries)) (lines_text h c.args.from w.groups)
-    _ _ _ _ c.from_residual.result piece parts.0 fails parts.1
+    _ _ _ _ c.from_residual.result piece parts.0 c.from_residual.ensures.1 parts.1
     w.appended inv.faults inv.capacity (c.in_err-write_line.ensures w.groups told.1)
 
 pub returns-in_err-next-clause-text : goal.returns-in_err-next-clause-text
@@ -109,7 +108,7 @@ loop-next-preserved g c =
             },
             next_behind (λ es. AreHolders (reverse es) c.loop-next.holders) (λ es. AreHolders (reverse es) c.step.new.self) j w.groups one reader 0 readable comes zero told.1 c.step.ensures,
           );
-      faults = let before = inv.faults in let after = own.faults in omega (arith, before, after);
+      faults = on_ok c.write_line.result c.in_ok-write_line.field-0 _ c.in_ok-write_line.was own.stays ∙ inv.faults;
       capacity = own.same ∙ inv.capacity;
       from = c.next.ensures.from ∙ inv.from;
       to = c.next.ensures.to ∙ inv.to;
@@ -121,7 +120,7 @@ loop-next-init g c =
     record {
       going_on = (start.0, start.1, start.2, [], start.3, c.new-holders.ensures);
       written = λ j readable first. (record { groups = []; comes = first; appended = nothing_put (g.S.Sink.seen c.args.sink.now).written }, c.new-holders.ensures);
-      faults = omega arith;
+      faults = refl;
       capacity = refl;
       from = refl;
       to = refl;

@@ -14,7 +14,7 @@ invariant-loop-next g l = record {
   going_on : (j : Journal) × IsReadable j × (j.heading ≡ l.header) × (ls : List LedgerLine) × ComesNext j ls l.next l.reader × AreHolders (past_of ls) l.holders;
   written : (j : Journal) → IsReadable j → ComesNext j [] l.fn.first l.fn.reader
       → (w : HasWritten j (λ ls. lines_text l.header l.from ls) l.next l.reader (g.S.Sink.seen l.fn.sink) (g.S.Sink.seen l.sink)) × AreHolders (past_of w.groups) l.holders;
-  faults : (g.S.Sink.seen l.fn.sink).faults ≤ (g.S.Sink.seen l.sink).faults;
+  faults : (g.S.Sink.seen l.sink).faults ≡ (g.S.Sink.seen l.fn.sink).faults;
   capacity : (g.S.Sink.seen l.sink).capacity ≡ (g.S.Sink.seen l.fn.sink).capacity;
   from : l.reader.from ≡ l.fn.reader.from;
   to : l.reader.to ≡ l.fn.reader.to;

@@ -3,7 +3,7 @@ use Rattle.std.specs.Prelude.{IsErr}
 use Rattle.dk_ledger.specs.Heading.{IsPrintable}
 use Rattle.dk_ledger.proofs.NextItem.{if_ok}
 use Rattle.dk_groups.specs.Groups.{groups}
-use Rattle.dk_groups.proofs.Going.{all_put, comes_none, comes_some, cut_short, cutting_on, one_more, printable_on, stopped_behind}
+use Rattle.dk_groups.proofs.Going.{all_put, comes_none, comes_some, cut_short, cutting_on, on_ok, one_more, printable_on, stopped_behind}
 use Rattle.dk_groups.proofs.Texts.{nothing_put}
 use Rattle.dk_trace_events.specs.Slices.{group_objects}
 use Rattle.dk_trace_events.specs.SlackPoints.{is_reclaimed, is_timeline}
@@ -53,9 +53,8 @@ returns-in_err-write_counted g c = λ j readable start.
     let piece = group_objects c.header.result.now w.groups one in
     let row : piece ≡ group_objects j.heading w.groups one = ap (λ h. group_objects h w.groups one) (c.header.ensures ∙ comes.1) in
     let parts = all_behind (group_objects j.heading) j w.groups one c.loop-next.reader c.args.reader.now.from c.args.reader.now.to readable comes inv.from inv.to in
-    let fails : IsErr c.from_residual.result = search rules in
     cut_short (objects_text j.heading (groups c.args.reader.now.from c.args.reader.now.to j.entries)) (objects_text j.heading w.groups)
-    _ _ _ _ c.from_residual.result piece parts.0 fails (parts.1 ∙ ap (λ t. objects_text j.heading w.groups ++ (t ++ parts.0)) (sym row))
+    _ _ _ _ c.from_residual.result piece parts.0 c.from_residual.ensures.1 (parts.1 ∙ ap (λ t. objects_text j.heading w.groups ++ (t ++ parts.0)) (sym row))
     w.appended inv.faults inv.capacity (c.in_err-write_counted.ensures w.groups told.1 (c.with_group-more.ensures w.groups told.1))
 
 pub returns-in_err-next : goal.returns-in_err-next
@@ -104,7 +103,7 @@ loop-next-preserved g c =
             },
             more,
           );
-      faults = let before = inv.faults in let after = own.faults in omega (arith, before, after);
+      faults = on_ok c.write_counted.result c.in_ok-write_counted.field-0 _ c.in_ok-write_counted.was own.stays ∙ inv.faults;
       capacity = own.same ∙ inv.capacity;
       from = c.next.ensures.from ∙ inv.from;
       to = c.next.ensures.to ∙ inv.to;
@@ -116,7 +115,7 @@ loop-next-init g c =
     record {
       going_on = (start.0, start.1, [], start.2, c.none-used.ensures);
       written = λ j readable first. (record { groups = []; comes = first; appended = nothing_put (g.S.Sink.seen c.args.sink.now).written }, c.none-used.ensures);
-      faults = omega arith;
+      faults = refl;
       capacity = refl;
       from = refl;
       to = refl;

@@ -1,9 +1,6 @@
 use Rattle.std.proofs.Common.{◌≡◌, ◌++◌, refl, rules, subst}
-use Rattle.std.specs.Prelude.{IsErr}
 use Rattle.dk_ledger.specs.Heading.{Heading}
 use Rattle.dk_ledger.proofs.NextItem.{if_ok}
-use Rattle.dk_ledger.proofs.Readings.{passed_on}
-use Rattle.dk_groups.specs.declared.write_fault.WriteFault.{WriteFault}
 use Rattle.dk_groups.specs.Groups.{groups}
 use Rattle.dk_groups.specs.Writing.{Puts}
 use Rattle.dk_trace_events.specs.Behind.{AreKnown, lines_text, past_of}
@@ -27,9 +24,7 @@ returns-in_err-holders g c = λ j readable start.
     let ls = groups c.args.lines.now.from c.args.lines.now.to j.entries in
     let own = lines_text h from ls in
     let behind = open_holds h from c.args.lines.now.to (past_of ls) ++ end_text from c.args.lines.now.to h in
-    let fails : IsErr c.from_residual.result = search rules in
-    put_fails own behind (own ++ behind) refl (g.S.Sink.seen c.args.sink.now) (g.S.Sink.seen c.write_lines.new.sink) _ c.from_residual.result fails
-    (λ e. passed_on c.from_residual.result c.in_err-holders.field-0.0 WriteFault.Sink c.from_residual.ensures.1 e)
+    put_fails own behind (own ++ behind) refl (g.S.Sink.seen c.args.sink.now) (g.S.Sink.seen c.write_lines.new.sink) _ c.from_residual.result c.from_residual.ensures.1
     (c.in_err-holders.ensures.text j readable start)
 
 pub returns : goal.returns

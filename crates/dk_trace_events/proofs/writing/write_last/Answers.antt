@@ -1,5 +1,4 @@
 use Rattle.std.proofs.Common.{◌++◌, [], refl, rules, arith}
-use Rattle.std.specs.Prelude.{IsErr}
 use Rattle.dk_groups.proofs.Going.{cut_short, then_puts}
 use Rattle.dk_groups.proofs.Texts.{nothing_put}
 use Rattle.dk_trace_events.specs.HoldSlices.{open_holds}
@@ -10,10 +9,9 @@ pub returns-in_err-write_open_holds : goal.returns-in_err-write_open_holds
 returns-in_err-write_open_holds g c = λ past holders.
     let own = open_holds c.args.header.now c.args.from c.args.to past in
     let end = end_text c.args.from c.args.to c.args.header.now in
-    let fails : IsErr c.from_residual.result = search rules in
     cut_short (own ++ end) []
-    (g.S.Sink.seen c.args.sink.now) (g.S.Sink.seen c.args.sink.now) (g.S.Sink.seen c.write_open_holds.new.sink) _ c.from_residual.result own end fails
-    refl (nothing_put (g.S.Sink.seen c.args.sink.now).written) (omega arith) refl (c.in_err-write_open_holds.ensures past holders)
+    (g.S.Sink.seen c.args.sink.now) (g.S.Sink.seen c.args.sink.now) (g.S.Sink.seen c.write_open_holds.new.sink) _ c.from_residual.result own end c.from_residual.ensures.1
+    refl (nothing_put (g.S.Sink.seen c.args.sink.now).written) refl refl (c.in_err-write_open_holds.ensures past holders)
 
 pub returns : goal.returns
 returns g c = λ past holders.

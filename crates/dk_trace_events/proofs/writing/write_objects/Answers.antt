@@ -1,8 +1,5 @@
 use Rattle.std.proofs.Common.{◌≡◌, ◌++◌, refl, rules, subst, sym}
-use Rattle.std.specs.Prelude.{IsErr}
 use Rattle.dk_ledger.specs.Heading.{Heading}
-use Rattle.dk_ledger.proofs.Readings.{passed_on}
-use Rattle.dk_groups.specs.declared.write_fault.WriteFault.{WriteFault}
 use Rattle.dk_groups.specs.Groups.{groups}
 use Rattle.dk_groups.specs.Writing.{Puts}
 use Rattle.dk_trace_events.specs.Behind.{lines_text, past_of}
@@ -17,9 +14,7 @@ returns-in_err-write_groups g c = λ j readable heading start start_line.
     let own = groups_text j.heading (groups from c.args.reader.now.to j.entries) in
     let ls = groups c.args.lines.now.from c.args.lines.now.to j.entries in
     let behind = lines_text j.heading from ls ++ (open_holds j.heading from c.args.lines.now.to (past_of ls) ++ end_text from c.args.lines.now.to j.heading) in
-    let fails : IsErr c.from_residual.result = search rules in
-    put_fails own behind (own ++ behind) refl (g.S.Sink.seen c.args.sink.now) (g.S.Sink.seen c.write_groups.new.sink) _ c.from_residual.result fails
-    (λ e. passed_on c.from_residual.result c.in_err-write_groups.field-0.0 WriteFault.Sink c.from_residual.ensures.1 e)
+    put_fails own behind (own ++ behind) refl (g.S.Sink.seen c.args.sink.now) (g.S.Sink.seen c.write_groups.new.sink) _ c.from_residual.result c.from_residual.ensures.1
     (c.in_err-write_groups.ensures j readable start)
 
 pub returns : goal.returns

@@ -1,5 +1,4 @@
 use Rattle.std.proofs.Common.{◌≡◌, ◌++◌, [], ap, sym, refl, rules, arith}
-use Rattle.std.specs.Prelude.{IsErr}
 use Rattle.dk_groups.proofs.Going.{cut_short, then_puts}
 use Rattle.dk_groups.proofs.Texts.{nothing_put}
 use Rattle.dk_trace_events.specs.LevelWindows.{level_texts}
@@ -11,10 +10,9 @@ returns-in_err-write_levels g c =
     let h = c.args.header.now in
     let own = level_texts c.args.from c.args.to 0 c.as_slice.result.now in
     let same : c.as_slice.result.now ≡ h.levels = search rules in
-    let fails : IsErr c.from_residual.result = search rules in
     cut_short (end_text c.args.from c.args.to h) []
-    (g.S.Sink.seen c.args.sink.now) (g.S.Sink.seen c.args.sink.now) (g.S.Sink.seen c.write_levels.new.sink) _ c.from_residual.result own tail_text fails
-    (ap (λ rows. level_texts c.args.from c.args.to 0 rows ++ tail_text) (sym same)) (nothing_put (g.S.Sink.seen c.args.sink.now).written) (omega arith) refl c.in_err-write_levels.ensures
+    (g.S.Sink.seen c.args.sink.now) (g.S.Sink.seen c.args.sink.now) (g.S.Sink.seen c.write_levels.new.sink) _ c.from_residual.result own tail_text c.from_residual.ensures.1
+    (ap (λ rows. level_texts c.args.from c.args.to 0 rows ++ tail_text) (sym same)) (nothing_put (g.S.Sink.seen c.args.sink.now).written) refl refl c.in_err-write_levels.ensures
 
 pub returns : goal.returns
 returns g c =

@@ -1,5 +1,4 @@
 use Rattle.std.proofs.Common.{ℕ, List, ◌≡◌, ◌∙◌, ◌++◌, [], ap, sym, subst, refl, rules, arith, append_assoc}
-use Rattle.std.specs.Prelude.{IsErr}
 use Rattle.dk_ledger.specs.Heading.{Heading}
 use Rattle.dk_ledger.specs.Readable.{Journal}
 use Rattle.dk_groups.specs.Groups.{groups}
@@ -33,11 +32,10 @@ returns-in_err-write_head g c = λ j from to readable trace.
     let names = mutex_names ++ process_texts 0 c.self.inside.header.processes in
     let rest = behind j from to 0 to in
     let own_is = ap (λ (t : Tracing). t.heading) c.self.view_is ∙ trace.heading in
-    let fails : IsErr c.from_residual.result = search rules in
     cut_short (trace_text from to j.heading j.entries) []
-    (g.S.Sink.seen c.args.sink.now) (g.S.Sink.seen c.args.sink.now) (g.S.Sink.seen c.write_head.new.sink) _ c.from_residual.result (head_text ++ names) rest fails
+    (g.S.Sink.seen c.args.sink.now) (g.S.Sink.seen c.args.sink.now) (g.S.Sink.seen c.write_head.new.sink) _ c.from_residual.result (head_text ++ names) rest c.from_residual.ensures.1
     (sym (append_assoc head_text (mutex_names ++ process_texts 0 j.heading.processes) rest) ∙ ap (λ (h : Heading). (head_text ++ (mutex_names ++ process_texts 0 h.processes)) ++ rest) (sym own_is))
-    (nothing_put (g.S.Sink.seen c.args.sink.now).written) (omega arith) refl c.in_err-write_head.ensures
+    (nothing_put (g.S.Sink.seen c.args.sink.now).written) refl refl c.in_err-write_head.ensures
 
 pub returns : goal.returns
 returns g c = λ j from to readable trace.
