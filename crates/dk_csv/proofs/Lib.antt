@@ -1,3 +1,4 @@
+pub mod Bare
 pub mod PlainRows
 pub mod ReadBack
 pub mod TableLemmas

@@ -167,7 +167,7 @@ event_is h label (Some (Event.Refused refusal)) few known =
     let a = refusal_small refusal in
     one_arg (codes "refused") (decimal (number refusal)) (some_digits (number refusal) (omega (arith, a)))
 
-owner_length : (h : Heading) (label : Label) → length (owner_fields h label) ≡ 3
+pub owner_length : (h : Heading) (label : Label) → length (owner_fields h label) ≡ 3
 owner_length h (Label.Kernel j) = refl
 owner_length h (Label.In x) = refl
 owner_length h (Label.Run x) = refl
@@ -176,7 +176,7 @@ owner_length h (Label.Out x) = refl
 owner_length h (Label.Slack x source work) = refl
 owner_length h Label.Idle = refl
 
-source_length : (label : Label) → length (source_fields label) ≡ 2
+pub source_length : (label : Label) → length (source_fields label) ≡ 2
 source_length (Label.Kernel j) = refl
 source_length (Label.In x) = refl
 source_length (Label.Run x) = refl

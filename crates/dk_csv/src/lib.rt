@@ -5,5 +5,5 @@ mod laws;
 mod rows;
 mod writing;
 
-pub use laws::one_to_one;
+pub use laws::{needs_no_quotes, one_to_one};
 pub use writing::CsvTable;

@@ -1,4 +1,6 @@
 pub mod Passing
 pub mod Spelled
+pub mod Dense
+pub mod Lines
 pub mod ReadBack
 pub mod Told

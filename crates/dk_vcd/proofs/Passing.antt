@@ -67,5 +67,5 @@ pub record HasWritten (j : Journal) (from : ℕ) (before next : Option LedgerLin
   pub last : before ≡ last_of None groups
   pub holders : AreHolders (reverse (take from j.entries ++ flat_map entries_of groups)) rows
   pub appended : Appends old.written new.written (changes_text j.heading j.entries None groups)
-  pub faults : old.faults ≤ new.faults
+  pub faults : new.faults ≡ old.faults
   pub same : new.capacity ≡ old.capacity

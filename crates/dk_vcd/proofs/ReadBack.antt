@@ -1,25 +1,19 @@
 -- The groups of a dump can be read back: each has its line of the ledger.
-use Rattle.std.proofs.Common.{ℕ, zero, suc, ◌≡◌, ◌∙◌, ◌+◌, ◌++◌, [], ◌∷◌, List, length, map, sym, ap, refl, arith, codes, append_assoc}
-use Rattle.std.specs.Fmt.{digit_glyph, digits, digits_onto}
-use Rattle.std.specs.Prelude.{Bool, true, false, ◌&&◌, ◌==◌, ◌/◌, ◌%◌, nat_lt, if◌then◌else◌, decimal, flat_map, Option, Some, None}
-use Rattle.std.specs.List.{AllByRecursion, list_all}
-use Rattle.std.proofs.lemmas.Bool.Decides.{nat_tests}
+use Rattle.std.proofs.Common.{ℕ, zero, suc, ◌≡◌, ◌∙◌, ◌+◌, ◌++◌, [], ◌∷◌, List, length, map, sym, ap, refl, codes, append_assoc}
+use Rattle.std.specs.Prelude.{Bool, true, false, if◌then◌else◌, decimal, flat_map, Option, Some, None}
+use Rattle.std.specs.List.{AllByRecursion}
 use Rattle.std.proofs.lemmas.List.{append_cancel_left}
-use Rattle.dk_config.specs.Rules.{is_word}
 use Rattle.dk_trace.specs.declared.Event.{Event}
 use Rattle.dk_trace.specs.declared.Entry.{Entry}
 use Rattle.dk_ledger.specs.declared.line.LedgerLine.{LedgerLine}
-use Rattle.dk_ledger.specs.Heading.{Heading, ended, name_of}
+use Rattle.dk_ledger.specs.Heading.{Heading, ended}
 use Rattle.dk_ledger.specs.Cuts.{entries_of}
 use Rattle.dk_ledger.specs.Readable.{IsReadable, IsReadableHeading}
 use Rattle.dk_ledger.proofs.EntryLists.{IsReadableLine}
 use Rattle.dk_ledger.proofs.NextItem.{names_fit}
 use Rattle.dk_ledger.proofs.OneText.{one_line}
-use Rattle.dk_ledger.proofs.Split.{all_append}
-use Rattle.dk_ledger.proofs.WordBytes.{all_more}
 use Rattle.dk_groups.specs.Groups.{groups, slice}
 use Rattle.dk_groups.proofs.ListParts.{rest_same}
-use Rattle.dk_groups.proofs.Names.{name_words}
 use Rattle.dk_groups.proofs.Readable.{groups_readable, whole_all}
 use Rattle.dk_groups.proofs.Slices.{whole_slice}
 use Rattle.dk_groups.proofs.Until.{until}
@@ -31,44 +25,15 @@ use Rattle.dk_vcd.specs.Changes.{change_text, changes_text, left_row, rest_text,
 use Rattle.dk_vcd.specs.declared.holders.Occasion.{Occasion}
 use Rattle.dk_vcd.specs.Holders.{event_before, holder_before, holder_change, holder_text, holder_value, holders_text, is_told, moved_text}
 use Rattle.dk_vcd.specs.Dumps.{head_text, scopes_text, tail_text, vcd_text}
-use Rattle.dk_vcd.proofs.Spelled.{is_dense, line_spells, spaced, word_dense}
-
-abbrev Dense : List ℕ → Type 0
-Dense s = list_all is_dense s ≡ true
-
--- the digits of any number
-glyph_dense : (b : Bool) (d : ℕ) → is_dense (if b then 48 + d else 87 + d) ≡ true
-glyph_dense true d = grind (arith, nat_tests)
-glyph_dense false d = grind (arith, nat_tests)
-
-either_dense : (b : Bool) (s t : List ℕ) → Dense s → Dense t → Dense (if b then s else t)
-either_dense true s t ps pt = ps
-either_dense false s t ps pt = pt
-
-onto_dense : (k n : ℕ) (acc : List ℕ) → Dense acc → Dense (digits_onto k 10 false n acc)
-onto_dense zero n acc h = h
-onto_dense (suc k) n acc h =
-    let d = digit_glyph false (n % 10) in
-    let more : Dense (d ∷ acc) = ap (λ x. x && list_all is_dense acc) (glyph_dense (nat_lt (n % 10) 10) (n % 10)) ∙ h in
-    either_dense (n / 10 == 0) (d ∷ acc) (digits_onto k 10 false (n / 10) (d ∷ acc)) more (onto_dense k (n / 10) (d ∷ acc) more)
-
-digits_dense : (n : ℕ) → Dense (decimal n)
-unfolding digits
-digits_dense n = onto_dense 64 n [] refl
+use Rattle.dk_vcd.specs.Laws.{is_dense}
+use Rattle.dk_vcd.proofs.Dense.{digits_dense, holder_dense}
+use Rattle.dk_vcd.proofs.Spelled.{line_spells, spaced}
 
 -- a time, up to what comes behind it
 times_same : (n m : ℕ) (x y : List ℕ) → codes "#" ++ (decimal n ++ 10 ∷ x) ≡ codes "#" ++ (decimal m ++ 10 ∷ y) → x ≡ y
 times_same n m x y e =
     let behind : decimal n ++ 10 ∷ x ≡ decimal m ++ 10 ∷ y = rest_same e in
     rest_same (until is_dense (decimal n) (decimal m) 10 10 x y (digits_dense n) (digits_dense m) refl refl behind).1
-
--- who holds a mutex
-holder_dense : (h : Heading) → IsReadableHeading h → (o : Option Holding) → Dense (holder_value h o)
-holder_dense h is None = refl
-holder_dense h is (Some x) =
-    let name = name_of h x.thread.process in
-    let named = all_more is_word is_dense word_dense name (name_words h is x.thread.process) in
-    all_append is_dense (name ++ codes ".") (decimal x.thread.serial) (all_append is_dense name (codes ".") named refl) (digits_dense x.thread.serial)
 
 -- what stands behind the line of a group
 abbrev behind_line : Heading → (ℕ → Option Holding) → Option LedgerLine → LedgerLine → List ℕ → List ℕ

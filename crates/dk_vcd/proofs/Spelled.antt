@@ -1,6 +1,6 @@
 -- A value is a text of the ledger with commas in place of blanks, and has no blank.
 use Rattle.std.proofs.Common.{ℕ, ◌≡◌, ◌∙◌, ◌<◌, ◌≤◌, ◌^◌, ◌++◌, [], ◌∷◌, List, length, map, ap, refl, arith, codes}
-use Rattle.std.specs.Prelude.{Bool, true, ◌&&◌, ◌==◌, nat_lt, decimal, Option, Some, None, if◌then◌else◌}
+use Rattle.std.specs.Prelude.{Bool, true, ◌&&◌, ◌==◌, decimal, Option, Some, None, if◌then◌else◌}
 use Rattle.std.proofs.lemmas.Bool.Decides.{nat_tests}
 use Rattle.std.proofs.lemmas.List.{map-append}
 use Rattle.std.specs.Char.{is_ascii_digit}
@@ -23,15 +23,12 @@ use Rattle.dk_ledger.proofs.NameLemmas.{both_left, both_right}
 use Rattle.dk_ledger.proofs.Split.{all_append, refusal_small}
 use Rattle.dk_groups.proofs.Names.{name_words}
 use Rattle.dk_groups.proofs.Until.{decimal_digits}
+use Rattle.dk_vcd.specs.Laws.{is_dense}
 use Rattle.dk_vcd.specs.Words.{event_part, event_value, label_value, line_value}
 
 -- a blank for each comma
 abbrev pub spaced : ℕ → ℕ
 spaced b = if b == 44 then 32 else b
-
--- printed, and no blank
-abbrev pub is_dense : ℕ → Bool
-is_dense b = nat_lt 32 b
 
 pub record Spells (value text : List ℕ) : Type 0 where
   pub text_is : map spaced value ≡ text
@@ -128,7 +125,7 @@ module _ (h : Heading) (is : IsReadableHeading h) where
   counted_spells : (v t : List ℕ) (n : ℕ) → Spells v t → n < 2 ^ 32 → Spells (v ++ decimal n) (t ++ decimal n)
   counted_spells v t n word small = both v (decimal n) t (decimal n) word (number_spells n small)
 
-  event_spells : (event : Event) → HasEvent (size_in h) event → Spells (event_value event) (event_text event)
+  pub event_spells : (event : Event) → HasEvent (size_in h) event → Spells (event_value event) (event_text event)
   event_spells Event.Wait known = literal (codes "wait") (codes "wait") refl refl
   event_spells Event.Exit known = literal (codes "exit") (codes "exit") refl refl
   event_spells (Event.Fault kind) known = both (codes "fault,") (fault_text kind) (codes "fault ") (fault_text kind) (literal (codes "fault,") (codes "fault ") refl refl) (fault_spells kind)

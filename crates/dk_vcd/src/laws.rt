@@ -5,7 +5,7 @@ ghost use Rattle.dk_ledger.specs.Readable.{IsReadable};
 ghost use Rattle.dk_groups.specs.Groups.{groups, slice};
 ghost use Rattle.dk_vcd.specs.Dumps.{vcd_text};
 ghost use Rattle.dk_vcd.specs.Holders.{holder_before};
-ghost use Rattle.dk_vcd.specs.Laws.{told_at};
+ghost use Rattle.dk_vcd.specs.Laws.{IsDump, told_at};
 
 /// The dump of a range tells the entries in it: two ledgers of one header whose dumps are the same have the same entries
 /// there.
@@ -23,4 +23,11 @@ pub fn one_to_one()
 pub fn holders_are_told()
     ensures { (m from to t : ℕ) (es : List Entry) → from ≤ t → t < to → to ≤ length es
         → told_at es m t (holder_before es from m) None (groups from to es) ≡ holder_before es t m }
+{}
+
+/// A dump has the form of one: behind the declarations each line is a time or a signal's new value, and no value has a
+/// blank, which would end it.
+pub fn values_have_no_blank()
+    ensures { (h : Heading) (from to : ℕ) (es : List Entry) → IsReadable (record { heading = h; entries = es })
+        → IsDump h (vcd_text from to h es) }
 {}

@@ -9,5 +9,5 @@ mod signals;
 mod words;
 mod writing;
 
-pub use laws::{holders_are_told, one_to_one};
+pub use laws::{holders_are_told, one_to_one, values_have_no_blank};
 pub use writing::Dump;

@@ -3,7 +3,7 @@ use Rattle.std.specs.Prelude.{IsErr}
 use Rattle.dk_ledger.specs.Heading.{IsPrintable}
 use Rattle.dk_ledger.proofs.NextItem.{if_ok}
 use Rattle.dk_groups.specs.Groups.{groups}
-use Rattle.dk_groups.proofs.Going.{comes_some, cut_short, cutting_on, one_more, printable_on, stopped_behind}
+use Rattle.dk_groups.proofs.Going.{comes_some, cut_short, cutting_on, on_ok, one_more, printable_on, stopped_behind}
 use Rattle.dk_groups.proofs.Texts.{more_text, whole_text}
 use Rattle.dk_csv.specs.Rows.{fields, record_text, rows_text}
 use Rattle.dk_csv.proofs.TableLemmas.{row_of_next}
@@ -24,9 +24,8 @@ returns-in_err-write_to g c = λ j readable start.
     let comes = comes_some j w.groups c.loop-next.next group c.loop-next.reader c.in-Some.is w.comes in
     let row = row_of_next j w.groups group c.loop-next.reader readable comes c.header.result.now c.row_of.result c.header.ensures c.row_of.ensures.text in
     let parts = whole_text (λ k. record_text (fields j.heading k)) j w.groups group c.loop-next.reader c.args.reader.now.from c.args.reader.now.to readable comes inv.from inv.to in
-    let fails : IsErr c.from_residual.result = search rules in
     cut_short (rows_text j.heading (groups c.args.reader.now.from c.args.reader.now.to j.entries)) (rows_text j.heading w.groups)
-    _ _ _ _ c.from_residual.result (c.row_of.result ++ 10 ∷ []) parts.0 fails (parts.1 ∙ ap (λ t. rows_text j.heading w.groups ++ (t ++ parts.0)) (sym row))
+    _ _ _ _ c.from_residual.result (c.row_of.result ++ 10 ∷ []) parts.0 c.from_residual.ensures.1 (parts.1 ∙ ap (λ t. rows_text j.heading w.groups ++ (t ++ parts.0)) (sym row))
     w.appended inv.faults inv.capacity c.in_err-write_to.ensures
 
 pub returns-in_err-next : goal.returns-in_err-next
@@ -60,7 +59,7 @@ loop-next-preserved g c =
             appended = one_more (g.S.Sink.seen c.args.sink.now) _ _ _ c.in_ok-write_to.field-0 (rows_text j.heading w.groups) _ (record_text (fields j.heading group)) c.in_ok-write_to.was row w.appended c.write_to.ensures
                 (rows_text j.heading (w.groups ++ group ∷ [])) (more_text (λ k. record_text (fields j.heading k)) w.groups group);
           };
-      faults = let before = inv.faults in let after = c.write_to.ensures.faults in omega (arith, before, after);
+      faults = on_ok c.write_to.result c.in_ok-write_to.field-0 _ c.in_ok-write_to.was c.write_to.ensures.stays ∙ inv.faults;
       capacity = c.write_to.ensures.same ∙ inv.capacity;
       from = c.next.ensures.from ∙ inv.from;
       to = c.next.ensures.to ∙ inv.to;

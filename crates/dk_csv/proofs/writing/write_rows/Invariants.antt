@@ -11,7 +11,7 @@ invariant-loop-next g l = record {
   going_on : IsGoingOn l.next l.reader;
   written : (j : Journal) → IsReadable j → ComesNext j [] l.fn.first l.fn.reader
       → HasWritten j (λ gs. rows_text j.heading gs) l.next l.reader (g.S.Sink.seen l.fn.sink) (g.S.Sink.seen l.sink);
-  faults : (g.S.Sink.seen l.fn.sink).faults ≤ (g.S.Sink.seen l.sink).faults;
+  faults : (g.S.Sink.seen l.sink).faults ≡ (g.S.Sink.seen l.fn.sink).faults;
   capacity : (g.S.Sink.seen l.sink).capacity ≡ (g.S.Sink.seen l.fn.sink).capacity;
   from : l.reader.from ≡ l.fn.reader.from;
   to : l.reader.to ≡ l.fn.reader.to;

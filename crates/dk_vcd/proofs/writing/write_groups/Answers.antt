@@ -5,7 +5,7 @@ use Rattle.dk_ledger.specs.Cuts.{entries_of}
 use Rattle.dk_ledger.specs.Heading.{IsPrintable}
 use Rattle.dk_ledger.proofs.NextItem.{if_ok}
 use Rattle.dk_groups.specs.Groups.{groups}
-use Rattle.dk_groups.proofs.Going.{comes_some, cut_short, cutting_on, one_more, printable_on, stopped_behind}
+use Rattle.dk_groups.proofs.Going.{comes_some, cut_short, cutting_on, on_ok, one_more, printable_on, stopped_behind}
 use Rattle.dk_groups.proofs.InTurn.{next_behind}
 use Rattle.dk_groups.proofs.Texts.{nothing_put}
 use Rattle.dk_holds.specs.Holds.{AreHolders, holding}
@@ -30,7 +30,7 @@ loop-next-init g c = record {
     last = refl;
     holders = subst (λ (es : List Entry). AreHolders (reverse es) c.args.holders) (sym (append-nil (take c.args.reader.now.from j.entries))) held;
     appended = nothing_put (g.S.Sink.seen c.args.sink.now).written;
-    faults = omega arith;
+    faults = refl;
     same = refl;
   };
   from = refl;
@@ -49,9 +49,8 @@ returns-in_err-write_group g c = λ j readable start held.
     let row : piece ≡ change_text h (holder_before j.entries one.start) c.loop-next.before one =
     change_there j w.groups c.loop-next.before one c.loop-next.reader c.header.result.now c.args.reader.now.from readable comes c.header.ensures inv.from in
     let parts = whole_changes j w.groups c.loop-next.before one c.loop-next.reader c.args.reader.now.from c.args.reader.now.to readable comes w.last inv.from inv.to in
-    let fails : IsErr c.from_residual.result = search rules in
     cut_short (changes_text h j.entries None (groups c.args.reader.now.from c.args.reader.now.to j.entries)) (changes_text h j.entries None w.groups)
-    _ _ _ _ c.from_residual.result piece parts.0 fails (parts.1 ∙ ap (λ t. changes_text h j.entries None w.groups ++ (t ++ parts.0)) (sym row))
+    _ _ _ _ c.from_residual.result piece parts.0 c.from_residual.ensures.1 (parts.1 ∙ ap (λ t. changes_text h j.entries None w.groups ++ (t ++ parts.0)) (sym row))
     w.appended w.faults w.same (c.in_err-write_group.ensures past w.holders)
 
 pub returns-in_err-next : goal.returns-in_err-next
@@ -97,7 +96,7 @@ loop-next-preserved g c =
             holders = next_behind (λ es. AreHolders (reverse es) c.loop-next.holders) (λ es. AreHolders (reverse es) c.step.new.self) j w.groups one reader from readable comes inv.from w.holders c.step.ensures;
             appended = one_more (g.S.Sink.seen c.args.sink.now) _ _ _ c.in_ok-write_group.field-0 (changes_text h j.entries None w.groups) piece (change_text h (holder_before j.entries one.start) c.loop-next.before one)
                 c.in_ok-write_group.was row w.appended wrote (changes_text h j.entries None (w.groups ++ one ∷ [])) (more_changes h j.entries w.groups c.loop-next.before one w.last);
-            faults = let before = w.faults in let after = wrote.faults in omega (arith, before, after);
+            faults = on_ok c.write_group.result c.in_ok-write_group.field-0 _ c.in_ok-write_group.was wrote.stays ∙ w.faults;
             same = wrote.same ∙ w.same;
           };
       from = c.next.ensures.from ∙ inv.from;

@@ -1,5 +1,4 @@
 use Rattle.std.proofs.Common.{◌≡◌, ◌∙◌, ◌++◌, [], ◌∷◌, ap, sym, subst, refl, rules, arith}
-use Rattle.std.specs.Prelude.{IsErr}
 use Rattle.dk_groups.specs.Groups.{groups}
 use Rattle.dk_groups.specs.Cutting.{Cutting, ComesNext}
 use Rattle.dk_groups.specs.Writing.{Puts}
@@ -12,10 +11,9 @@ use Rattle.dk_csv.proofs.writing.CsvTable.write.Goals as goal
 pub returns-in_err-write_to : goal.returns-in_err-write_to
 returns-in_err-write_to g c = λ j from to readable table.
     let rows = rows_text j.heading (groups from to j.entries) in
-    let fails : IsErr c.from_residual.result = search rules in
     cut_short (csv_text from to j.heading j.entries) []
-    (g.S.Sink.seen c.args.sink.now) (g.S.Sink.seen c.args.sink.now) (g.S.Sink.seen c.write_to.new.sink) _ c.from_residual.result (c.column_names.result ++ 10 ∷ []) rows fails
-    (ap (λ t. t ++ rows) (sym c.column_names.ensures.text)) (nothing_put (g.S.Sink.seen c.args.sink.now).written) (omega arith) refl c.in_err-write_to.ensures
+    (g.S.Sink.seen c.args.sink.now) (g.S.Sink.seen c.args.sink.now) (g.S.Sink.seen c.write_to.new.sink) _ c.from_residual.result (c.column_names.result ++ 10 ∷ []) rows c.from_residual.ensures.1
+    (ap (λ t. t ++ rows) (sym c.column_names.ensures.text)) (nothing_put (g.S.Sink.seen c.args.sink.now).written) refl refl c.in_err-write_to.ensures
 
 pub returns : goal.returns
 returns g c = λ j from to readable table.

@@ -1,5 +1,5 @@
 use Rattle.std.proofs.Common.{ℕ, List, ◌≡◌, ◌∙◌, ◌++◌, [], take, reverse, ap, sym, subst, refl, rules, arith}
-use Rattle.std.specs.Prelude.{IsErr, None}
+use Rattle.std.specs.Prelude.{None}
 use Rattle.dk_ledger.specs.Heading.{Heading}
 use Rattle.dk_groups.specs.Groups.{groups}
 use Rattle.dk_groups.specs.Cutting.{ComesNext}
@@ -18,11 +18,10 @@ returns-in_err-write_head g c = λ j from to readable dump.
     let held = holder_before j.entries from in
     let own_is = ap (λ (d : Dumping). d.heading) c.self.view_is ∙ dump.heading in
     let holders = subst (λ (d : Dumping). AreHolders (reverse (take from j.entries)) d.holders) (sym c.self.view_is) dump.holders in
-    let fails : IsErr c.from_residual.result = search rules in
     cut_short (vcd_text from to j.heading j.entries) []
-    (g.S.Sink.seen c.args.sink.now) (g.S.Sink.seen c.args.sink.now) (g.S.Sink.seen c.write_head.new.sink) _ c.from_residual.result (head_text c.self.inside.header held) rest fails
+    (g.S.Sink.seen c.args.sink.now) (g.S.Sink.seen c.args.sink.now) (g.S.Sink.seen c.write_head.new.sink) _ c.from_residual.result (head_text c.self.inside.header held) rest c.from_residual.ensures.1
     (ap (λ (h : Heading). head_text h held ++ rest) (sym own_is))
-    (nothing_put (g.S.Sink.seen c.args.sink.now).written) (omega arith) refl (c.in_err-write_head.ensures (reverse (take from j.entries)) holders)
+    (nothing_put (g.S.Sink.seen c.args.sink.now).written) refl refl (c.in_err-write_head.ensures (reverse (take from j.entries)) holders)
 
 pub returns : goal.returns
 returns g c = λ j from to readable dump.
