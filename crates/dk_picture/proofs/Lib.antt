@@ -1,8 +1,13 @@
 pub mod Adding
 pub mod Covered
 pub mod Drawn
+pub mod Ends
 pub mod Few
 pub mod Framed
 pub mod Groups
 pub mod InRows
+pub mod Legends
+pub mod Pixels
+pub mod Plain
 pub mod Shared
+pub mod Styles

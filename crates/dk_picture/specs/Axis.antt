@@ -3,10 +3,9 @@ use Rattle.std.specs.Prelude.{ℕ, ◌+◌, ◌-◌, ◌*◌, ◌/◌, ◌++◌,
 use Rattle.dk_config.specs.Sums.{below}
 use Rattle.dk_picture.specs.declared.frame.Frame.{Frame}
 use Rattle.dk_picture.specs.declared.span.Span.{Span}
-use Rattle.dk_picture.specs.declared.span.TheConstants.{LEFT, PLOT}
-use Rattle.dk_picture.specs.declared.axis.TheConstants.{STEPS}
 use Rattle.dk_picture.specs.Elements.{rect, words_at}
 use Rattle.dk_picture.specs.Frames.{bottom_of}
+use Rattle.dk_picture.specs.Numbers.{plot_left, plot_width, steps}
 use Rattle.dk_picture.specs.Places.{has_pixels, place_of, room_for}
 
 -- whether so many ticks have room for the greatest number
@@ -15,7 +14,7 @@ is_wide s step = has_pixels s step (room_for s.to + 8)
 
 -- the ticks from one number to the next
 abbrev pub step_of : Span → ℕ
-step_of s = max (unwrap_or (find (is_wide s) STEPS) 10000000) 1
+step_of s = max (unwrap_or (find (is_wide s) steps) 10000000) 1
 
 abbrev pub tick_text : Span → Frame → ℕ → List ℕ
 tick_text s f t = rect (codes "w") (record { x = place_of s t; y = bottom_of f; width = 1; height = 4 })
@@ -34,7 +33,7 @@ ticks_text s f step =
     flat_map (λ i. tick_text s f ((first_drawn s step + i) * step)) (below (ticks_drawn s step))
 
 unfoldable pub axis_head : Frame → List ℕ
-axis_head f = rect (codes "w") (record { x = LEFT; y = bottom_of f; width = PLOT; height = 1 })
+axis_head f = rect (codes "w") (record { x = plot_left; y = bottom_of f; width = plot_width; height = 1 })
     ++ words_at (codes "m") 8 (bottom_of f + 16) (codes "tick")
 
 unfoldable pub axis_text : Span → Frame → List ℕ

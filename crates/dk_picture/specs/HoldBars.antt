@@ -7,9 +7,9 @@ use Rattle.dk_ledger.specs.Heading.{Heading}
 use Rattle.dk_ledger.specs.LineText.{thread_text}
 use Rattle.dk_hold_spans.specs.declared.hold.Hold.{Hold}
 use Rattle.dk_picture.specs.declared.frame.Frame.{Frame}
-use Rattle.dk_picture.specs.declared.span.TheConstants.{LEFT, PLOT}
 use Rattle.dk_picture.specs.Elements.{rect, titled_rect, words_at}
 use Rattle.dk_picture.specs.Frames.{mutex_top}
+use Rattle.dk_picture.specs.Numbers.{plot_left, plot_width}
 
 abbrev pub is_of_mutex : ℕ → Hold → Bool
 is_of_mutex m d = d.mutex == m
@@ -48,9 +48,16 @@ hold_bar h ms from d = record {
 abbrev pub hold_bars : Heading → List ℕ → ℕ → List Hold → List HoldBar
 hold_bars h ms from ds = map (hold_bar h ms from) ds
 
+-- its colour, and its height
+abbrev pub hold_class : List ℕ
+hold_class = codes "h"
+
+abbrev pub hold_height : ℕ
+hold_height = 10
+
 abbrev pub hold_bar_text : Frame → HoldBar → List ℕ
-hold_bar_text f b =
-    titled_rect (codes "h") (record { x = b.start; y = mutex_top f b.row; width = b.count; height = 10 }) b.title
+hold_bar_text f b = titled_rect hold_class
+    (record { x = b.start; y = mutex_top f b.row; width = b.count; height = hold_height }) b.title
 
 abbrev pub hold_bars_text : Frame → List HoldBar → List ℕ
 hold_bars_text f bs = flat_map (hold_bar_text f) bs
@@ -64,7 +71,7 @@ held_ticks ds m = sum_by (held_weight m) ds
 
 -- the line below the row's bars, the mutex, and its ticks
 unfoldable pub mutex_text : List Hold → ℕ → ℕ → List ℕ
-mutex_text ds top m = rect (codes "g") (record { x = LEFT; y = top + 10; width = PLOT; height = 1 })
+mutex_text ds top m = rect (codes "g") (record { x = plot_left; y = top + 10; width = plot_width; height = 1 })
     ++ (words_at (codes "t") 8 (top + 9) (codes "mutex " ++ decimal m)
     ++ words_at (codes "t x") 1232 (top + 9) (decimal (held_ticks ds m)))
 

@@ -1,4 +1,6 @@
+pub mod Numbers
 pub mod Places
+pub mod Pixels
 pub mod Elements
 pub mod Rows
 pub mod Frames
@@ -11,8 +13,11 @@ pub mod Labels
 pub mod Windows
 pub mod RowTexts
 pub mod Axis
+pub mod Styles
 pub mod Opening
 pub mod Marks
 pub mod Shares
+pub mod Legends
 pub mod Pictures
 pub mod Laws
+pub mod PlainWords

@@ -7,10 +7,10 @@ use Rattle.dk_ledger.specs.Heading.{Heading}
 use Rattle.dk_picture.specs.declared.columns.Sort.TheVariants as sort
 use Rattle.dk_picture.specs.declared.frame.Frame.{Frame}
 use Rattle.dk_picture.specs.declared.span.Span.{Span}
-use Rattle.dk_picture.specs.declared.style.TheConstants.{STYLE}
 use Rattle.dk_picture.specs.Columns.{sort_sum}
 use Rattle.dk_picture.specs.Elements.{rect, words_at}
 use Rattle.dk_picture.specs.Frames.{height_of}
+use Rattle.dk_picture.specs.Styles.{style_text}
 
 unfoldable pub root_text : ℕ → List ℕ
 root_text height = codes "<svg xmlns='http://www.w3.org/2000/svg' width='1456' height='"
@@ -66,7 +66,7 @@ unfoldable pub intro_text : ℕ → List ℕ → List ℕ
 intro_text height head = root_text height ++ title_text head
 
 unfoldable pub ground_text : ℕ → List ℕ → List ℕ
-ground_text height head = STYLE.now ++ head_text height head
+ground_text height head = style_text ++ head_text height head
 
 unfoldable pub opening_text : Heading → Frame → Span → ℕ → List LedgerLine → List ℕ
 opening_text h f s n gs = intro_text (height_of f) (head_words s n gs)

@@ -1,5 +1,5 @@
 -- The whole picture.
-use Rattle.std.specs.Prelude.{ℕ, ◌≡◌, ◌<◌, ◌+◌, ◌++◌, List, Some, codes, decimal, length, slice_get}
+use Rattle.std.specs.Prelude.{ℕ, ◌≡◌, ◌<◌, ◌≤◌, ◌+◌, ◌++◌, List, Some, codes, decimal, length, slice_get}
 use Rattle.dk_trace.specs.declared.Entry.{Entry}
 use Rattle.dk_ledger.specs.declared.line.LedgerLine.{LedgerLine}
 use Rattle.dk_ledger.specs.Heading.{Heading}
@@ -9,15 +9,15 @@ use Rattle.dk_hold_spans.specs.declared.hold.Hold.{Hold}
 use Rattle.dk_hold_spans.specs.HoldLists.{holds_in}
 use Rattle.dk_picture.specs.declared.frame.Frame.{Frame}
 use Rattle.dk_picture.specs.declared.span.Span.{Span}
-use Rattle.dk_picture.specs.declared.style.TheConstants.{LEGEND}
-use Rattle.dk_picture.specs.declared.reading.TheConstants.{MAX_GROUPS}
 use Rattle.dk_picture.specs.Axis.{axis_text}
 use Rattle.dk_picture.specs.Bars.{bars, plot_text}
 use Rattle.dk_picture.specs.Frames.{bottom_of, head_of}
 use Rattle.dk_picture.specs.HoldBars.{hold_bars, mutexes_text}
 use Rattle.dk_picture.specs.Labels.{labels_text}
+use Rattle.dk_picture.specs.Legends.{legend_rows}
 use Rattle.dk_picture.specs.Makings.{makings_in}
 use Rattle.dk_picture.specs.Marks.{marks, marks_text}
+use Rattle.dk_picture.specs.Numbers.{max_groups}
 use Rattle.dk_picture.specs.Opening.{opening_text}
 use Rattle.dk_picture.specs.RowTexts.{rows_head, rows_text}
 use Rattle.dk_picture.specs.Scenes.{Scene, frame_of, scene_of}
@@ -30,7 +30,7 @@ legend_head y = codes "<g transform='translate(0 " ++ (decimal y ++ codes ")'>\n
 
 -- the legend and the end
 unfoldable pub legend_text : ℕ → List ℕ
-legend_text y = legend_head y ++ LEGEND.now
+legend_text y = legend_head y ++ legend_rows
 
 -- the axis, the legend and the end
 unfoldable pub foot_text : Span → Frame → List ℕ
@@ -68,10 +68,17 @@ svg_text from to h es =
 
 -- There are more groups than a picture has, and the first that is too many begins at this tick.
 pub record IsTooMany (gs : List LedgerLine) (t : ℕ) : Type 0 where
-  pub more : MAX_GROUPS < length gs
+  pub more : max_groups < length gs
   pub group : LedgerLine
-  pub first : slice_get gs MAX_GROUPS ≡ Some group
+  pub first : slice_get gs max_groups ≡ Some group
   pub tick : t ≡ group.start
+
+-- TO at this tick is the greatest that leaves no more groups than a picture has.
+pub record IsGreatestEnd (from to t : ℕ) (es : List Entry) : Type 0 where
+  pub begins : from ≤ t
+  pub ends : t < to
+  pub fits : length (groups from t es) ≡ max_groups
+  pub greater : (u : ℕ) → t < u → max_groups < length (groups from u es)
 
 -- the ledger that can be read of these bytes, with its header and its ticks
 pub record IsShown (j : Journal) (h : Heading) (bytes : List ℕ) (ticks : ℕ) : Type 0 where

@@ -1,7 +1,7 @@
 -- Where ticks stand in a picture, in pixels from the left.
 use Rattle.std.specs.Prelude.{ℕ, ◌+◌, ◌-◌, ◌*◌, ◌/◌, Bool, max, min, nat_le, nat_lt, if◌then◌else◌}
 use Rattle.dk_picture.specs.declared.span.Span.{Span}
-use Rattle.dk_picture.specs.declared.span.TheConstants.{LEFT, PLOT}
+use Rattle.dk_picture.specs.Numbers.{plot_left, plot_width}
 
 -- how many ticks the plot is wide
 abbrev pub ticks_in : Span → ℕ
@@ -13,14 +13,14 @@ before s t = min t s.to - s.from
 
 -- the left edge of a tick
 abbrev pub place_of : Span → ℕ → ℕ
-place_of s t = LEFT + (before s t * PLOT) / ticks_in s
+place_of s t = plot_left + (before s t * plot_width) / ticks_in s
 
 abbrev pub middle_of : Span → ℕ → ℕ
-middle_of s t = LEFT + ((2 * before s t + 1) * PLOT) / (2 * ticks_in s)
+middle_of s t = plot_left + ((2 * before s t + 1) * plot_width) / (2 * ticks_in s)
 
 -- whether so many ticks are so many pixels wide or wider
 abbrev pub has_pixels : Span → ℕ → ℕ → Bool
-has_pixels s ticks pixels = nat_le (pixels * ticks_in s) (ticks * PLOT)
+has_pixels s ticks pixels = nat_le (pixels * ticks_in s) (ticks * plot_width)
 
 -- the pixels that the number of a tick takes, with some room
 abbrev pub room_for : ℕ → ℕ

@@ -9,10 +9,10 @@ use Rattle.dk_picture.specs.declared.columns.Column.TheVariants as column
 use Rattle.dk_picture.specs.declared.frame.Frame.{Frame}
 use Rattle.dk_picture.specs.declared.rows.Row.{Row}
 use Rattle.dk_picture.specs.declared.rows.Row.TheVariants as row
-use Rattle.dk_picture.specs.declared.span.TheConstants.{LEFT, PLOT}
 use Rattle.dk_picture.specs.Columns.{column_sum}
 use Rattle.dk_picture.specs.Elements.{rect, words_at}
 use Rattle.dk_picture.specs.Frames.{top_of}
+use Rattle.dk_picture.specs.Numbers.{plot_left, plot_width}
 use Rattle.dk_picture.specs.Rows.{level_of}
 
 abbrev pub row_name : Heading → Row → List ℕ
@@ -51,7 +51,7 @@ counts_text y r gs = words_at (codes "t x") 1232 y (decimal (column_sum gs r col
 
 -- the line below the row's bars, and its name
 unfoldable pub name_text : Heading → ℕ → Row → List ℕ
-name_text h top r = rect (codes "g") (record { x = LEFT; y = top + 12; width = PLOT; height = 1 })
+name_text h top r = rect (codes "g") (record { x = plot_left; y = top + 12; width = plot_width; height = 1 })
     ++ (words_at (codes "t") 8 (top + 10) (row_name h r) ++ share_text h (top + 21) r)
 
 unfoldable pub row_text : Heading → List LedgerLine → ℕ → Row → List ℕ

@@ -10,7 +10,7 @@ use Rattle.dk_ledger.specs.declared.line.LedgerLine.{LedgerLine}
 use Rattle.dk_ledger.specs.Heading.{Heading}
 use Rattle.dk_picture.specs.declared.rows.Row.{Row}
 use Rattle.dk_picture.specs.declared.rows.Row.TheVariants as row
-use Rattle.dk_picture.specs.declared.row_list.TheConstants.{OWN_ROWS}
+use Rattle.dk_picture.specs.Numbers.{own_rows}
 
 -- a thread has a row of its own, or shares one with its process's children
 abbrev pub takes_thread : Row → ThreadId → Bool
@@ -60,7 +60,7 @@ thread_of_process p s = row.Thread (record { process = p; serial = s })
 
 -- a row for each child, or one for all where they are too many
 abbrev pub child_rows : ℕ → List ℕ → List Row
-child_rows p ss = if nat_le (length ss) OWN_ROWS then map (thread_of_process p) ss else row.Children p ∷ []
+child_rows p ss = if nat_le (length ss) own_rows then map (thread_of_process p) ss else row.Children p ∷ []
 
 abbrev pub process_rows : List LedgerLine → ℕ → List Row
 process_rows gs p = thread_of_process p 0 ∷ child_rows p (children gs p)

@@ -5,9 +5,9 @@ use Rattle.dk_certify.specs.declared.table.TableRow.{TableRow}
 use Rattle.dk_picture.specs.declared.frame.Frame.{Frame}
 use Rattle.dk_picture.specs.declared.span.Span.{Span}
 use Rattle.dk_picture.specs.declared.windows.Window.{Window}
-use Rattle.dk_picture.specs.declared.span.TheConstants.{LEFT, PLOT}
 use Rattle.dk_picture.specs.Elements.{rect, titled_rect, words_at}
 use Rattle.dk_picture.specs.Frames.{head_of, level_top, lines_height}
+use Rattle.dk_picture.specs.Numbers.{plot_left, plot_width}
 use Rattle.dk_picture.specs.Places.{has_pixels, place_of, room_for}
 
 -- neighbours have two shades
@@ -67,7 +67,7 @@ windows_text s f j period = flat_map (λ i. window_text s f (window_at j period 
 abbrev pub ruler_text : Span → Frame → ℕ → ℕ → List ℕ
 ruler_text s f j period =
     if nat_lt 0 period && has_pixels s period 6 then windows_text s f j period
-    else rect (codes "z") (record { x = LEFT; y = level_top j; width = PLOT; height = 13 })
+    else rect (codes "z") (record { x = plot_left; y = level_top j; width = plot_width; height = 13 })
 
 unfoldable pub level_numbers : ℕ → TableRow → List ℕ
 level_numbers y row = words_at (codes "m x") 192 y (decimal row.period)

@@ -8,6 +8,7 @@ mod columns;
 mod drawing;
 mod edges;
 mod elements;
+mod form_laws;
 mod frame;
 mod hold_bars;
 mod labels;
@@ -22,6 +23,7 @@ mod reading;
 mod row_list;
 mod row_texts;
 mod rows;
+mod share_texts;
 mod shares;
 mod span;
 mod style;
@@ -29,6 +31,10 @@ mod threads;
 mod whole;
 mod windows;
 
+pub use form_laws::{
+    each_class_has_one_fill, places_are_those_of_the_bars, the_end_that_is_told_is_the_greatest,
+    the_legend_names_all, words_need_no_escapes,
+};
 pub use laws::{
     bars_are_the_ticks, each_bar_has_a_row, each_hold_has_its_row, marks_are_the_events,
     shares_are_the_windows,

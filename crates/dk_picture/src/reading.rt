@@ -3,6 +3,7 @@ ghost use Rattle.std.specs.Prelude.{ℕ, ◌≡◌, ◌≤◌, ◌++◌, ◌∷�
 ghost use Rattle.dk_ledger.specs.Readable.{Journal, IsReadable};
 ghost use Rattle.dk_groups.specs.Groups.{groups};
 ghost use Rattle.dk_groups.specs.Cutting.{HasGiven, IsCutting};
+ghost use Rattle.dk_picture.specs.Numbers.{max_groups};
 ghost use Rattle.dk_picture.specs.Pictures.{IsTooMany};
 
 use dk_config::NoMemory;
@@ -59,7 +60,7 @@ pub(crate) fn read_groups(
     requires { IsCutting reader.old }
     ensures groups { IfOk result (λ gs. (j : Journal) → IsReadable j → HasGiven j [] reader.old
         → gs.items ≡ groups reader.old.from reader.old.to j.entries) }
-    ensures few { IfOk result (λ gs. length gs.items ≤ MAX_GROUPS) }
+    ensures few { IfOk result (λ gs. length gs.items ≤ max_groups) }
     ensures too_many { (t : ℕ) → IsErrOf result (PictureFault.TooMany t) → (j : Journal) → IsReadable j
         → HasGiven j [] reader.old → IsTooMany (groups reader.old.from reader.old.to j.entries) t }
 {

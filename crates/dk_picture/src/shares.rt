@@ -1,26 +1,19 @@
-//! What each main used of its budget, in each of its windows that lies in the range.
-ghost use Rattle.std.specs.Prelude.{◌≡◌, ◌<◌, ◌≤◌, ◌^◌, ◌++◌, IfOk, OnOk, length, string_bytes};
+//! What each main used of its budget in a window, and whether it has room below the window's end.
+ghost use Rattle.std.specs.Prelude.{◌≡◌, ◌<◌, ◌^◌, length};
 ghost use Rattle.std.specs.List.{list_any};
 ghost use Rattle.dk_trace.specs.Entries.{is_budget_of, quiet};
-ghost use Rattle.dk_picture.specs.Shares.{has_room, is_free, is_in_way, is_urgent_event, is_whole, main_of, share_in, share_line, share_of, share_text, share_words, shares, shares_of, shares_of_process, shares_text, ticks_within, used_in, used_weight};
+ghost use Rattle.dk_picture.specs.Shares.{has_room, is_free, is_in_way, is_urgent_event, is_whole, main_of, share_in, ticks_within, used_in, used_weight};
 
 use crate::drawing::Drawing;
-use crate::elements::{push_line, words_at};
-use crate::frame::Frame;
 use crate::labels::room_in;
 use crate::makings::has_made;
 use crate::marks::is_urgent;
-use crate::row_list::level_of;
-use crate::row_texts::{budget_of, period_of};
+use crate::row_texts::budget_of;
 use crate::rows::Rows;
 use crate::span::Span;
-use crate::windows::{Window, window_at, window_count};
+use crate::windows::Window;
 use dk_ledger::{Header, LedgerLine};
 use dk_trace::{Event, Label, ThreadId};
-use std::alloc::{AllocError, Global};
-
-/// The pixels that a window has at least where what was used in it is told.
-const LEAST_PIXELS: u64 = 26;
 
 /// What a main used of its budget in the window from tick `first` up to before tick `end`, and the number of its row.
 #[derive(Clone, Copy)]
@@ -85,7 +78,7 @@ fn used_in(groups: &[LedgerLine], thread: ThreadId, first: u64, end: u64) -> u64
 }
 
 /// What the main of the process used in the window.
-fn share_in(header: &Header, drawing: &Drawing, process: u8, window: Window) -> Share
+pub(crate) fn share_in(header: &Header, drawing: &Drawing, process: u8, window: Window) -> Share
     ensures { result ≡ share_in header.now drawing.now process window }
 {
     let main = main_of(process);
@@ -100,22 +93,10 @@ fn share_in(header: &Header, drawing: &Drawing, process: u8, window: Window) -> 
 }
 
 /// Whether the window lies in the range.
-fn is_whole(span: Span, window: Window) -> bool
+pub(crate) fn is_whole(span: Span, window: Window) -> bool
     ensures { result ≡ is_whole span window }
 {
     span.from as u64 <= window.first && window.end <= span.to as u64
-}
-
-/// Of the ticks used, those of the budget where children have no part of it.
-fn share_words(alloc: Global, share: Share) -> Result<String, AllocError>
-    ensures { IfOk result (λ s. string_bytes s ≡ share_words share) }
-{
-    let Share { used, budget, .. } = share;
-    if share.shared {
-        format!(in alloc; "{used}/?")
-    } else {
-        format!(in alloc; "{used}/{budget}")
-    }
 }
 
 fn is_urgent_event(event: Option<Event>) -> bool
@@ -168,128 +149,9 @@ fn is_free(span: Span, drawing: &Drawing, share: Share, letters: u64) -> bool
     )
 }
 
-fn has_room(span: Span, drawing: &Drawing, share: Share, letters: u64) -> bool
+/// Whether the words have room below the window's end.
+pub(crate) fn has_room(span: Span, drawing: &Drawing, share: Share, letters: u64) -> bool
     ensures { result ≡ has_room span drawing.now share letters }
 {
     letters <= room_in(span, share.first, share.end) && is_free(span, drawing, share, letters)
-}
-
-/// The words below the window's end.
-fn share_line(
-    alloc: Global,
-    frame: Frame,
-    span: Span,
-    drawing: &Drawing,
-    share: Share,
-    words: &str,
-) -> Result<String, AllocError>
-    ensures { IfOk result (λ s. string_bytes s ≡ share_line frame span drawing.now share words.now) }
-{
-    if !has_room(span, drawing, share, words.len() as u64) {
-        return Ok(String::new(alloc));
-    }
-    let x = span.place(share.end) - 3;
-    words_at(alloc, "m s x", x, frame.top(share.row) + 21, words)
-}
-
-fn share_text(
-    alloc: Global,
-    frame: Frame,
-    span: Span,
-    drawing: &Drawing,
-    share: Share,
-) -> Result<String, AllocError>
-    ensures { IfOk result (λ s. string_bytes s ≡ share_text frame span drawing.now share) }
-{
-    let words = share_words(alloc, share)?;
-    share_line(alloc, frame, span, drawing, share, words.as_str())
-}
-
-/// What the main used in the window, where that lies in the range.
-fn share_of(
-    alloc: Global,
-    header: &Header,
-    frame: Frame,
-    span: Span,
-    drawing: &Drawing,
-    process: u8,
-    window: Window,
-) -> Result<String, AllocError>
-    ensures { IfOk result (λ s. string_bytes s
-        ≡ shares_text frame span drawing.now (share_of header.now span drawing.now process window)) }
-{
-    if is_whole(span, window) {
-        let share = share_in(header, drawing, process, window);
-        share_text(alloc, frame, span, drawing, share)
-    } else {
-        Ok(String::new(alloc))
-    }
-}
-
-/// Adds what the main used in its windows.
-fn add_windows(
-    alloc: Global,
-    text: &mut String,
-    header: &Header,
-    frame: Frame,
-    span: Span,
-    drawing: &Drawing,
-    process: u8,
-    level: u8,
-    period: u32,
-) -> Result<(), AllocError>
-    requires { 0 < period }
-    ensures { OnOk result (string_bytes text.new ≡ string_bytes text.old
-        ++ shares_text frame span drawing.now (shares_of header.now span drawing.now process level period)) }
-{
-    let first = span.from / period;
-    for number in 0..window_count(span, period) {
-        let window = window_at(level, period, first + number);
-        let line = share_of(alloc, header, frame, span, drawing, process, window)?;
-        push_line(text, line)?;
-    }
-    Ok(())
-}
-
-/// Adds them, where its windows are wide enough.
-fn add_main(
-    alloc: Global,
-    text: &mut String,
-    header: &Header,
-    frame: Frame,
-    span: Span,
-    drawing: &Drawing,
-    process: u8,
-) -> Result<(), AllocError>
-    ensures { OnOk result (string_bytes text.new ≡ string_bytes text.old
-        ++ shares_text frame span drawing.now (shares_of_process header.now span drawing.now process)) }
-{
-    let level = level_of(header, process);
-    let period = period_of(header, level);
-    if period > 0 && span.has_pixels(period as u64, LEAST_PIXELS) {
-        add_windows(
-            alloc, text, header, frame, span, drawing, process, level, period,
-        )
-    } else {
-        Ok(())
-    }
-}
-
-/// Adds what each main used in its windows.
-pub(crate) fn add_shares(
-    alloc: Global,
-    text: &mut String,
-    header: &Header,
-    frame: Frame,
-    span: Span,
-    drawing: &Drawing,
-) -> Result<(), AllocError>
-    requires { length header.now.processes ≤ 32 }
-    ensures { OnOk result (string_bytes text.new ≡ string_bytes text.old
-        ++ shares_text frame span drawing.now (shares header.now span drawing.now)) }
-{
-    for process in 0..header.processes.len() as u8 {
-        add_main(alloc, text, header, frame, span, drawing, process)?;
-    }
-    Ok(())
 }

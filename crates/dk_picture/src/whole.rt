@@ -4,6 +4,7 @@ ghost use Rattle.dk_ledger.specs.Readable.{Journal};
 ghost use Rattle.dk_groups.specs.Groups.{groups};
 ghost use Rattle.dk_hold_spans.specs.HoldLists.{holds_in};
 ghost use Rattle.dk_picture.specs.Makings.{makings_in};
+ghost use Rattle.dk_picture.specs.Numbers.{max_groups};
 ghost use Rattle.dk_picture.specs.Pictures.{IsShown, IsTooMany, body_text, drawn_text, foot_text, legend_head, legend_text, names_text, parts_text, picture_text, svg_text};
 
 use crate::axis::add_axis;
@@ -17,9 +18,9 @@ use crate::makings::read_makings;
 use crate::marks::add_marks;
 use crate::mutex_texts::add_mutexes;
 use crate::opening::add_opening;
-use crate::reading::{MAX_GROUPS, PictureFault, read_groups};
+use crate::reading::{PictureFault, read_groups};
 use crate::row_texts::{add_rows, rows_head};
-use crate::shares::add_shares;
+use crate::share_texts::add_shares;
 use crate::span::Span;
 use crate::style::LEGEND;
 use dk_config::NoMemory;
@@ -200,7 +201,7 @@ pub fn picture(
     requires { (j : Journal) × IsShown j header.now bytes.now ticks }
     ensures drawn { IfOk result (λ text. (j : Journal) → IsShown j header.now bytes.now ticks
         → (string_bytes text ≡ svg_text from to j.heading j.entries)
-        × (length (groups from to j.entries) ≤ MAX_GROUPS)) }
+        × (length (groups from to j.entries) ≤ max_groups)) }
     ensures too_many { (t : ℕ) → IsErrOf result (PictureFault.TooMany t) → (j : Journal)
         → IsShown j header.now bytes.now ticks → IsTooMany (groups from to j.entries) t }
 {

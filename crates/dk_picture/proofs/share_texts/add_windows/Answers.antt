@@ -3,7 +3,7 @@ use Rattle.std.specs.Prelude.{string_bytes}
 use Rattle.dk_picture.specs.Shares.{share_of, share_text, shares_text}
 use Rattle.dk_picture.specs.Windows.{window_at}
 use Rattle.dk_picture.proofs.Adding.{each_shown}
-use Rattle.dk_picture.proofs.shares.add_windows.Goals as goal
+use Rattle.dk_picture.proofs.share_texts.add_windows.Goals as goal
 
 pub loop-number-preserved : goal.loop-number-preserved
 loop-number-preserved c =

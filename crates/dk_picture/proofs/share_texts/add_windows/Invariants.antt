@@ -2,7 +2,7 @@ use Rattle.std.proofs.Common.{◌≡◌, ◌+◌, ◌++◌, flat_map, string_byt
 use Rattle.dk_config.specs.Sums.{below}
 use Rattle.dk_picture.specs.Shares.{share_of, shares_text}
 use Rattle.dk_picture.specs.Windows.{window_at}
-use Rattle.dk_picture.proofs.shares.add_windows.Given as goal
+use Rattle.dk_picture.proofs.share_texts.add_windows.Given as goal
 
 -- the windows so far are added
 abbrev pub invariant-loop-number : goal.invariant-loop-number

@@ -2,7 +2,7 @@ use Rattle.std.proofs.Common.{refl}
 use Rattle.std.specs.Prelude.{string_bytes}
 use Rattle.dk_picture.specs.Shares.{share_text, shares_of_process}
 use Rattle.dk_picture.proofs.Adding.{each_shown}
-use Rattle.dk_picture.proofs.shares.add_shares.Goals as goal
+use Rattle.dk_picture.proofs.share_texts.add_shares.Goals as goal
 
 pub loop-process-preserved : goal.loop-process-preserved
 loop-process-preserved c =

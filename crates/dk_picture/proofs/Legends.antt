@@ -1,0 +1,57 @@
+-- The legend of the code is that of the definitions, and names what is drawn.
+use Rattle.std.proofs.Common.{ℕ, ◌≡◌, ◌++◌, [], List, refl, codes, inl, inr, ◌⊎◌}
+use Rattle.std.specs.Fmt.{digits}
+use Rattle.std.specs.Prelude.{decimal}
+use Rattle.dk_trace.specs.declared.Event.{Event}
+use Rattle.dk_trace.specs.declared.Label.{Label}
+use Rattle.dk_trace.specs.declared.Source.{Source}
+use Rattle.dk_trace.specs.declared.Work.{Work}
+use Rattle.dk_trace.specs.Members.{Has}
+use Rattle.dk_trace.specs.Refusals.{number}
+use Rattle.dk_ledger.specs.LineText.{event_text, fault_text}
+use Rattle.dk_picture.specs.declared.style.TheConstants.{LEGEND}
+use Rattle.dk_picture.specs.Bars.{class_of}
+use Rattle.dk_picture.specs.Elements.{rect_head}
+use Rattle.dk_picture.specs.Legends.{event_word, legend_rows, meaning_of, meanings, named_classes}
+
+pub legend_is : LEGEND.now ≡ legend_rows
+unfolding digits rect_head legend_rows
+legend_is = refl
+
+pub classes_named : (label : Label) → (label ≡ Label.Idle) ⊎ Has named_classes (class_of label)
+classes_named (Label.Kernel j) = inr (inl refl)
+classes_named (Label.In x) = inr (inr (inl refl))
+classes_named (Label.Out x) = inr (inr (inr (inl refl)))
+classes_named (Label.Run x) = inr (inr (inr (inr (inl refl))))
+classes_named (Label.Call x) = inr (inr (inr (inr (inr (inl refl)))))
+classes_named (Label.Slack x Source.Timeline Work.In) = inr (inr (inr (inr (inr (inr (inl refl))))))
+classes_named (Label.Slack x Source.Timeline Work.Run) = inr (inr (inr (inr (inr (inr (inr (inl refl)))))))
+classes_named (Label.Slack x Source.Timeline Work.Call) = inr (inr (inr (inr (inr (inr (inr (inr (inl refl))))))))
+classes_named (Label.Slack x (Source.Reclaimed j) Work.In) = inr (inr (inr (inr (inr (inr (inr (inr (inr (inl refl)))))))))
+classes_named (Label.Slack x (Source.Reclaimed j) Work.Run) = inr (inr (inr (inr (inr (inr (inr (inr (inr (inr (inl refl))))))))))
+classes_named (Label.Slack x (Source.Reclaimed j) Work.Call) = inr (inr (inr (inr (inr (inr (inr (inr (inr (inr (inr (inl refl)))))))))))
+classes_named Label.Idle = inl refl
+
+pub marks_named : (e : Event) → Has meanings (meaning_of e)
+marks_named Event.Wait = inl refl
+marks_named Event.Exit = inr (inl refl)
+marks_named (Event.Create serial level quota) = inr (inr (inl refl))
+marks_named (Event.Delete serial) = inr (inr (inr (inl refl)))
+marks_named (Event.Lock m) = inr (inr (inr (inr (inl refl))))
+marks_named (Event.Unlock m) = inr (inr (inr (inr (inr (inl refl)))))
+marks_named (Event.Slack amount) = inr (inr (inr (inr (inr (inr (inl refl))))))
+marks_named (Event.Put value) = inr (inr (inr (inr (inr (inr (inr (inl refl)))))))
+marks_named (Event.Refused refusal) = inr (inr (inr (inr (inr (inr (inr (inr (inl refl))))))))
+marks_named (Event.Fault kind) = inr (inr (inr (inr (inr (inr (inr (inr (inr (inl refl)))))))))
+
+pub words_begin : (e : Event) → (rest : List ℕ) × (event_text e ≡ event_word e ++ rest)
+words_begin Event.Wait = ([], refl)
+words_begin Event.Exit = ([], refl)
+words_begin (Event.Fault kind) = (codes " " ++ fault_text kind, refl)
+words_begin (Event.Create serial level quota) = (codes " " ++ decimal serial ++ codes " " ++ decimal level ++ codes " " ++ decimal quota, refl)
+words_begin (Event.Delete serial) = (codes " " ++ decimal serial, refl)
+words_begin (Event.Lock m) = (codes " " ++ decimal m, refl)
+words_begin (Event.Unlock m) = (codes " " ++ decimal m, refl)
+words_begin (Event.Slack amount) = (codes " " ++ decimal amount, refl)
+words_begin (Event.Put value) = (codes " " ++ decimal value, refl)
+words_begin (Event.Refused refusal) = (codes " " ++ decimal (number refusal), refl)

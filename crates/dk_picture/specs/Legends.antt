@@ -1,0 +1,123 @@
+-- What the bars' colours and the marks stand for, below the axis, by the labels and events that are drawn with them.
+use Rattle.std.specs.Prelude.{ℕ, ◌+◌, ◌*◌, ◌++◌, ◌∷◌, [], List, codes, decimal, false, flat_map, length, map}
+use Rattle.dk_isa.specs.declared.FaultKind.{FaultKind}
+use Rattle.dk_trace.specs.declared.Event.{Event}
+use Rattle.dk_trace.specs.declared.Label.{Label}
+use Rattle.dk_trace.specs.declared.Refusal.{Refusal}
+use Rattle.dk_trace.specs.declared.Source.{Source}
+use Rattle.dk_trace.specs.declared.ThreadId.{ThreadId}
+use Rattle.dk_trace.specs.declared.Work.{Work}
+use Rattle.dk_picture.specs.Bars.{class_of, height_of, shift_of}
+use Rattle.dk_picture.specs.Elements.{rect_head}
+use Rattle.dk_picture.specs.HoldBars.{hold_class, hold_height}
+use Rattle.dk_picture.specs.Marks.{mark_class, outline}
+use Rattle.dk_picture.specs.Shares.{share_words}
+
+-- some thread, and its slack
+abbrev pub some_thread : ThreadId
+some_thread = record { process = 0; serial = 0 }
+
+abbrev pub some_slack : Source → List Label
+some_slack source =
+    Label.Slack some_thread source Work.In ∷ Label.Slack some_thread source Work.Run
+    ∷ Label.Slack some_thread source Work.Call ∷ []
+
+-- labels whose bars are drawn in this colour, from this place on, and what they stand for
+pub record Colour : Type 0 where
+  pub x : ℕ
+  pub labels : List Label
+  pub words : List ℕ
+
+abbrev pub colours : List Colour
+colours = record { x = 8; labels = Label.Kernel 0 ∷ []; words = codes "kernel" }
+    ∷ record { x = 82; labels = Label.In some_thread ∷ Label.Out some_thread ∷ []; words = codes "in, out" }
+    ∷ record { x = 176; labels = Label.Run some_thread ∷ []; words = codes "run" }
+    ∷ record { x = 229; labels = Label.Call some_thread ∷ []; words = codes "call" }
+    ∷ record { x = 289; labels = some_slack Source.Timeline; words = codes "slack, timeline" }
+    ∷ record { x = 452; labels = some_slack (Source.Reclaimed 0); words = codes "slack, reclaimed" }
+    ∷ []
+
+abbrev pub words_text : ℕ → ℕ → List ℕ → List ℕ
+words_text x y words = codes "<text x='" ++ decimal x ++ codes "' y='" ++ decimal y ++ codes "'>" ++ words ++ codes "</text>\n"
+
+-- the bar of such a label
+abbrev pub sample : ℕ → Label → List ℕ
+sample x label = rect_head (class_of label)
+    (record { x = x; y = 26 + shift_of label; width = 12; height = height_of label }) ++ codes "/>"
+
+-- one beside the other, with a line feed behind each second
+abbrev pub samples : ℕ → List Label → List ℕ
+samples x [] = []
+samples x (a ∷ []) = sample x a
+samples x (a ∷ b ∷ more) = sample x a ++ sample (x + 13) b ++ codes "\n" ++ samples (x + 26) more
+
+abbrev pub colour_text : Colour → List ℕ
+colour_text c = samples c.x c.labels ++ words_text (c.x + 13 * length c.labels + 5) 36 c.words
+
+abbrev pub hold_sample : List ℕ
+hold_sample = rect_head hold_class (record { x = 622; y = 26; width = 12; height = hold_height })
+    ++ codes "/>" ++ words_text 640 36 (codes "mutex held")
+
+-- the word of an event, with which its title begins
+abbrev pub event_word : Event → List ℕ
+event_word Event.Wait = codes "wait"
+event_word Event.Exit = codes "exit"
+event_word (Event.Fault kind) = codes "fault"
+event_word (Event.Create serial level quota) = codes "create"
+event_word (Event.Delete serial) = codes "delete"
+event_word (Event.Lock m) = codes "lock"
+event_word (Event.Unlock m) = codes "unlock"
+event_word (Event.Slack amount) = codes "slack"
+event_word (Event.Put value) = codes "put"
+event_word (Event.Refused refusal) = codes "refused"
+
+-- an event that is marked in this way, and the middle of its mark
+pub record Shape : Type 0 where
+  pub x : ℕ
+  pub event : Event
+
+abbrev pub shapes : List Shape
+shapes = record { x = 13; event = Event.Wait } ∷ record { x = 67; event = Event.Exit }
+    ∷ record { x = 121; event = Event.Create 0 0 0 } ∷ record { x = 189; event = Event.Delete 0 }
+    ∷ record { x = 257; event = Event.Lock 0 } ∷ record { x = 311; event = Event.Unlock 0 }
+    ∷ record { x = 379; event = Event.Slack 0 } ∷ record { x = 440; event = Event.Put 0 }
+    ∷ record { x = 487; event = Event.Refused Refusal.NotMain } ∷ record { x = 562; event = Event.Fault FaultKind.Fetch }
+    ∷ []
+
+-- a line feed stands behind the longest
+abbrev pub shape_end : Event → List ℕ
+shape_end (Event.Fault kind) = codes "'/>\n"
+shape_end _ = codes "'/>"
+
+abbrev pub shape_text : Shape → List ℕ
+shape_text s = codes "<path class='" ++ mark_class s.event ++ codes "' d='M" ++ decimal s.x ++ codes " 52"
+    ++ outline s.event ++ shape_end s.event ++ words_text (s.x + 8) 56 (event_word s.event)
+
+-- what a main used of its budget
+abbrev pub share_sample : List ℕ
+share_sample = codes "<text class='m s' x='622' y='56'>"
+    ++ share_words (record { row = 0; first = 0; end = 0; used = 9; budget = 15; shared = false })
+    ++ codes "</text>" ++ words_text 654 56 (codes "used/budget of a window")
+
+-- all of them, and the end of the picture
+unfoldable pub legend_rows : List ℕ
+legend_rows = flat_map colour_text colours ++ hold_sample ++ flat_map shape_text shapes ++ share_sample
+    ++ codes "</g>\n</svg>\n"
+
+-- ---- what it names
+
+-- the classes of its bars
+abbrev pub named_classes : List (List ℕ)
+named_classes = map class_of (flat_map (λ c. c.labels) colours)
+
+-- the class, the outline and the word of a mark
+pub record Meaning : Type 0 where
+  pub class : List ℕ
+  pub outline : List ℕ
+  pub word : List ℕ
+
+abbrev pub meaning_of : Event → Meaning
+meaning_of e = record { class = mark_class e; outline = outline e; word = event_word e }
+
+abbrev pub meanings : List Meaning
+meanings = map (λ s. meaning_of s.event) shapes

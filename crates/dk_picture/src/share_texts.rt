@@ -1,0 +1,149 @@
+//! The words that tell what each main used of its budget, in each of its windows that lies in the range.
+ghost use Rattle.std.specs.Prelude.{◌≡◌, ◌<◌, ◌≤◌, ◌++◌, IfOk, OnOk, length, string_bytes};
+ghost use Rattle.dk_picture.specs.Shares.{share_line, share_of, share_text, share_words, shares, shares_of, shares_of_process, shares_text};
+
+use crate::drawing::Drawing;
+use crate::elements::{push_line, words_at};
+use crate::frame::Frame;
+use crate::row_list::level_of;
+use crate::row_texts::period_of;
+use crate::shares::{Share, has_room, is_whole, share_in};
+use crate::span::Span;
+use crate::windows::{Window, window_at, window_count};
+use dk_ledger::Header;
+use std::alloc::{AllocError, Global};
+
+/// The pixels that a window has at least where what was used in it is told.
+const LEAST_PIXELS: u64 = 26;
+
+/// Of the ticks used, those of the budget where children have no part of it.
+fn share_words(alloc: Global, share: Share) -> Result<String, AllocError>
+    ensures { IfOk result (λ s. string_bytes s ≡ share_words share) }
+{
+    let Share { used, budget, .. } = share;
+    if share.shared {
+        format!(in alloc; "{used}/?")
+    } else {
+        format!(in alloc; "{used}/{budget}")
+    }
+}
+
+/// The words below the window's end.
+fn share_line(
+    alloc: Global,
+    frame: Frame,
+    span: Span,
+    drawing: &Drawing,
+    share: Share,
+    words: &str,
+) -> Result<String, AllocError>
+    ensures { IfOk result (λ s. string_bytes s ≡ share_line frame span drawing.now share words.now) }
+{
+    if !has_room(span, drawing, share, words.len() as u64) {
+        return Ok(String::new(alloc));
+    }
+    let x = span.place(share.end) - 3;
+    words_at(alloc, "m s x", x, frame.top(share.row) + 21, words)
+}
+
+fn share_text(
+    alloc: Global,
+    frame: Frame,
+    span: Span,
+    drawing: &Drawing,
+    share: Share,
+) -> Result<String, AllocError>
+    ensures { IfOk result (λ s. string_bytes s ≡ share_text frame span drawing.now share) }
+{
+    let words = share_words(alloc, share)?;
+    share_line(alloc, frame, span, drawing, share, words.as_str())
+}
+
+/// What the main used in the window, where that lies in the range.
+fn share_of(
+    alloc: Global,
+    header: &Header,
+    frame: Frame,
+    span: Span,
+    drawing: &Drawing,
+    process: u8,
+    window: Window,
+) -> Result<String, AllocError>
+    ensures { IfOk result (λ s. string_bytes s
+        ≡ shares_text frame span drawing.now (share_of header.now span drawing.now process window)) }
+{
+    if is_whole(span, window) {
+        let share = share_in(header, drawing, process, window);
+        share_text(alloc, frame, span, drawing, share)
+    } else {
+        Ok(String::new(alloc))
+    }
+}
+
+/// Adds what the main used in its windows.
+fn add_windows(
+    alloc: Global,
+    text: &mut String,
+    header: &Header,
+    frame: Frame,
+    span: Span,
+    drawing: &Drawing,
+    process: u8,
+    level: u8,
+    period: u32,
+) -> Result<(), AllocError>
+    requires { 0 < period }
+    ensures { OnOk result (string_bytes text.new ≡ string_bytes text.old
+        ++ shares_text frame span drawing.now (shares_of header.now span drawing.now process level period)) }
+{
+    let first = span.from / period;
+    for number in 0..window_count(span, period) {
+        let window = window_at(level, period, first + number);
+        let line = share_of(alloc, header, frame, span, drawing, process, window)?;
+        push_line(text, line)?;
+    }
+    Ok(())
+}
+
+/// Adds them, where its windows are wide enough.
+fn add_main(
+    alloc: Global,
+    text: &mut String,
+    header: &Header,
+    frame: Frame,
+    span: Span,
+    drawing: &Drawing,
+    process: u8,
+) -> Result<(), AllocError>
+    ensures { OnOk result (string_bytes text.new ≡ string_bytes text.old
+        ++ shares_text frame span drawing.now (shares_of_process header.now span drawing.now process)) }
+{
+    let level = level_of(header, process);
+    let period = period_of(header, level);
+    if period > 0 && span.has_pixels(period as u64, LEAST_PIXELS) {
+        add_windows(
+            alloc, text, header, frame, span, drawing, process, level, period,
+        )
+    } else {
+        Ok(())
+    }
+}
+
+/// Adds what each main used in its windows.
+pub(crate) fn add_shares(
+    alloc: Global,
+    text: &mut String,
+    header: &Header,
+    frame: Frame,
+    span: Span,
+    drawing: &Drawing,
+) -> Result<(), AllocError>
+    requires { length header.now.processes ≤ 32 }
+    ensures { OnOk result (string_bytes text.new ≡ string_bytes text.old
+        ++ shares_text frame span drawing.now (shares header.now span drawing.now)) }
+{
+    for process in 0..header.processes.len() as u8 {
+        add_main(alloc, text, header, frame, span, drawing, process)?;
+    }
+    Ok(())
+}
