@@ -45,12 +45,12 @@ use Rattle.dk_bound.proofs.Laws.{received, begins_free}
 use Rattle.dk_bound.proofs.Before.{main-among, not-after, passed-faster}
 use Rattle.dk_bound.proofs.ByWhen.{by_when, audited-drop}
 
-record Rules (c : Configuration) (past : List Entry) : Type 0 where
-  checked : IsChecked c
-  accepted : IsAccepted c
-  audited : Audited c past
+pub record Rules (c : Configuration) (past : List Entry) : Type 0 where
+  pub checked : IsChecked c
+  pub accepted : IsAccepted c
+  pub audited : Audited c past
 
-rules-before : (c : Configuration) (e : Entry) (past : List Entry) → Rules c (e ∷ past) → Rules c past
+pub rules-before : (c : Configuration) (e : Entry) (past : List Entry) → Rules c (e ∷ past) → Rules c past
 rules-before c e past know = record { checked = know.checked; accepted = know.accepted; audited = know.audited.0 }
 
 -- the job of the main's row is over
@@ -163,9 +163,9 @@ over-by c p s f (e ∷ past) know here begins enough le =
     ]
 
 -- the later main has had no tick of its window yet and holds nothing
-record Waits (c : Configuration) (q s : ℕ) (past : List Entry) : Type 0 where
-  unbegun : (job_from c past (main_thread c q) s).used ≡ 0
-  free : is_holding (held_by (main_id q) past) ≡ false
+pub record Waits (c : Configuration) (q s : ℕ) (past : List Entry) : Type 0 where
+  pub unbegun : (job_from c past (main_thread c q) s).used ≡ 0
+  pub free : is_holding (held_by (main_id q) past) ≡ false
 
 -- p comes before q
 pub record Comes (c : Configuration) (p q : ℕ) : Type 0 where
@@ -173,7 +173,7 @@ pub record Comes (c : Configuration) (p q : ℕ) : Type 0 where
   pub second : q < length c.processes
   pub before : (main_level c p < main_level c q) ⊎ ((main_level c p ≡ main_level c q) × (p < q))
 
-unbegun-start : (c : Configuration) (q s : ℕ) (past : List Entry) → s % period c (main_level c q) ≡ 0 → length past ≤ s → (job_from c past (main_thread c q) s).used ≡ 0
+pub unbegun-start : (c : Configuration) (q s : ℕ) (past : List Entry) → s % period c (main_level c q) ≡ 0 → length past ≤ s → (job_from c past (main_thread c q) s).used ≡ 0
 unbegun-start c q s past begins late = ap (count_by (is_budget_of (main_id q))) (window-later c past (main_level c q) s begins late)
 
 used-from : (c : Configuration) (q s : ℕ) (e : Entry) (past : List Entry) → s ≤ length past → suc (length past) ≤ s + period c (main_level c q)
@@ -189,7 +189,7 @@ used-from c q s e past from within =
     ∙ ap (λ es. spent (main_id q) e + count (window c s es i)) (sym (past_at-later past (s + period c i) (omega arith)))
 
 -- whom a tick is lent to, and that every level up to its own has nothing to do
-lent-at : (c : Configuration) (past : List Entry) (choice : Choice) (label : Label) (z : ThreadId) → Reason c past choice → HasChosenLabel choice label → borrower label ≡ Some z
+pub lent-at : (c : Configuration) (past : List Entry) (choice : Choice) (label : Label) (z : ThreadId) → Reason c past choice → HasChosenLabel choice label → borrower label ≡ Some z
     → (y : Thread) × Has (threads c past) y × Passed c past (suc y.level) × (z ≡ y.id)
 lent-at c past _ label z (kernel_first k known passed some) has lends = let none = (kernel-says k label has).borrows in absurd (cc)
 lent-at c past _ label z (thread_first k x known passed among turn) has lends =
@@ -242,7 +242,7 @@ not-yet c p q e past know comes left free mine (lent k x known passed has none r
 not-yet c p q e past know comes left free mine (kernel k known passed some pays borrows at) = of-nobody (main_id q) e pays borrows mine
 not-yet c p q e past know comes left free mine (idle passed pays borrows at) = of-nobody (main_id q) e pays borrows mine
 
-waits-on : (c : Configuration) (q s : ℕ) (e : Entry) (past : List Entry) → s ≤ length past → suc (length past) ≤ s + period c (main_level c q)
+pub waits-on : (c : Configuration) (q s : ℕ) (e : Entry) (past : List Entry) → s ≤ length past → suc (length past) ≤ s + period c (main_level c q)
     → is_of (main_id q) e ≡ false → Waits c q s past → Waits c q s (e ∷ past)
 waits-on c q s e past from within other waits =
     let used = used-from c q s e past from within in
@@ -312,7 +312,7 @@ comes-of c p q first second comes =
       ];
     }
 
-at-tick : (c : Configuration) (past : List Entry) (u : ℕ) → Rules c past → Rules c (past_at past u)
+pub at-tick : (c : Configuration) (past : List Entry) (u : ℕ) → Rules c past → Rules c (past_at past u)
 at-tick c past u know = record { checked = know.checked; accepted = know.accepted; audited = audited-drop c (length past - u) past know.audited }
 
 together : (c : Configuration) (p q s : ℕ) (past : List Entry) → Rules c past → Comes c p q → s % period c (main_level c p) ≡ 0 → s % period c (main_level c q) ≡ 0

@@ -4,3 +4,5 @@ pub mod Chain
 pub mod Pace
 pub mod Paced
 pub mod Age
+pub mod KernelFirst
+pub mod Releases

@@ -3,3 +3,4 @@ pub mod Rounding
 pub mod Chain
 pub mod Pace
 pub mod Age
+pub mod Sooner

@@ -9,9 +9,11 @@ ghost use Rattle.dk_chain.specs.Chain.{ReactsInTime};
 
 mod in_order;
 mod reacting;
+mod sooner;
 
 pub use in_order::{begin_in_order_law, over_in_time_law};
 pub use reacting::{data_age, free_from, next_window, reaction, worst_event};
+pub use sooner::{releases_before, sooner_law};
 
 /// Whatever the programs do, a chain of processes answers each event within its reaction time: there is a window of the
 /// first process that starts at the event or after, and of each next one a window in which its job begins only when the

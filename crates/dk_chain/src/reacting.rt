@@ -35,7 +35,7 @@ fn round_up(ticks: u64, period: u32) -> u64
 }
 
 /// The level of the process's main.
-fn level_of(config: &Config, process: u32) -> u32
+pub(crate) fn level_of(config: &Config, process: u32) -> u32
     requires checked { IsChecked config.now }
     requires limits { IsWithinLimits config.now }
     requires process { process < length config.now.processes }
