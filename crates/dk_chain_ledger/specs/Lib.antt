@@ -1,0 +1,5 @@
+pub mod Jobs
+pub mod Tables
+pub mod Reactions
+pub mod Laws
+pub mod Text
