@@ -1,3 +1,4 @@
-pub mod One
 pub mod Seen
 pub mod Rows
+pub mod Others
+pub mod Plain

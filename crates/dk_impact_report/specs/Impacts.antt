@@ -1,5 +1,6 @@
 -- What a change of the configuration does to each process.
-use Rattle.std.specs.Prelude.{ℕ, zero, suc, ◌+◌, ◌≡◌, ◌≢◌, ◌<◌, ◌⊎◌, Bool, true, false, List, [], ◌∷◌, ◌++◌, map, position, slice_index_or, Option, Some, None}
+use Rattle.std.specs.Prelude.{ℕ, zero, suc, ◌+◌, ◌≡◌, ◌≢◌, ◌<◌, ◌⊎◌, Bool, true, false, List, [], ◌∷◌, ◌++◌, map, position, slice_index_or, Option, Some, None, length}
+use Rattle.std.specs.List.{list_any}
 use Rattle.std.specs.Str.{bytes_eq}
 use Rattle.dk_config.specs.Configuration.{Configuration}
 use Rattle.dk_config.specs.Windows.{budget, may_ask, process_name, slots}
@@ -92,6 +93,27 @@ abbrev pub AreRows : Workload → Workload → ℕ → List Row → Type 0
 AreRows old new zero rows = rows ≡ []
 AreRows old new (suc n) rows =
     (before : List Row) × (row : Row) × AreRows old new n before × IsRow old new n row × (rows ≡ before ++ row ∷ [])
+
+abbrev pub is_same : Impact → Bool
+is_same Impact.Same = true
+is_same _ = false
+
+abbrev pub is_there : Configuration → List ℕ → Bool
+is_there c name = list_any (λ row. bytes_eq row.name name) c.processes
+
+abbrev pub is_named : List (List ℕ) → List ℕ → Bool
+is_named names name = list_any (bytes_eq name) names
+
+-- process q of the new configuration was there, and is the same
+abbrev pub IsKept : Workload → Workload → ℕ → Type 0
+IsKept old new q = (p : ℕ) × (place_of old.config (process_name new.config q) ≡ Some p) × IsSame old p new q
+
+-- The change touches none but the processes of these names: every other one of the new configuration was there and is the
+-- same, and every other one of the old is there still.
+pub record TouchesOnly (names : List (List ℕ)) (old new : Workload) : Type 0 where
+  pub kept : (q : ℕ) → q < length new.config.processes → is_named names (process_name new.config q) ≡ false → IsKept old new q
+  pub there : (p : ℕ) → p < length old.config.processes → is_named names (process_name old.config p) ≡ false
+      → is_there new.config (process_name old.config p) ≡ true
 
 -- The evidence of the process stands, whatever programs the other processes have.
 pub record EvidenceStands (old : Workload) (p : ℕ) (new : Workload) (q : ℕ) : Type 0 where

@@ -1,2 +1,5 @@
 pub mod Impacts
+pub mod Told
+pub mod Forms
 pub mod ImpactText
+pub mod Touching

@@ -105,7 +105,7 @@ fn row_named(rows: &[ProcessRow], name: &str) -> Option<usize>
 }
 
 /// The process of this name.
-fn place_of(config: &Config, name: &str) -> Option<u32>
+pub(crate) fn place_of(config: &Config, name: &str) -> Option<u32>
     requires { IsWithinLimits config.now }
     ensures found { result ≡ place_of config.now name.now }
     ensures exists { IfSome result (λ p. p < length config.now.processes) }

@@ -1,12 +1,12 @@
 //! How many processes are told what.
 ghost use Rattle.std.specs.Prelude.{◌≡◌, filter, length};
-ghost use Rattle.std.specs.List.{list_any};
-ghost use Rattle.dk_impact_report.specs.ImpactText.{how_many, how_many_gone, is_changed, is_gone, is_moved, is_new, is_open, is_same, is_there, stands};
+ghost use Rattle.dk_impact_report.specs.ImpactText.{how_many, how_many_gone, is_changed, is_gone, is_new, is_open};
+ghost use Rattle.dk_impact_report.specs.Impacts.{is_same, is_there};
 
 use crate::{Impact, Row};
 use dk_config::{Config, ProcessRow, has_process};
 
-fn is_same(row: &Row) -> bool
+pub(crate) fn is_same(row: &Row) -> bool
     ensures { result ≡ is_same row.now.impact }
 {
     matches!(row.impact, Impact::Same)
@@ -22,12 +22,6 @@ fn is_open(row: &Row) -> bool
     ensures { result ≡ is_open row.now.impact }
 {
     matches!(row.impact, Impact::Open(_))
-}
-
-fn is_moved(row: &Row) -> bool
-    ensures { result ≡ is_moved row.now.impact }
-{
-    is_changed(row) || is_open(row)
 }
 
 fn is_new(row: &Row) -> bool
@@ -83,17 +77,4 @@ pub(crate) fn how_many_gone(old: &Config, new: &Config) -> usize
     ensures { result ≡ how_many_gone old.now new.now }
 {
     gone_among(new, old.processes.as_slice())
-}
-
-fn is_any_moved(rows: &[Row]) -> bool
-    ensures { result ≡ list_any (λ row. is_moved row.impact) rows.now }
-{
-    rows.iter().any(|row| is_moved(row))
-}
-
-/// Whether the evidence of every process stands that was there and still is: none is changed, and none is open.
-pub fn stands(rows: &[Row]) -> bool
-    ensures { result ≡ stands rows.now }
-{
-    !is_any_moved(rows)
 }
