@@ -1,0 +1,46 @@
+-- Lists, place by place.
+use Rattle.std.proofs.Common.{ℕ, zero, suc, ◌≡◌, ◌+◌, ◌<◌, ◌∙◌, inl, inr, List, [], ◌∷◌, ◌++◌, length, get_or, set, map, Some, refl, ap, sym, subst, arith}
+use Rattle.std.specs.Prelude.{slice_get}
+use Rattle.std.specs.List.{range_with_len}
+use Rattle.std.proofs.lemmas.List.{length-map, map-id}
+use Rattle.std.proofs.lemmas.List.FromFn.{length-range_with_len, map-range_with_len_more}
+use Rattle.dk_config.specs.Configuration.{Configuration}
+use Rattle.dk_trace.specs.Members.{Has}
+use Rattle.dk_cycle.specs.declared.own.OwnSearch.{OwnSearch}
+use Rattle.dk_repeat_search.specs.Searching.{AreOwn, process_of}
+
+pub has-place : {X : Type 0} (xs : List X) (x : X) → Has xs x → (i : ℕ) × (i < length xs) × (slice_get xs i ≡ Some x)
+has-place [] x h = absurd h
+has-place (y ∷ ys) x (inl is) = (zero, omega arith, ap Some is)
+has-place (y ∷ ys) x (inr h) = let r = has-place ys x h in let low = r.1 in (suc r.0, omega (arith, low), r.2)
+
+pub get-before : {X : Type 0} (xs ys : List X) (i : ℕ) (x : X) → slice_get xs i ≡ Some x → slice_get (xs ++ ys) i ≡ Some x
+get-before [] ys i x is = absurd (cc)
+get-before (y ∷ xs) ys zero x is = is
+get-before (y ∷ xs) ys (suc i) x is = get-before xs ys i x is
+
+pub get-last : {X : Type 0} (xs : List X) (x : X) → slice_get (xs ++ x ∷ []) (length xs) ≡ Some x
+get-last [] x = refl
+get-last (y ∷ xs) x = get-last xs x
+
+-- each item with one more is an item, or the one
+pub each-more : {X : Type 0} (P : X → Type 0) (xs : List X) (x : X) → ((i : ℕ) (y : X) → slice_get xs i ≡ Some y → P y) → P x
+    → (i : ℕ) (y : X) → slice_get (xs ++ x ∷ []) i ≡ Some y → P y
+each-more P [] x each here zero y is = let same : x ≡ y = cc in subst P same here
+each-more P [] x each here (suc i) y is = absurd (cc)
+each-more P (z ∷ xs) x each here zero y is = each zero y is
+each-more P (z ∷ xs) x each here (suc i) y is = each-more P xs x (λ j w at. each (suc j) w at) here i y is
+
+-- an item in place of one with the same value leaves the values
+pub set-same : {X : Type 0} (f : X → ℕ) (xs : List X) (i : ℕ) (old new : X) → i < length xs → f new ≡ f (get_or xs i old) → map f (set xs i new) ≡ map f xs
+set-same f [] i old new within same = absurd (omega arith)
+set-same f (x ∷ xs) zero old new within same = ap (λ n. n ∷ map f xs) same
+set-same f (x ∷ xs) (suc i) old new within same = ap (λ ns. f x ∷ ns) (set-same f xs i old new (omega arith) same)
+
+pub range-more : (n : ℕ) → range_with_len 0 (n + 1) ≡ range_with_len 0 n ++ n ∷ []
+range-more n =
+    sym (map-id (range_with_len 0 (n + 1))) ∙ map-range_with_len_more (λ (m : ℕ). m) 0 n n (omega arith)
+    ∙ ap (λ ms. ms ++ n ∷ []) (map-id (range_with_len 0 n))
+
+pub many-own : (c : Configuration) (programs : List (List ℕ)) (own : List OwnSearch) → AreOwn c programs own → length own ≡ length c.processes
+many-own c programs own are = sym (length-map own process_of) ∙ ap length are.processes ∙ length-range_with_len 0 (length c.processes)

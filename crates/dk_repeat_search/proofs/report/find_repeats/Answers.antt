@@ -1,0 +1,19 @@
+use Rattle.std.proofs.Common.{◌≡◌, ◌∙◌, ap}
+use Rattle.dk_loader.specs.Workload.{Workload}
+use Rattle.dk_repeat_report.specs.Lines.{names_of}
+use Rattle.dk_repeat_report.specs.Found.{found_text}
+use Rattle.dk_repeat_search.specs.Repeats.{repeats}
+use Rattle.dk_repeat_search.proofs.Told.{repeats-of}
+use Rattle.dk_repeat_search.proofs.report.find_repeats.Goals as goal
+
+pub returns : goal.returns
+returns c =
+    let w = c.args.loaded in
+    let s = c.in_ok-searches.searches in
+    let ticks = c.args.ticks in
+    let config : c.loaded.inside.config ≡ w.config = ap (λ (v : Workload). v.config) c.loaded.view_is in
+    let text = c.new.ensures ∙ c.in_ok-text.ensures.text
+    ∙ ap (λ ns. found_text ns ticks s.run c.as_slice-2.result.now) (c.as_slice.ensures.value ∙ c.in_ok-names.ensures ∙ ap names_of config)
+    ∙ ap (λ own. found_text (names_of w.config) ticks s.run own) c.as_slice-2.ensures.value in
+    repeats-of w ticks c.new.result c.repeats_whole.result s c.told_law.ensures.run c.told_law.ensures.own c.requires c.in_ok-searches.ensures text
+    (c.repeats_whole.ensures ∙ ap repeats c.run_told.ensures)

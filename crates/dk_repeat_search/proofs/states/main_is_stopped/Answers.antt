@@ -1,0 +1,12 @@
+use Rattle.std.proofs.Common.{◌∙◌}
+use Rattle.dk_kernel.specs.Running.{trace_of}
+use Rattle.dk_repeat_search.proofs.Shown.{main-state}
+use Rattle.dk_repeat_search.proofs.states.main_is_stopped.Goals as goal
+
+pub returns-in-Some : goal.returns-in-Some
+returns-in-Some c =
+    let k = c.args.kernel.now in
+    let p = c.args.process in
+    let ruled = c.dispatcher.ensures.ruled in
+    let stands = c.rows_law.ensures.families k.config (trace_of k) ruled.checked ruled.accepted ruled.audited p c.requires in
+    c.is_stopped.ensures ∙ main-state k p c.in-Some.row stands c.in-Some.ensures.row

@@ -1,0 +1,25 @@
+use Rattle.std.proofs.Common.{ℕ, ◌≡◌, ◌+◌, List, sym, subst, arith}
+use Rattle.dk_config.specs.declared.TheConstants.{MAX_THREADS}
+use Rattle.dk_cycle.specs.declared.run.ThreadState.{ThreadState}
+use Rattle.dk_repeat_search.specs.States.{AreThreads}
+use Rattle.dk_repeat_search.proofs.Shown.{no-threads, place-more}
+use Rattle.dk_repeat_search.proofs.states.threads_of.Goals as goal
+
+pub loop-place-init : goal.loop-place-init
+loop-place-init c =
+    let k = c.args.kernel.now in
+    subst (λ (xs : List ThreadState). AreThreads k c.args.process xs 0) (sym c.new-threads.ensures.items) (no-threads k c.args.process)
+
+pub loop-place-preserved : goal.loop-place-preserved
+loop-place-preserved c =
+    let k = c.args.kernel.now in
+    let p = c.args.process in
+    let place = c.loop-place.place in
+    subst (λ (xs : List ThreadState). AreThreads k p xs (place + 1)) (sym c.in_ok-add_thread.ensures)
+    (place-more k p c.loop-place.threads.items place c.thread_at.result c.loop-place.invariant c.thread_at.ensures)
+
+pub returns : goal.returns
+returns c =
+    let end : ℕ = MAX_THREADS in
+    let last : c.loop-place.place ≡ end = omega (arith, c.loop-place-test.false, c.loop-place.auto.place-end) in
+    subst (λ n. AreThreads c.args.kernel.now c.args.process c.loop-place.threads.items n) last c.loop-place.invariant

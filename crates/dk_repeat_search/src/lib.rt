@@ -1,0 +1,8 @@
+//! What repeats for ever in a run: the kernel's ticks, and the searches over them.
+#![tactic(auto)]
+
+mod report;
+mod search;
+mod states;
+
+pub use report::{Repeats, find_repeats};

@@ -1,0 +1,110 @@
+//! What repeats for ever in a run, as a page.
+ghost use Rattle.std.specs.Prelude.{◌≡◌, ◌≤◌, ◌<◌, IfOk};
+ghost use Rattle.dk_config.specs.declared.TheConstants.{MAX_RUN_TICKS};
+ghost use Rattle.dk_kernel.specs.Booting.{IsLoaded};
+ghost use Rattle.dk_repeat_report.specs.Lines.{names_of};
+ghost use Rattle.dk_repeat_search.specs.Repeats.{IsRepeatsOf, repeats};
+ghost use Rattle.dk_repeat_search.specs.Searching.{IsSearched};
+
+use crate::search::Searches;
+use dk_config::{Config, MAX_RUN_TICKS, NoMemory, Text};
+use dk_config_report::Page;
+use dk_cycle::{RunTold, run_told, told_law};
+use dk_kernel::Kernel;
+use dk_loader::Loaded;
+use dk_repeat_report::repeats_text;
+use dk_steps::Steps;
+use std::alloc::{AllocError, Global};
+use std::marker::Brand;
+use std::sync::ledger::{Blank, Ledger};
+
+/// What repeats for ever, and whether the run as a whole does.
+#[derive(Drop)]
+pub struct Repeats {
+    pub page: Page,
+    pub whole: bool,
+}
+
+fn copy_of(alloc: Global, word: &str) -> Result<Text, AllocError>
+    ensures { IfOk result (λ t. t ≡ word.now) }
+{
+    let copy = String::from_str(alloc, word)?;
+    Ok(Text::new(copy))
+}
+
+/// Copies of the processes' names.
+fn names_of(alloc: Global, config: &Config) -> Result<Vec<Text>, NoMemory>
+    ensures { IfOk result (λ names. names.items ≡ names_of config.now) }
+{
+    let mut names = Vec::new(alloc);
+    for row in config.processes.iter() {
+        names.push(copy_of(alloc, row.name.as_str())?)?;
+    }
+    Ok(names)
+}
+
+/// The ticks of the kernel, whose steps aren't counted.
+fn searched_by<L: Ledger>(
+    alloc: Global,
+    loaded: Loaded,
+    ticks: u32,
+    blank: Blank,
+) -> Result<Searches, NoMemory>
+    requires loaded { IsLoaded loaded }
+    requires few { ticks ≤ MAX_RUN_TICKS }
+    requires name { blank.name ≡ L.name }
+    requires parts { blank.parts ≡ L.parts }
+    requires some { 0 < L.parts }
+    ensures { IfOk result (IsSearched loaded) }
+{
+    let mut searches = Searches::of(alloc, &loaded)?;
+    let mut steps = Steps::<L>::new(blank);
+    match Kernel::boot(alloc, loaded) {
+        Ok(mut kernel) => {
+            searches.search(alloc, &mut kernel, ticks, &mut steps)?;
+            Ok(searches)
+        }
+        Err(_) => Err(NoMemory),
+    }
+}
+
+/// What is found in so many ticks.
+fn searched(alloc: Global, loaded: Loaded, ticks: u32) -> Result<Searches, NoMemory>
+    requires { IsLoaded loaded }
+    ensures { IfOk result (IsSearched loaded) }
+{
+    let few = if ticks < MAX_RUN_TICKS {
+        ticks
+    } else {
+        MAX_RUN_TICKS
+    };
+    searched_by::<Brand>(alloc, loaded, few, Blank::new(1))
+}
+
+fn repeats_whole(told: RunTold) -> bool
+    ensures { result ≡ repeats told }
+{
+    told.reader.is_none() && told.cycle.is_some()
+}
+
+/// What repeats for ever in the run of a configuration with its programs, as is found in so many ticks. `Err` is want of
+/// memory.
+pub fn find_repeats(alloc: Global, loaded: Loaded, ticks: u32) -> Result<Repeats, NoMemory>
+    requires { IsLoaded loaded }
+    ensures { IfOk result (λ found. IsRepeatsOf loaded ticks found.page found.whole) }
+{
+    told_law();
+    let names = names_of(alloc, &loaded.config)?;
+    let searches = searched(alloc, loaded, ticks)?;
+    let text = repeats_text(
+        alloc,
+        names.as_slice(),
+        ticks,
+        &searches.run,
+        searches.own.as_slice(),
+    )?;
+    Ok(Repeats {
+        page: Page::new(text),
+        whole: repeats_whole(run_told(&searches.run)),
+    })
+}
