@@ -1,4 +1,7 @@
+pub mod Found
 pub mod Places
+pub mod Reasons
+pub mod Standing
 pub mod Telling
 pub use Rattle.dk_loader.specs.Reading
 pub use Rattle.dk_loader.specs.ShapeFaults

@@ -1,15 +1,18 @@
 -- What is told of a document.
-use Rattle.std.specs.Prelude.{ℕ, ◌≡◌, ◌≤◌, List, ◌++◌, length, take, flat_map, codes, decimal, Result, Ok, Err}
+use Rattle.std.specs.Prelude.{ℕ, ◌≡◌, ◌≤◌, nat_lt, Bool, List, ◌++◌, length, take, codes, decimal, slice_get, Some, Result, Ok, Err}
+use Rattle.toml.specs.Data.{Members}
 use Rattle.dk_config.specs.Configuration.{Configuration}
-use Rattle.dk_config.specs.declared.fault.ConfigFault.{ConfigFault}
 use Rattle.dk_loader.specs.declared.fault.LoadFault.{LoadFault}
 use Rattle.dk_loader.specs.declared.fault.LoadFault.TheVariants as why
-use Rattle.dk_loader.specs.Reading.{shaped}
+use Rattle.dk_loader.specs.Reading.{document, shaped}
 use Rattle.dk_loader.specs.ShapeFaults.{shape_faults}
-use Rattle.dk_fault_words.specs.FaultWords.{fault_text}
 use Rattle.dk_config_report.specs.FaultLines.{count_line, faults_text}
+use Rattle.dk_config_report.specs.Pages.{AreLines}
 use Rattle.dk_document_report.specs.declared.place.Place.{Place}
 use Rattle.dk_document_report.specs.Places.{place_after}
+use Rattle.dk_document_report.specs.Found.{Told, told_all}
+use Rattle.dk_document_report.specs.Reasons.{told_text}
+use Rattle.dk_document_report.specs.Standing.{IsPlaceText}
 
 abbrev pub not_toml_text : Place → List ℕ → List ℕ
 not_toml_text p message = codes "config: not TOML: line "
@@ -23,14 +26,38 @@ pub record IsNotTomlText (bytes text : List ℕ) : Type 0 where
   pub within : start ≤ length bytes
   pub whole : text ≡ not_toml_text (place_after (take start bytes)) message
 
--- a line for each of them, in their order, and how many they are
-abbrev pub shape_text : List ConfigFault → List ℕ
-shape_text found = flat_map fault_text found ++ count_line (length found)
+-- what is wrong, with its place
+pub record IsToldLine (bytes : List ℕ) (ms : Members) (asked : Bool) (t : Told) (line : List ℕ) : Type 0 where
+  pub place : List ℕ
+  pub placed : IsPlaceText bytes ms asked t place
+  pub whole : line ≡ told_text ms t place
+
+-- of the first hundred the place is told
+abbrev pub most_places : ℕ
+most_places = 100
+
+-- the line of the i-th thing that is wrong
+pub record IsLineAt (bytes : List ℕ) (ms : Members) (told : List Told) (i : ℕ) (line : List ℕ) : Type 0 where
+  pub thing : Told
+  pub is : slice_get told i ≡ Some thing
+  pub told_so : IsToldLine bytes ms (nat_lt i most_places) thing line
+
+-- a line for each thing that is wrong, and how many they are
+pub record IsTextOf (bytes : List ℕ) (ms : Members) (told : List Told) (text : List ℕ) : Type 0 where
+  pub lines : List ℕ
+  pub are : AreLines (IsLineAt bytes ms told) (length told) lines
+  pub whole : text ≡ lines ++ count_line (length told)
+
+-- of all that is wrong with the keys and kinds of the document, in the order of the tests
+pub record IsShapeText (bytes text : List ℕ) : Type 0 where
+  pub members : Members
+  pub read : document bytes ≡ Some members
+  pub told : IsTextOf bytes members (told_all members (shape_faults bytes)) text
 
 abbrev pub TellsOf : List ℕ → Result Configuration LoadFault → List ℕ → Type 0
 TellsOf bytes (Ok c) text = text ≡ faults_text c
 TellsOf bytes (Err why.NotToml) text = IsNotTomlText bytes text
-TellsOf bytes (Err (why.Config f)) text = text ≡ shape_text (shape_faults bytes)
+TellsOf bytes (Err (why.Config f)) text = IsShapeText bytes text
 TellsOf bytes (Err _) text = ⊥
 
 -- Where the document isn't TOML, the place; where it breaks some of C1 to C3, each of these; and else each of C4 to C13

@@ -1,7 +1,14 @@
 //! All that is wrong with the document of a configuration, as text.
 #![tactic(auto)]
 
+mod findings;
+mod kinds;
+mod looks;
+mod marks;
 mod place;
+mod places;
+mod reading;
+mod reasons;
 mod shape;
 mod telling;
 

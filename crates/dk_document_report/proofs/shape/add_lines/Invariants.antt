@@ -1,8 +1,9 @@
-use Rattle.std.proofs.Common.{◌≡◌, ◌++◌, drop, flat_map, string_bytes}
-use Rattle.dk_fault_words.specs.FaultWords.{fault_text}
+use Rattle.std.specs.Prelude.{string_bytes}
+use Rattle.toml.specs.View.{table_view}
+use Rattle.dk_config_report.specs.Pages.{AddsLines}
+use Rattle.dk_document_report.specs.Telling.{IsLineAt}
 use Rattle.dk_document_report.proofs.shape.add_lines.Given as goal
 
--- the lines so far, before those of the faults that are left
-abbrev pub invariant-loop-fault : goal.invariant-loop-fault
-invariant-loop-fault l =
-    string_bytes l.text ++ flat_map fault_text (drop l.fault-index l.found) ≡ string_bytes l.initial.text ++ flat_map fault_text l.found
+-- the lines so far are added
+abbrev pub invariant-loop-i : goal.invariant-loop-i
+invariant-loop-i l = AddsLines (IsLineAt l.bytes (table_view l.table) l.found) l.i (string_bytes l.initial.text) (string_bytes l.text)

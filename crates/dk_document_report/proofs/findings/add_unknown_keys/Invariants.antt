@@ -1,0 +1,9 @@
+use Rattle.std.proofs.Common.{◌≡◌, ◌++◌, drop, flat_map, string_bytes}
+use Rattle.dk_document_report.specs.Found.{if_unknown}
+use Rattle.dk_document_report.proofs.findings.add_unknown_keys.Given as goal
+
+-- what is found so far, before the keys that are left
+abbrev pub invariant-loop-key : goal.invariant-loop-key
+invariant-loop-key l =
+    l.found.items ++ flat_map (λ k. if_unknown l.fault l.second (string_bytes k.now)) (drop l.key-index l.keys)
+    ≡ l.initial.found.items ++ flat_map (λ k. if_unknown l.fault l.second (string_bytes k.now)) l.keys

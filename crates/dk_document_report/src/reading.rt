@@ -1,0 +1,19 @@
+//! The table of a document.
+ghost use Rattle.std.specs.Prelude.{◌≡◌, option_map, IfOk};
+ghost use Rattle.toml.specs.View.{table_view};
+ghost use Rattle.dk_loader.specs.Reading.{document};
+
+use dk_config::NoMemory;
+use std::alloc::Global;
+use toml::Table;
+
+/// The table of these bytes, where they are a document.
+pub(crate) fn table_of(alloc: Global, bytes: &[u8]) -> Result<Option<Table>, NoMemory>
+    ensures { IfOk result (λ t. option_map table_view t ≡ document bytes.now) }
+{
+    match toml::de::table_from_slice(alloc, bytes) {
+        Ok(table) => Ok(Some(table)),
+        Err(error) if error.is_memory() => Err(NoMemory),
+        Err(_) => Ok(None),
+    }
+}
