@@ -1,5 +1,5 @@
 -- Where a text stands with the status of what is done, no other status stands.
-use Rattle.std.proofs.Common.{ℕ, ◌≡◌, ◌∙◌, ◌⊎◌, ◌<◌, inl, inr, List, length, reverse, sym, ap, subst, refl, arith}
+use Rattle.std.proofs.Common.{ℕ, ◌≡◌, ◌∙◌, ◌⊎◌, ◌<◌, inl, inr, List, [], ◌∷◌, length, reverse, sym, ap, subst, refl, arith}
 use Rattle.std.specs.Prelude.{Bool, Option, Some, None, IfSome, Result, Ok, Err}
 use Rattle.dk_config.specs.declared.TheConstants.{MAX_CONFIG_BYTES, MAX_LEDGER_BYTES}
 use Rattle.dk_config.specs.Configuration.{Configuration}
@@ -24,8 +24,11 @@ use Rattle.dk_show.specs.declared.refusal.Refusal.TheVariants as why
 use Rattle.dk_show.specs.declared.status.Status.{Status}
 use Rattle.dk_show.specs.declared.status.Status.TheVariants as status
 use Rattle.dk_show.specs.Answers.{IsAnswer, IsFaulty, refusal_status}
-use Rattle.dk_show.specs.Meaning.{meaning}
-use Rattle.dk_show.specs.Output.{Files, IsBehind, IsDrawn, IsOfBytes, IsOfDocument, IsOfFaults, IsOfNamed, IsOfPicture, IsOfReading, IsOfRequest, IsOfWindows, IsOutput, IsPicture, IsToldOf, StandsInOutput, end_of, groups_asked, to_of}
+use Rattle.dk_chain_report.specs.Finding.{processes_named}
+use Rattle.dk_show.specs.Chain.{ChainAsk}
+use Rattle.dk_show.specs.Meaning.{IsSought, meaning}
+use Rattle.dk_show.proofs.Changing.{impact_ends}
+use Rattle.dk_show.specs.Output.{Files, IsBehind, IsChainIn, IsChainOf, IsDrawn, IsOfBytes, IsOfChain, IsOfDocument, IsOfFaults, IsOfNamed, IsOfPicture, IsOfReading, IsOfRequest, IsOfWindows, IsOutput, IsPicture, IsToldOf, StandsInOutput, end_of, groups_asked, to_of}
 
 drawn_ends : (r : RangeRequest) (j k : Journal) (t u : List ℕ) (s : Status) → j ≡ k
     → IsDrawn r j t status.Done ⊎ IsBehind r j t status.Done → IsDrawn r k u s ⊎ IsBehind r k u s → s ≡ status.Done
@@ -75,6 +78,20 @@ told_ends telling.When c (verdict.Accepted rows) x y s one two = two.1
 told_ends telling.When c (verdict.Fails level needs window) x y s one two = let bad = one.1 in cc
 told_ends telling.Warnings c v x y s one two = two.1
 
+chain_ends : (c : Configuration) (v : Verdict) (chain : Option (List ℕ)) (x y : List ℕ) (s : Status) → IsChainOf c v chain x status.Done → IsChainOf c v chain y s → s ≡ status.Done
+chain_ends c v None x y s one two = let bad = one.1 in cc
+chain_ends c (verdict.Fails level needs window) (Some chain) x y s one two = let bad = one.1 in cc
+chain_ends c (verdict.Accepted rows) (Some []) x y s one two = absurd one
+chain_ends c (verdict.Accepted rows) (Some (first ∷ rest)) x y s one two = two.1
+
+chain_in_ends : (r : ChainAsk) (read : Result Configuration LoadFault) (x y : List ℕ) (s : Status) → IsChainIn r read x status.Done → IsChainIn r read y s → s ≡ status.Done
+chain_in_ends r (Ok c) x y s one two = chain_ends c (verdict_of c) (processes_named c (r.first ∷ r.rest)) x y s one two
+chain_in_ends r (Err fault.NotToml) x y s one two = let bad = one.1 in cc
+chain_in_ends r (Err (fault.Config f)) x y s one two = let bad = one.1 in cc
+chain_in_ends r (Err fault.Depot) x y s one two = absurd one
+chain_in_ends r (Err (fault.TooLong p)) x y s one two = absurd one
+chain_in_ends r (Err fault.NoMemory) x y s one two = absurd one
+
 reading_ends : (t : Telling) (r : Result Configuration LoadFault) (x y : List ℕ) (s : Status) → IsOfReading t r x status.Done → IsOfReading t r y s → s ≡ status.Done
 reading_ends t (Ok c) x y s one two = told_ends t c (verdict_of c) x y s one two
 reading_ends t (Err fault.NotToml) x y s one two = let bad = one.1 in cc
@@ -97,28 +114,32 @@ module _ (at : Files) (name : List ℕ) (most : ℕ) (long : Refusal) (IsOf : Li
   named_ends (bytes, is, inr (near, one)) (more, also, inr (close, two)) =
       ends bytes one (subst (λ (b : List ℕ). IsOf b y s) (same_file bytes more is also) two)
 
-pub request_ends : (o : Option Request) (at : Files) (x y : List ℕ) (s : Status) → IsOfRequest o at x status.Done → IsOfRequest o at y s → s ≡ status.Done
-request_ends None at x y s one two = let bad = one.1 in cc
-request_ends (Some (request.Draw r)) at x y s one two =
+pub request_ends : (o : Option Request) (at : Files) (x y : List ℕ) (s : Status) → (IsSought o → ⊥) → IsOfRequest o at x status.Done → IsOfRequest o at y s → s ≡ status.Done
+request_ends None at x y s known one two = let bad = one.1 in cc
+request_ends (Some (request.Draw r)) at x y s known one two =
     named_ends at r.ledger MAX_LEDGER_BYTES why.LongLedger (IsOfBytes r) x y s (λ bad. cc) (λ bytes a b. ledger_ends r bytes x y s a b) one two
-request_ends (Some (request.Picture ledger range)) at x y s one two =
+request_ends (Some (request.Picture ledger range)) at x y s known one two =
     named_ends at ledger MAX_LEDGER_BYTES why.LongLedger (IsOfPicture range) x y s (λ bad. cc) (λ bytes a b. pictures_ends range bytes x y s a b) one two
-request_ends (Some (request.Windows ledger strict)) at x y s one two =
+request_ends (Some (request.Windows ledger strict)) at x y s known one two =
     named_ends at ledger MAX_LEDGER_BYTES why.LongLedger (IsOfWindows strict) x y s (λ bad. cc) (λ bytes a b. windows_ends strict bytes x y s a b) one two
-request_ends (Some (request.Faults file)) at x y s one two =
+request_ends (Some (request.Faults file)) at x y s known one two =
     named_ends at file MAX_CONFIG_BYTES why.LongConfig IsOfFaults x y s (λ bad. cc) (λ bytes a b. b.1 ∙ sym a.1) one two
-request_ends (Some (request.Tell t file)) at x y s one two =
+request_ends (Some (request.Tell t file)) at x y s known one two =
     named_ends at file MAX_CONFIG_BYTES why.LongConfig (IsOfDocument t) x y s (λ bad. cc) (λ bytes a b. reading_ends t (reading bytes) x y s a b) one two
+request_ends (Some (request.Chain r)) at x y s known one two =
+    named_ends at r.file MAX_CONFIG_BYTES why.LongConfig (IsOfChain r) x y s (λ bad. cc) (λ bytes a b. chain_in_ends r (reading bytes) x y s a b) one two
+request_ends (Some (request.Impact r)) at x y s known one two = impact_ends at r x y s one two
+request_ends (Some (request.Repeats file ticks)) at x y s known one two = absurd (known tt)
 
 -- a call that ends otherwise has met the outside or want of memory
 pub completes : (files : Option Files) (words : List (List ℕ)) (s : Status) → (IsAnswer s → (y : List ℕ) × StandsInOutput files words y s)
-    → IfSome files (λ at. (x : List ℕ) → IsOutput words at x status.Done → (s ≡ status.Done) ⊎ IsFaulty s)
+    → IfSome files (λ at. (x : List ℕ) → (IsSought (meaning words) → ⊥) → IsOutput words at x status.Done → (s ≡ status.Done) ⊎ IsFaulty s)
 completes None words s answers = tt
-completes (Some at) words status.Done answers = λ x one. inl refl
-completes (Some at) words status.Usage answers = λ x one. let two = answers tt in inl (request_ends (meaning words) at x two.0 status.Usage one two.1)
-completes (Some at) words status.Config answers = λ x one. let two = answers tt in inl (request_ends (meaning words) at x two.0 status.Config one two.1)
-completes (Some at) words status.Uncertified answers = λ x one. let two = answers tt in inl (request_ends (meaning words) at x two.0 status.Uncertified one two.1)
-completes (Some at) words status.Refused answers = λ x one. let two = answers tt in inl (request_ends (meaning words) at x two.0 status.Refused one two.1)
-completes (Some at) words status.DepotFault answers = λ x one. inr (inl refl)
-completes (Some at) words status.SinkFault answers = λ x one. inr (inr (inl refl))
-completes (Some at) words status.NoMemory answers = λ x one. inr (inr (inr refl))
+completes (Some at) words status.Done answers = λ x known one. inl refl
+completes (Some at) words status.Usage answers = λ x known one. let two = answers tt in inl (request_ends (meaning words) at x two.0 status.Usage known one two.1)
+completes (Some at) words status.Config answers = λ x known one. let two = answers tt in inl (request_ends (meaning words) at x two.0 status.Config known one two.1)
+completes (Some at) words status.Uncertified answers = λ x known one. let two = answers tt in inl (request_ends (meaning words) at x two.0 status.Uncertified known one two.1)
+completes (Some at) words status.Refused answers = λ x known one. let two = answers tt in inl (request_ends (meaning words) at x two.0 status.Refused known one two.1)
+completes (Some at) words status.DepotFault answers = λ x known one. inr (inl refl)
+completes (Some at) words status.SinkFault answers = λ x known one. inr (inr (inl refl))
+completes (Some at) words status.NoMemory answers = λ x known one. inr (inr (inr refl))

@@ -33,6 +33,8 @@ loud why.Usage s silent other = refl
 loud why.LongConfig s silent other = refl
 loud why.NotToml s silent other = refl
 loud (why.Rule f) s silent other = refl
+loud why.NoProcess s silent other = refl
+loud (why.LongProgram p) s silent other = refl
 loud (why.Uncertified level needs window) s silent other = refl
 loud why.LongLedger s silent other = refl
 loud (why.LedgerLine line) s silent other = refl
@@ -52,6 +54,7 @@ module _ {S : Type 0} (seen : S → SinkView) (P Q : List ℕ → Status → Typ
           | inr w ↦ inr (w.0, w.1, (w.2.0, wider w.0 w.2.0 w.2.1))
         ];
         cause = left.cause;
+        stays = left.stays;
         faults_rise = left.faults_rise;
         capacity_stays = left.capacity_stays;
       }
@@ -66,6 +69,7 @@ module _ {S : Type 0} (seen : S → SinkView) (P Q : List ℕ → Status → Typ
         silent = left.silent;
         memory = λ is. inl (untouched is);
         cause = left.cause;
+        stays = left.stays;
         faults_rise = left.faults_rise;
         capacity_stays = left.capacity_stays;
       }

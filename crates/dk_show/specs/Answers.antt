@@ -1,6 +1,6 @@
 -- What is written where a command is refused, and the status.
-use Rattle.std.specs.Prelude.{ℕ, Bool, true, false, codes, decimal, List, [], ◌++◌, ◌≡◌, ◌⊎◌}
-use Rattle.dk_config.specs.declared.TheConstants.{MAX_CONFIG_BYTES, MAX_LEDGER_BYTES}
+use Rattle.std.specs.Prelude.{ℕ, Bool, true, false, codes, decimal, List, [], ◌++◌, ◌≡◌, ◌⊎◌, Option}
+use Rattle.dk_config.specs.declared.TheConstants.{MAX_CONFIG_BYTES, MAX_LEDGER_BYTES, MAX_PROGRAM_BYTES}
 use Rattle.dk_fault_words.specs.FaultWords.{fault_text}
 use Rattle.dk_certify_report.specs.Certificate.{failing_text}
 use Rattle.dk_picture.specs.declared.reading.TheConstants.{MAX_GROUPS}
@@ -8,10 +8,7 @@ use Rattle.dk_show.specs.declared.refusal.Refusal.{Refusal}
 use Rattle.dk_show.specs.declared.refusal.Refusal.TheVariants as why
 use Rattle.dk_show.specs.declared.status.Status.{Status}
 use Rattle.dk_show.specs.declared.status.Status.TheVariants as status
-
-abbrev pub usage_text : List ℕ
-usage_text =
-    codes "usage: deosk-show svg LEDGER [FROM TO] | trace LEDGER [FROM TO] | vcd LEDGER [FROM TO] | csv LEDGER [FROM TO] | windows LEDGER [--strict] | faults FILE | certify FILE | margins FILE | when FILE | warnings FILE\n"
+use Rattle.dk_show.specs.Usage.{usage_text}
 
 -- the end of the line of what has more bytes than may be read
 abbrev pub longer_than : ℕ → List ℕ
@@ -25,6 +22,8 @@ refusal_text why.LongConfig = codes "config:" ++ longer_than MAX_CONFIG_BYTES
 refusal_text why.NotToml = codes "config: not TOML\n"
 refusal_text (why.Rule f) = fault_text f
 refusal_text (why.Uncertified level needs window) = failing_text level needs window
+refusal_text (why.LongProgram process) = codes "program: process " ++ (decimal process ++ longer_than MAX_PROGRAM_BYTES)
+refusal_text why.NoProcess = codes "chain: no such process\n"
 refusal_text why.LongLedger = codes "ledger:" ++ longer_than MAX_LEDGER_BYTES
 refusal_text (why.LedgerLine line) = codes "ledger: line " ++ (decimal line ++ codes "\n")
 refusal_text (why.RangeEnds ticks) = codes "range: ledger ends at " ++ (decimal ticks ++ codes "\n")
@@ -39,6 +38,8 @@ refusal_status why.LongConfig = status.Config
 refusal_status why.NotToml = status.Config
 refusal_status (why.Rule f) = status.Config
 refusal_status (why.Uncertified level needs window) = status.Uncertified
+refusal_status (why.LongProgram process) = status.Refused
+refusal_status why.NoProcess = status.Refused
 refusal_status why.LongLedger = status.Refused
 refusal_status (why.LedgerLine line) = status.Refused
 refusal_status (why.RangeEnds ticks) = status.Refused
@@ -83,3 +84,11 @@ IsEnd status.Config = Unit {0}
 IsEnd status.Uncertified = Unit {0}
 IsEnd status.Refused = Unit {0}
 IsEnd _ = ⊥
+
+-- the line and the status of a refusal
+abbrev pub Says : Refusal → List ℕ → Status → Type 0
+Says e text ended = (text ≡ refusal_text e) × (ended ≡ refusal_status e)
+
+-- the names of files and what they hold
+abbrev pub Files : Type 0
+Files = List ℕ → Option (List ℕ)

@@ -27,6 +27,8 @@ pub record Leaves {S : Type 0} (seen : S → SinkView)
   pub memory : ended ≡ status.NoMemory → (new ≡ old) ⊎ Cuts Stands (seen old) (seen new)
   -- a write failed only where the outside did
   pub cause : ended ≡ status.SinkFault → Rises (seen old).faults (seen new).faults
+  -- and no failed write is swallowed
+  pub stays : ended ≢ status.SinkFault → (seen new).faults ≡ (seen old).faults
   pub faults_rise : (seen old).faults ≤ (seen new).faults
   pub capacity_stays : (seen new).capacity ≡ (seen old).capacity
 

@@ -1,7 +1,14 @@
-pub mod Answers
 pub mod Numbers
 pub mod Clap
+pub mod Chain
+pub mod Change
 pub mod Meaning
+pub mod Usage
+pub mod Answers
 pub mod Output
 pub mod Leaves
 pub mod Works
+pub mod Loading
+pub mod Impacts
+pub mod Repeats
+pub mod Asking

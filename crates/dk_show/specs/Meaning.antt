@@ -1,5 +1,5 @@
 -- What the words mean.
-use Rattle.std.specs.Prelude.{ℕ, ◌≡◌, ◌==◌, ◌&&◌, ◌||◌, not, Bool, codes, drop, find, length, nat_lt, slice_get, slice_index, unwrap_or, option_and_then, option_map, List, [], ◌∷◌, Option, Some, None, if◌then◌else◌}
+use Rattle.std.specs.Prelude.{ℕ, ◌≡◌, ◌<◌, ◌==◌, ◌&&◌, ◌||◌, not, Bool, codes, drop, find, length, nat_lt, slice_get, slice_index, unwrap_or, option_and_then, option_map, List, [], ◌∷◌, Option, Some, None, if◌then◌else◌}
 use Rattle.std.specs.List.{list_all}
 use Rattle.std.specs.Str.{bytes_eq}
 use Rattle.dk_show.specs.declared.commands.Drawing.{Drawing}
@@ -11,7 +11,10 @@ use Rattle.dk_show.specs.declared.commands.Command.TheVariants as command
 use Rattle.dk_show.specs.declared.request.Range.{Range}
 use Rattle.dk_show.specs.declared.request.Request.{Request}
 use Rattle.dk_show.specs.declared.request.Request.TheVariants as request
-use Rattle.dk_show.specs.Clap.{WindowsWords, Words, file_app, file_given_by, given_by, range_app, windows_app, windows_given_by}
+use Rattle.dk_config.specs.declared.TheConstants.{MAX_PROCESSES}
+use Rattle.dk_show.specs.Chain.{ChainWords, chain_app, chain_given_by}
+use Rattle.dk_show.specs.Change.{ChangeWords, change_app, change_given_by}
+use Rattle.dk_show.specs.Clap.{TicksWords, WindowsWords, Words, file_app, file_given_by, given_by, range_app, ticks_app, ticks_given_by, windows_app, windows_given_by}
 use Rattle.dk_show.specs.Numbers.{ticks_in}
 
 -- the command word
@@ -26,11 +29,14 @@ word_of (command.Tell telling.Certify) = codes "certify"
 word_of (command.Tell telling.Margins) = codes "margins"
 word_of (command.Tell telling.When) = codes "when"
 word_of (command.Tell telling.Warnings) = codes "warnings"
+word_of command.Chain = codes "chain"
+word_of command.Impact = codes "impact"
+word_of command.Repeats = codes "repeats"
 
 -- in the order of the usage line
 abbrev pub commands : List Command
 commands = command.Picture ∷ command.Draw drawing.Trace ∷ command.Draw drawing.Vcd ∷ command.Draw drawing.Csv ∷ command.Windows ∷ command.Faults ∷ command.Tell telling.Certify
-    ∷ command.Tell telling.Margins ∷ command.Tell telling.When ∷ command.Tell telling.Warnings ∷ []
+    ∷ command.Tell telling.Margins ∷ command.Tell telling.When ∷ command.Tell telling.Warnings ∷ command.Chain ∷ command.Impact ∷ command.Repeats ∷ []
 
 -- the command of this word
 unfoldable pub command_named : List ℕ → Option Command
@@ -40,9 +46,12 @@ command_named word = find (λ d. bytes_eq (word_of d) word) commands
 abbrev pub is_plain_word : List ℕ → Bool
 is_plain_word w = nat_lt 0 (length w) && not (slice_index w 0 == 45)
 
--- nor do the others, but for this one
+abbrev pub is_flag : List ℕ → Bool
+is_flag w = bytes_eq w (codes "--strict") || bytes_eq w (codes "--csv")
+
+-- nor do the others, but for these
 abbrev pub is_taken_word : List ℕ → Bool
-is_taken_word w = bytes_eq w (codes "--strict") || is_plain_word w
+is_taken_word w = is_flag w || is_plain_word w
 
 abbrev pub range_of : Option ℕ → Option ℕ → Option (Option Range)
 range_of (Some from) (Some to) = if nat_lt from to then Some (Some (record { from = from; to = to })) else None
@@ -97,6 +106,49 @@ asked_telling t ws = option_map (request.Tell t) (file_given_by (file_app (word_
 abbrev pub asked_faults : List (List ℕ) → Option Request
 asked_faults ws = option_map request.Faults (file_given_by (file_app (word_of command.Faults)) ws)
 
+-- one process, and up to 31 more
+abbrev pub chain_of : List ℕ → List (List ℕ) → Option Request
+chain_of file [] = None
+chain_of file (first ∷ rest) =
+    if nat_lt (length rest) MAX_PROCESSES
+    then Some (request.Chain (record { file = file; first = first; rest = rest }))
+    else None
+
+abbrev pub chain_by : Option (List ℕ) → Option (List (List ℕ)) → Option Request
+chain_by (Some file) (Some names) = chain_of file names
+chain_by _ _ = None
+
+abbrev pub chain_request : ChainWords → Option Request
+chain_request ws = chain_by ws.file ws.names
+
+abbrev pub asked_chain : List (List ℕ) → Option Request
+asked_chain ws = option_and_then chain_request (chain_given_by (chain_app (word_of command.Chain)) ws)
+
+abbrev pub impact_by : Option (List ℕ) → Option (List ℕ) → Option (List (List ℕ)) → Bool → Option Request
+impact_by (Some old) (Some new) names as_csv =
+    Some (request.Impact (record { old = old; new = new; names = unwrap_or names []; as_csv = as_csv }))
+impact_by _ _ names as_csv = None
+
+abbrev pub impact_request : ChangeWords → Option Request
+impact_request ws = impact_by ws.old ws.new ws.names ws.as_csv
+
+abbrev pub asked_impact : List (List ℕ) → Option Request
+asked_impact ws = option_and_then impact_request (change_given_by (change_app (word_of command.Impact)) ws)
+
+abbrev pub repeats_of : List ℕ → Option ℕ → Option Request
+repeats_of file None = None
+repeats_of file (Some ticks) = Some (request.Repeats file ticks)
+
+abbrev pub repeats_by : Option (List ℕ) → Option (List ℕ) → Option Request
+repeats_by (Some file) (Some ticks) = repeats_of file (ticks_in ticks)
+repeats_by _ _ = None
+
+abbrev pub repeats_request : TicksWords → Option Request
+repeats_request ws = repeats_by ws.file ws.ticks
+
+abbrev pub asked_repeats : List (List ℕ) → Option Request
+asked_repeats ws = option_and_then repeats_request (ticks_given_by (ticks_app (word_of command.Repeats)) ws)
+
 -- what a command is asked by the words from its own on
 abbrev pub asked : Command → List (List ℕ) → Option Request
 asked (command.Draw d) ws = asked_drawing d ws
@@ -104,6 +156,9 @@ asked command.Picture ws = asked_picture ws
 asked command.Windows ws = asked_windows ws
 asked command.Faults ws = asked_faults ws
 asked (command.Tell t) ws = asked_telling t ws
+asked command.Chain ws = asked_chain ws
+asked command.Impact ws = asked_impact ws
+asked command.Repeats ws = asked_repeats ws
 
 -- What the words ask for. The first is the program's name and isn't looked at. `clap` decides which words stand for which
 -- arguments.
@@ -113,5 +168,20 @@ meaning words =
     then option_and_then (λ c. asked c (drop 1 words)) (command_named (word_at words 1))
     else None
 
+-- a drawing is written line by line, and all else once it is made
+abbrev pub DrawsNothing : Request → Type 0
+DrawsNothing (request.Draw r) = ⊥
+DrawsNothing _ = Unit {0}
+
+-- of a chain, that it has at most 32 processes
+abbrev pub HasFewNames : Request → Type 0
+HasFewNames (request.Chain r) = length r.rest < MAX_PROCESSES
+HasFewNames _ = Unit {0}
+
 abbrev pub MeansNothing : List (List ℕ) → Type 0
 MeansNothing words = meaning words ≡ None
+
+-- what is looked for in so many ticks, which may be there and not be found
+abbrev pub IsSought : Option Request → Type 0
+IsSought (Some (request.Repeats file ticks)) = Unit {0}
+IsSought _ = ⊥

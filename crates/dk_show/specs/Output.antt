@@ -1,5 +1,5 @@
 -- What is written for the words and the files, and how the call ends.
-use Rattle.std.specs.Prelude.{ℕ, ◌≡◌, ◌≤◌, ◌<◌, ◌⊎◌, Bool, true, false, length, reverse, List, Option, Some, None, IfSome, Result, Ok, Err}
+use Rattle.std.specs.Prelude.{ℕ, ◌≡◌, ◌≤◌, ◌<◌, ◌⊎◌, Bool, true, false, length, reverse, List, [], ◌∷◌, Option, Some, None, IfSome, Result, Ok, Err}
 use Rattle.dk_config.specs.declared.TheConstants.{MAX_CONFIG_BYTES, MAX_LEDGER_BYTES}
 use Rattle.dk_config.specs.Configuration.{Configuration}
 use Rattle.dk_certify.specs.declared.certifying.Verdict.{Verdict}
@@ -9,6 +9,8 @@ use Rattle.dk_document_report.specs.Telling.{Tells}
 use Rattle.dk_certify_report.specs.Certificate.{certificate_text}
 use Rattle.dk_config_report.specs.Reaches.{AreMargins}
 use Rattle.dk_config_report.specs.When.{IsWhen}
+use Rattle.dk_chain_report.specs.Finding.{processes_named}
+use Rattle.dk_chain_report.specs.Report.{IsChainText}
 use Rattle.dk_warning_report.specs.WarningLines.{warnings_text}
 use Rattle.dk_loader.specs.declared.fault.LoadFault.{LoadFault}
 use Rattle.dk_loader.specs.declared.fault.LoadFault.TheVariants as fault
@@ -26,6 +28,7 @@ use Rattle.dk_show.specs.declared.commands.Drawing.{Drawing}
 use Rattle.dk_show.specs.declared.commands.Drawing.TheVariants as drawing
 use Rattle.dk_show.specs.declared.commands.Telling.{Telling}
 use Rattle.dk_show.specs.declared.commands.Telling.TheVariants as telling
+use Rattle.dk_show.specs.Chain.{ChainAsk}
 use Rattle.dk_show.specs.declared.request.Range.{Range}
 use Rattle.dk_show.specs.declared.request.RangeRequest.{RangeRequest}
 use Rattle.dk_show.specs.declared.request.Request.{Request}
@@ -34,12 +37,11 @@ use Rattle.dk_show.specs.declared.refusal.Refusal.{Refusal}
 use Rattle.dk_show.specs.declared.refusal.Refusal.TheVariants as why
 use Rattle.dk_show.specs.declared.status.Status.{Status}
 use Rattle.dk_show.specs.declared.status.Status.TheVariants as status
-use Rattle.dk_show.specs.Answers.{refusal_status, refusal_text}
+pub use Rattle.dk_show.specs.Answers.{Files, Says}
+use Rattle.dk_show.specs.Impacts.{IsOfImpact}
+use Rattle.dk_show.specs.Loading.{IsOfLoaded}
 use Rattle.dk_show.specs.Meaning.{meaning}
-
--- the names and what they hold
-abbrev pub Files : Type 0
-Files = List ℕ → Option (List ℕ)
+use Rattle.dk_show.specs.Repeats.{IsOfRepeats}
 
 -- the text of a ledger's ticks from `from` up to before `to`
 abbrev pub drawn_text : Drawing → ℕ → ℕ → Journal → List ℕ
@@ -55,9 +57,6 @@ from_of (Some range) = range.from
 abbrev pub to_of : Option Range → ℕ → ℕ
 to_of None n = n
 to_of (Some range) n = range.to
-
-abbrev pub Says : Refusal → List ℕ → Status → Type 0
-Says e text ended = (text ≡ refusal_text e) × (ended ≡ refusal_status e)
 
 -- the range ends within the ledger, and this is its text
 pub record IsDrawn (r : RangeRequest) (j : Journal) (text : List ℕ) (ended : Status) : Type 0 where
@@ -168,6 +167,26 @@ IsOfReading t (Err _) text ended = ⊥
 abbrev pub IsOfDocument : Telling → List ℕ → List ℕ → Status → Type 0
 IsOfDocument t bytes text ended = IsOfReading t (reading bytes) text ended
 
+-- what is said of the chain of these processes, where there are such and the configuration is certified
+abbrev pub IsChainOf : Configuration → Verdict → Option (List ℕ) → List ℕ → Status → Type 0
+IsChainOf c v None text ended = Says why.NoProcess text ended
+IsChainOf c (verdict.Fails level needs window) (Some chain) text ended =
+    Says (why.Uncertified level needs window) text ended
+IsChainOf c (verdict.Accepted rows) (Some []) text ended = ⊥
+IsChainOf c (verdict.Accepted rows) (Some (first ∷ rest)) text ended =
+    IsChainText c first rest text × (ended ≡ status.Done)
+
+-- what is said of the chain of these names in what a document was read as
+abbrev pub IsChainIn : ChainAsk → Result Configuration LoadFault → List ℕ → Status → Type 0
+IsChainIn r (Ok c) text ended = IsChainOf c (verdict_of c) (processes_named c (r.first ∷ r.rest)) text ended
+IsChainIn r (Err fault.NotToml) text ended = Says why.NotToml text ended
+IsChainIn r (Err (fault.Config f)) text ended = Says (why.Rule f) text ended
+IsChainIn r (Err _) text ended = ⊥
+
+-- what the bytes of a configuration come to
+abbrev pub IsOfChain : ChainAsk → List ℕ → List ℕ → Status → Type 0
+IsOfChain r bytes text ended = IsChainIn r (reading bytes) text ended
+
 -- the status tells whether the document is that of a configuration
 abbrev pub read_end : Result Configuration LoadFault → Status
 read_end (Ok c) = status.Done
@@ -194,6 +213,10 @@ IsOfRequest (Some (request.Faults file)) at text ended =
     IsOfNamed at file MAX_CONFIG_BYTES why.LongConfig IsOfFaults text ended
 IsOfRequest (Some (request.Tell t file)) at text ended =
     IsOfNamed at file MAX_CONFIG_BYTES why.LongConfig (IsOfDocument t) text ended
+IsOfRequest (Some (request.Chain r)) at text ended =
+    IsOfNamed at r.file MAX_CONFIG_BYTES why.LongConfig (IsOfChain r) text ended
+IsOfRequest (Some (request.Impact r)) at text ended = IsOfImpact at r text ended
+IsOfRequest (Some (request.Repeats file ticks)) at text ended = IsOfLoaded at file (IsOfRepeats ticks) text ended
 
 -- the text and the status are the output of the words and the files
 abbrev pub IsOutput : List (List ℕ) → Files → List ℕ → Status → Type 0

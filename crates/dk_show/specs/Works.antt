@@ -17,6 +17,12 @@ use Rattle.dk_show.specs.Output.{Files, drawn_text}
 abbrev pub IsRangeReady : RangeWork → Type 0
 IsRangeReady w = (j : Journal) × IsReadable j × (text_of j ≡ w.bytes.items)
 
+-- nothing of it is to be read or made any more
+abbrev pub IsWhole : Work → Type 0
+IsWhole (work.Draw w) = ⊥
+IsWhole (work.Windows report ended) = IsPrintable report.heading × IsEnd ended
+IsWhole (work.Page page ended) = IsEnd ended
+
 abbrev pub IsReady : Work → Type 0
 IsReady (work.Draw w) = IsRangeReady w
 IsReady (work.Windows report ended) = IsPrintable report.heading × IsEnd ended
@@ -40,9 +46,9 @@ abbrev pub Plans : (List ℕ → Status → Type 0) → Result Work Refusal → 
 Plans Stands (Ok w) = (text : List ℕ) → HasText w text → Stands text (ended_of w)
 Plans Stands (Err e) = is_silent e ≡ false → Stands (refusal_text e) (refusal_status e)
 
--- What is made of bytes that were read: a work that is ready, or a refusal by neither the words nor a read.
-pub record IsMade (result : Result Work Refusal) : Type 0 where
-  pub ready : IfOk result IsReady
+-- What is made of bytes that were read: a work of this kind, or a refusal by neither the words nor a read.
+pub record IsMade (IsOf : Work → Type 0) (result : Result Work Refusal) : Type 0 where
+  pub ready : IfOk result IsOf
   pub late : IfErr result (λ e. e ≢ why.Usage)
   pub read : IfErr result (λ e. e ≢ why.Depot)
 

@@ -37,10 +37,16 @@ pub(crate) enum Command {
     /// All that is wrong with the document of a configuration.
     Faults,
     Tell(Telling),
+    /// How long after an event a chain of processes has answered it.
+    Chain,
+    /// What a change of the configuration does to each process.
+    Impact,
+    /// What repeats for ever in the run of a configuration with its programs.
+    Repeats,
 }
 
 /// In the order of the usage line.
-const COMMANDS: [Command; 10] = [
+const COMMANDS: [Command; 13] = [
     Command::Picture,
     Command::Draw(Drawing::Trace),
     Command::Draw(Drawing::Vcd),
@@ -51,6 +57,9 @@ const COMMANDS: [Command; 10] = [
     Command::Tell(Telling::Margins),
     Command::Tell(Telling::When),
     Command::Tell(Telling::Warnings),
+    Command::Chain,
+    Command::Impact,
+    Command::Repeats,
 ];
 
 impl Command {
@@ -69,6 +78,9 @@ impl Command {
             Command::Tell(Telling::Margins) => "margins",
             Command::Tell(Telling::When) => "when",
             Command::Tell(Telling::Warnings) => "warnings",
+            Command::Chain => "chain",
+            Command::Impact => "impact",
+            Command::Repeats => "repeats",
         }
     }
 

@@ -1,10 +1,11 @@
 //! All that is wrong with the document of a configuration.
-ghost use Rattle.std.specs.Prelude.{◌≡◌, ◌≢◌, ◌^◌, ◌<◌, ◌≤◌, IfOk, IfErr, IfSome, length};
+ghost use Rattle.std.specs.Prelude.{◌≡◌, ◌≢◌, ◌^◌, ◌<◌, ◌≤◌, IfOk, IfErr, IfSome, length, None};
 ghost use Rattle.dk_loader.specs.Reading.{reading};
 ghost use Rattle.dk_show.specs.Answers.{IsEnd};
+ghost use Rattle.dk_show.specs.Asking.{Asks, handed_out};
 ghost use Rattle.dk_show.specs.Leaves.{Reads};
 ghost use Rattle.dk_show.specs.Output.{IsOfFaults, IsOfNamed, read_end};
-ghost use Rattle.dk_show.specs.Works.{IsMade, IsReady, Plans};
+ghost use Rattle.dk_show.specs.Works.{IsMade, IsWhole, Plans};
 
 use crate::files::file_at;
 use crate::work::Work;
@@ -32,13 +33,14 @@ fn read_end(alloc: Global, bytes: &[u8]) -> Result<Status, NoMemory>
 fn of_document(alloc: Global, bytes: &[u8]) -> Result<Work, Refusal>
     requires { length bytes.now ≤ MAX_CONFIG_BYTES }
     ensures plans { Plans (IsOfFaults bytes.now) result }
-    ensures made { IsMade result }
+    ensures made { IsMade IsWhole result }
 {
     let page = document_faults(alloc, bytes)?;
     Ok(Work::Page(page, read_end(alloc, bytes)?))
 }
 
 /// What is wrong with the document in the file of this name.
+#[tactic(auto, using(crate::proofs::Asks::asks_on, crate::proofs::Asks::asks_fails))]
 pub(crate) fn faults_plan<D: Depot>(
     alloc: Global,
     file: &str,
@@ -47,7 +49,9 @@ pub(crate) fn faults_plan<D: Depot>(
     requires { (D.seen depot.old).given < 2 ^ 62 }
     ensures plans { IfSome (D.seen depot.old).files
         (λ at. Plans (IsOfNamed at file.now MAX_CONFIG_BYTES Refusal.LongConfig IsOfFaults) result) }
-    ensures ready { IfOk result IsReady }
+    ensures whole { IfOk result IsWhole }
+    ensures asks { Asks (D.seen depot.old).files (λ at. handed_out MAX_CONFIG_BYTES (at file.now)) (λ at. at file.now ≡ None)
+        (D.seen depot.old) (D.seen depot.new) result }
     ensures late { IfErr result (λ e. e ≢ Refusal.Usage) }
     ensures reads { Reads (D.seen depot.old) (D.seen depot.new) result }
 {

@@ -1,6 +1,7 @@
 //! The files that commands are given.
-ghost use Rattle.std.specs.Prelude.{◌≡◌, ◌≢◌, ◌^◌, ◌<◌, ◌≤◌, IfOk, IfErr, IfSome, Some, false, length};
+ghost use Rattle.std.specs.Prelude.{◌≡◌, ◌≢◌, ◌+◌, ◌^◌, ◌<◌, ◌≤◌, IfOk, IfErr, IfSome, Some, false, length, None};
 ghost use Rattle.dk_show.specs.Answers.{is_silent};
+ghost use Rattle.dk_show.specs.Asking.{Asks, handed_out};
 ghost use Rattle.dk_show.specs.Leaves.{Reads};
 ghost use Rattle.dk_show.specs.Works.{IsOfLong};
 
@@ -16,13 +17,16 @@ pub(crate) fn file_at<D: Depot>(
     most: u32,
     long: Refusal,
 ) -> Result<Vec<u8>, Refusal>
-    requires given { (D.seen depot.old).given < 2 ^ 62 }
+    requires given { (D.seen depot.old).given < 2 ^ 63 }
     requires told { is_silent long ≡ false }
     requires later { long ≢ Refusal.Usage }
     ensures held { IfSome (D.seen depot.old).files (λ at. IfOk result (λ v. at name.now ≡ Some v.items)) }
     ensures long { IfSome (D.seen depot.old).files (λ at. IfErr result (IsOfLong at name.now most long)) }
     ensures short { IfOk result (λ v. length v.items ≤ most) }
+    ensures given { (D.seen depot.new).given ≤ (D.seen depot.old).given + (most + 1) }
     ensures late { IfErr result (λ e. e ≢ Refusal.Usage) }
+    ensures asks { Asks (D.seen depot.old).files (λ at. handed_out most (at name.now)) (λ at. at name.now ≡ None)
+        (D.seen depot.old) (D.seen depot.new) result }
     ensures reads { Reads (D.seen depot.old) (D.seen depot.new) result }
 {
     match depot.read(alloc, name, most) {

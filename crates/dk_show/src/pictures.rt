@@ -1,10 +1,11 @@
 //! The picture of a range of a ledger.
-ghost use Rattle.std.specs.Prelude.{◌≢◌, ◌^◌, ◌<◌, IfOk, IfErr, IfSome};
+ghost use Rattle.std.specs.Prelude.{◌≢◌, ◌^◌, ◌<◌, IfOk, IfErr, IfSome, None, ◌≡◌};
 ghost use Rattle.dk_ledger.specs.Readable.{Journal};
 ghost use Rattle.dk_picture.specs.Pictures.{IsShown};
+ghost use Rattle.dk_show.specs.Asking.{Asks, handed_out};
 ghost use Rattle.dk_show.specs.Leaves.{Reads};
 ghost use Rattle.dk_show.specs.Output.{IsOfNamed, IsOfPicture, IsPicture};
-ghost use Rattle.dk_show.specs.Works.{IsMade, IsReady, Plans};
+ghost use Rattle.dk_show.specs.Works.{IsMade, IsWhole, Plans};
 
 use crate::files::file_at;
 use crate::plans::range_within;
@@ -29,7 +30,7 @@ fn within(
 ) -> Result<Work, Refusal>
     requires { (j : Journal) × IsShown j header.now bytes.now ticks }
     ensures plans { (j : Journal) → IsShown j header.now bytes.now ticks → Plans (IsPicture range j) result }
-    ensures made { IsMade result }
+    ensures made { IsMade IsWhole result }
 {
     let Range { from, to } = range_within(range, ticks);
     if to > ticks {
@@ -45,7 +46,7 @@ fn within(
 /// The picture of the ledger in these bytes.
 fn of_bytes(alloc: Global, bytes: &[u8], range: Option<Range>) -> Result<Work, Refusal>
     ensures plans { Plans (IsOfPicture range bytes.now) result }
-    ensures made { IsMade result }
+    ensures made { IsMade IsWhole result }
 {
     match survey_ledger(alloc, bytes) {
         Ok(survey) => within(alloc, &survey.header, bytes, survey.ticks, range),
@@ -55,6 +56,7 @@ fn of_bytes(alloc: Global, bytes: &[u8], range: Option<Range>) -> Result<Work, R
 }
 
 /// The picture of the ledger in the file of this name.
+#[tactic(auto, using(crate::proofs::Asks::asks_on, crate::proofs::Asks::asks_fails))]
 pub(crate) fn picture_plan<D: Depot>(
     alloc: Global,
     ledger: &str,
@@ -64,7 +66,9 @@ pub(crate) fn picture_plan<D: Depot>(
     requires { (D.seen depot.old).given < 2 ^ 62 }
     ensures plans { IfSome (D.seen depot.old).files
         (λ at. Plans (IsOfNamed at ledger.now MAX_LEDGER_BYTES Refusal.LongLedger (IsOfPicture range)) result) }
-    ensures ready { IfOk result IsReady }
+    ensures whole { IfOk result IsWhole }
+    ensures asks { Asks (D.seen depot.old).files (λ at. handed_out MAX_LEDGER_BYTES (at ledger.now)) (λ at. at ledger.now ≡ None)
+        (D.seen depot.old) (D.seen depot.new) result }
     ensures late { IfErr result (λ e. e ≢ Refusal.Usage) }
     ensures reads { Reads (D.seen depot.old) (D.seen depot.new) result }
 {

@@ -1,16 +1,20 @@
 //! What the words come to over a depot.
-ghost use Rattle.std.specs.Prelude.{◌≡◌, ◌≢◌, ◌⊎◌, ◌^◌, ◌<◌, ◌≤◌, IfOk, IfErr, IfSome, IsErrOf, Some, length, map, string_bytes};
+ghost use Rattle.std.specs.Prelude.{◌≡◌, ◌≢◌, ◌⊎◌, ◌^◌, ◌<◌, ◌≤◌, IfOk, IfErr, IfSome, IsErrOf, Some, length, map, string_bytes, None};
 ghost use Rattle.std.specs.Result.{IsErrAnd};
 ghost use Rattle.dk_ledger.specs.Readable.{Journal, IsReadable, text_of};
+ghost use Rattle.dk_show.specs.Asking.{Asks, Misses, WordsMiss, handed_for, handed_for_words, handed_out};
 ghost use Rattle.dk_show.specs.Leaves.{Reads};
-ghost use Rattle.dk_show.specs.Meaning.{MeansNothing};
+ghost use Rattle.dk_show.specs.Meaning.{DrawsNothing, HasFewNames, MeansNothing, meaning};
 ghost use Rattle.dk_show.specs.Output.{from_of, to_of, IsBehind, IsDrawn, IsOfBytes, IsOfNamed, IsOfRequest, IsOutput};
-ghost use Rattle.dk_show.specs.Works.{IsMade, IsReady, IsUsageOrNoMemory, Plans};
+ghost use Rattle.dk_show.specs.Works.{IsMade, IsReady, IsUsageOrNoMemory, IsWhole, Plans};
 
 use crate::Refusal;
+use crate::chains::chain_plan;
 use crate::faults::faults_plan;
 use crate::files::file_at;
+use crate::impacts::impact_plan;
 use crate::pictures::picture_plan;
+use crate::repeats::repeats_plan;
 use crate::request::{Range, RangeRequest, Request, meaning};
 use crate::telling::telling_plan;
 use crate::windows::windows_plan;
@@ -37,7 +41,7 @@ fn within(request: &RangeRequest, bytes: Vec<u8>, ticks: u32) -> Result<Work, Re
     requires { (j : Journal) × IsReadable j × (text_of j ≡ bytes.items) × (ticks ≡ length j.entries) }
     ensures plans { (j : Journal) → IsReadable j → text_of j ≡ bytes.items → ticks ≡ length j.entries
         → Plans (λ text ended. IsDrawn request.now j text ended ⊎ IsBehind request.now j text ended) result }
-    ensures made { IsMade result }
+    ensures made { IsMade IsReady result }
 {
     let range = range_within(request.range, ticks);
     if range.to > ticks {
@@ -55,7 +59,7 @@ fn within(request: &RangeRequest, bytes: Vec<u8>, ticks: u32) -> Result<Work, Re
 fn of_bytes(alloc: Global, request: &RangeRequest, bytes: Vec<u8>) -> Result<Work, Refusal>
     requires { length bytes.items ≤ MAX_LEDGER_BYTES }
     ensures plans { Plans (IsOfBytes request.now bytes.items) result }
-    ensures made { IsMade result }
+    ensures made { IsMade IsReady result }
 {
     match survey_ledger(alloc, bytes.as_slice()) {
         Ok(survey) => within(request, bytes, survey.ticks),
@@ -65,6 +69,7 @@ fn of_bytes(alloc: Global, request: &RangeRequest, bytes: Vec<u8>) -> Result<Wor
 }
 
 /// What is drawn of the ledger of a request.
+#[tactic(auto, using(crate::proofs::Asks::asks_on, crate::proofs::Asks::asks_fails))]
 fn drawing_plan<D: Depot>(
     alloc: Global,
     request: &RangeRequest,
@@ -74,6 +79,8 @@ fn drawing_plan<D: Depot>(
     ensures plans { IfSome (D.seen depot.old).files (λ at. Plans (IsOfNamed at request.now.ledger MAX_LEDGER_BYTES
         Refusal.LongLedger (IsOfBytes request.now)) result) }
     ensures ready { IfOk result IsReady }
+    ensures asks { Asks (D.seen depot.old).files (λ at. handed_out MAX_LEDGER_BYTES (at request.now.ledger)) (λ at. at request.now.ledger ≡ None)
+        (D.seen depot.old) (D.seen depot.new) result }
     ensures late { IfErr result (λ e. e ≢ Refusal.Usage) }
     ensures reads { Reads (D.seen depot.old) (D.seen depot.new) result }
 {
@@ -83,10 +90,15 @@ fn drawing_plan<D: Depot>(
 }
 
 /// What a request comes to.
+#[tactic(auto, using(crate::proofs::Wholes::whole_ready))]
 fn of_request<D: Depot>(alloc: Global, request: &Request, depot: &mut D) -> Result<Work, Refusal>
-    requires { (D.seen depot.old).given < 2 ^ 62 }
+    requires given { (D.seen depot.old).given < 2 ^ 62 }
+    requires few { HasFewNames request.now }
     ensures plans { IfSome (D.seen depot.old).files (λ at. Plans (IsOfRequest (Some request.now) at) result) }
     ensures ready { IfOk result IsReady }
+    ensures whole { DrawsNothing request.now → IfOk result IsWhole }
+    ensures asks { Asks (D.seen depot.old).files (handed_for request.now) (Misses request.now)
+        (D.seen depot.old) (D.seen depot.new) result }
     ensures late { IfErr result (λ e. e ≢ Refusal.Usage) }
     ensures reads { Reads (D.seen depot.old) (D.seen depot.new) result }
 {
@@ -96,6 +108,9 @@ fn of_request<D: Depot>(alloc: Global, request: &Request, depot: &mut D) -> Resu
         Request::Windows { ledger, strict } => windows_plan(alloc, ledger.as_str(), *strict, depot),
         Request::Faults(file) => faults_plan(alloc, file.as_str(), depot),
         Request::Tell(telling, file) => telling_plan(alloc, *telling, file.as_str(), depot),
+        Request::Chain(request) => chain_plan(alloc, request, depot),
+        Request::Impact(request) => impact_plan(alloc, request, depot),
+        Request::Repeats { file, ticks } => repeats_plan(alloc, file.as_str(), *ticks, depot),
     }
 }
 
@@ -108,6 +123,9 @@ pub(crate) fn plan<D: Depot>(
     requires { (D.seen depot.old).given < 2 ^ 62 }
     ensures plans { IfSome (D.seen depot.old).files (λ at. Plans (IsOutput (map string_bytes words.now) at) result) }
     ensures ready { IfOk result IsReady }
+    ensures whole { IfSome (meaning (map string_bytes words.now)) DrawsNothing → IfOk result IsWhole }
+    ensures asks { Asks (D.seen depot.old).files (handed_for_words (meaning (map string_bytes words.now)))
+        (WordsMiss (meaning (map string_bytes words.now))) (D.seen depot.old) (D.seen depot.new) result }
     ensures usage { MeansNothing (map string_bytes words.now) → IsErrAnd result IsUsageOrNoMemory }
     ensures usage_only { IsErrOf result Refusal.Usage → MeansNothing (map string_bytes words.now) }
     ensures reads { Reads (D.seen depot.old) (D.seen depot.new) result }

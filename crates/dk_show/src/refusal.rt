@@ -3,7 +3,7 @@ ghost use Rattle.dk_show.specs.Answers.{longer_than, refusal_status, refusal_tex
 ghost use Rattle.dk_show.specs.declared.refusal.Refusal.TheVariants as why;
 
 use crate::Status;
-use dk_config::{ConfigFault, MAX_CONFIG_BYTES, MAX_LEDGER_BYTES, NoMemory};
+use dk_config::{ConfigFault, MAX_CONFIG_BYTES, MAX_LEDGER_BYTES, MAX_PROGRAM_BYTES, NoMemory};
 use dk_fault_words::fault_text;
 use dk_picture::MAX_GROUPS;
 use std::alloc::{AllocError, Global};
@@ -21,8 +21,12 @@ pub enum Refusal {
     NotToml,
     /// The configuration breaks this rule first.
     Rule(ConfigFault),
+    /// A name of a chain is that of no process.
+    NoProcess,
     /// The first level that may miss its window, with the ticks that it needs and those of its window.
     Uncertified { level: u8, needs: u64, window: u32 },
+    /// The program of the process with this number has more than 65,536 bytes.
+    LongProgram(u32),
     /// The ledger is too long.
     LongLedger,
     /// The first line, counted from 1, by which a ledger is none.
@@ -45,7 +49,9 @@ impl Refusal {
             Refusal::LongConfig => Status::Config,
             Refusal::NotToml => Status::Config,
             Refusal::Rule(_) => Status::Config,
+            Refusal::NoProcess => Status::Refused,
             Refusal::Uncertified { .. } => Status::Uncertified,
+            Refusal::LongProgram(_) => Status::Refused,
             Refusal::LongLedger => Status::Refused,
             Refusal::LedgerLine(_) => Status::Refused,
             Refusal::RangeEnds(_) => Status::Refused,
@@ -63,11 +69,13 @@ impl Refusal {
             Refusal::LongConfig => too_long(alloc, "config:", MAX_CONFIG_BYTES),
             Refusal::NotToml => String::from_str(alloc, "config: not TOML\n"),
             Refusal::Rule(fault) => fault_text(alloc, *fault),
+            Refusal::NoProcess => String::from_str(alloc, "chain: no such process\n"),
             Refusal::Uncertified {
                 level,
                 needs,
                 window,
             } => uncertified_text(alloc, *level, *needs, *window),
+            Refusal::LongProgram(process) => long_program_text(alloc, *process),
             Refusal::LongLedger => too_long(alloc, "ledger:", MAX_LEDGER_BYTES),
             Refusal::LedgerLine(line) => ledger_line_text(alloc, *line),
             Refusal::RangeEnds(ticks) => range_ends_text(alloc, *ticks),
@@ -88,7 +96,7 @@ impl From<NoMemory> for Refusal {
 
 /// The usage line. It lists the commands that stand.
 const USAGE: &str =
-    "usage: deosk-show svg LEDGER [FROM TO] | trace LEDGER [FROM TO] | vcd LEDGER [FROM TO] | csv LEDGER [FROM TO] | windows LEDGER [--strict] | faults FILE | certify FILE | margins FILE | when FILE | warnings FILE\n";
+    "usage: deosk-show svg LEDGER [FROM TO] | trace LEDGER [FROM TO] | vcd LEDGER [FROM TO] | csv LEDGER [FROM TO] | windows LEDGER [--strict] | faults FILE | certify FILE | margins FILE | when FILE | warnings FILE | chain FILE NAME... | impact OLD NEW [NAME...] [--csv] | repeats FILE TICKS\n";
 
 fn uncertified_text(alloc: Global, level: u8, needs: u64, window: u32) -> Result<String, AllocError>
     ensures { IfOk result (λ s. string_bytes s ≡ refusal_text (Refusal.Uncertified level needs window)) }
@@ -101,6 +109,13 @@ fn too_long(alloc: Global, what: &str, most: u32) -> Result<String, AllocError>
     ensures { IfOk result (λ s. string_bytes s ≡ what.now ++ longer_than most) }
 {
     format!(in alloc; "{what} longer than {most} bytes\n")
+}
+
+fn long_program_text(alloc: Global, process: u32) -> Result<String, AllocError>
+    ensures { IfOk result (λ s. string_bytes s ≡ refusal_text (Refusal.LongProgram process)) }
+{
+    let most = MAX_PROGRAM_BYTES;
+    format!(in alloc; "program: process {process} longer than {most} bytes\n")
 }
 
 fn ledger_line_text(alloc: Global, line: u32) -> Result<String, AllocError>

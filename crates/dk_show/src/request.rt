@@ -1,12 +1,17 @@
 //! What the words ask for.
 ghost use Rattle.std.specs.Prelude.{◌≡◌, ◌<◌, IfOk, IfSome, drop, map, string_bytes, option_map};
-ghost use Rattle.std.specs.List.{list_all};
 ghost use Rattle.dk_show.specs.Numbers.{ticks_in};
-ghost use Rattle.dk_show.specs.Meaning.{asked, asked_drawing, asked_faults, asked_picture, asked_telling, asked_windows, is_plain_word, is_taken_word, meaning, picture_request, range_by, range_of, range_request, windows_request, word_at};
+ghost use Rattle.dk_show.specs.Meaning.{asked, asked_drawing, asked_faults, asked_picture, asked_telling, asked_windows, meaning, picture_request, range_by, range_of, range_request, windows_request, word_at};
 
+use crate::chain_words::{ChainRequest, asked_chain};
 use crate::commands::{Command, Drawing, Telling};
+use crate::impact_words::{ChangeRequest, asked_impact};
 use crate::numbers::ticks_in;
-use crate::words::{Given, WindowsGiven, read_file_word, read_range_words, read_windows_words};
+use crate::repeats_words::asked_repeats;
+use crate::taken::are_taken;
+use crate::words::{
+    Given, WindowsGiven, copy_of, read_file_word, read_range_words, read_windows_words,
+};
 use dk_config::{NoMemory, Text};
 use std::alloc::Global;
 
@@ -38,6 +43,12 @@ pub(crate) enum Request {
     Faults(Text),
     /// What is told of the configuration in the file of this name.
     Tell(Telling, Text),
+    /// How long after an event a chain of processes has answered it.
+    Chain(ChainRequest),
+    /// What a change of the configuration does to each process.
+    Impact(ChangeRequest),
+    /// What repeats for ever in the run of the configuration in the file of this name, as is found in so many ticks.
+    Repeats { file: Text, ticks: u32 },
 }
 
 /// Both ends of the range, the first below the second, or none of them; else nothing.
@@ -62,13 +73,6 @@ fn range_of(from: &str, to: &str) -> Option<Option<Range>>
     } else {
         None
     }
-}
-
-fn copy_of(alloc: Global, word: &str) -> Result<Text, NoMemory>
-    ensures { IfOk result (λ t. t ≡ word.now) }
-{
-    let copy = String::from_str(alloc, word)?;
-    Ok(Text::new(copy))
 }
 
 fn range_request(
@@ -181,35 +185,10 @@ fn asked(alloc: Global, command: Command, words: &[String]) -> Result<Option<Req
         Command::Windows => asked_windows(alloc, words),
         Command::Faults => asked_faults(alloc, words),
         Command::Tell(telling) => asked_telling(alloc, telling, words),
+        Command::Chain => asked_chain(alloc, words),
+        Command::Impact => asked_impact(alloc, words),
+        Command::Repeats => asked_repeats(alloc, words),
     }
-}
-
-fn is_plain_word(word: &String) -> bool
-    ensures { result ≡ is_plain_word (string_bytes word.now) }
-{
-    match word.as_bytes() {
-        [b, ..] => *b != b'-',
-        [] => false,
-    }
-}
-
-fn is_taken_word(word: &String) -> bool
-    ensures { result ≡ is_taken_word (string_bytes word.now) }
-{
-    word.as_str() == "--strict" || is_plain_word(word)
-}
-
-fn are_taken_texts(words: &[String]) -> bool
-    ensures { result ≡ list_all (λ w. is_taken_word (string_bytes w)) words.now }
-{
-    words.iter().all(|word| is_taken_word(word))
-}
-
-/// Whether no word is empty or begins with '-', but for `--strict`.
-fn are_taken(words: &[String]) -> bool
-    ensures { result ≡ list_all is_taken_word (map string_bytes words.now) }
-{
-    are_taken_texts(words)
 }
 
 /// The words behind the program's name.

@@ -1,13 +1,14 @@
 //! The top call.
-ghost use Rattle.std.specs.Prelude.{ℕ, List, ◌≡◌, ◌≢◌, ◌⊎◌, ◌^◌, ◌<◌, ◌≤◌, IfSome, map, string_bytes, true};
+ghost use Rattle.std.specs.Prelude.{ℕ, List, ◌≡◌, ◌≢◌, ◌⊎◌, ◌^◌, ◌<◌, ◌≤◌, IfSome, map, string_bytes, true, ◌+◌};
 ghost use Rattle.dk_outside.specs.Counts.{Rises};
 ghost use Rattle.dk_ledger.specs.Heading.{IsPrintable};
 ghost use Rattle.dk_window_report.specs.Report.{kept_text};
 ghost use Rattle.dk_show.specs.Answers.{IsAnswer, IsEnd, IsFault, IsFaulty, is_silent, refusal_status};
+ghost use Rattle.dk_show.specs.Asking.{WordsMiss, handed_for_words};
 ghost use Rattle.dk_show.specs.Leaves.{Leaves};
-ghost use Rattle.dk_show.specs.Meaning.{MeansNothing};
+ghost use Rattle.dk_show.specs.Meaning.{DrawsNothing, IsSought, MeansNothing, meaning};
 ghost use Rattle.dk_show.specs.Output.{IsOutput, Says, StandsInOutput};
-ghost use Rattle.dk_show.specs.Works.{HasText, IsRangeReady, IsReady, ended_of};
+ghost use Rattle.dk_show.specs.Works.{HasText, IsRangeReady, IsReady, IsWhole, ended_of};
 
 use crate::plans::plan;
 use crate::work::{RangeWork, Work, draw};
@@ -70,7 +71,7 @@ fn put_page<S: Sink>(page: &Page, ended: Status, sink: &mut S) -> Status
     requires { IsEnd ended }
     ensures left { Leaves S.seen (λ text s. (text ≡ page.now) × (s ≡ ended))
         sink.old sink.new result }
-    ensures only { (result ≡ ended) ⊎ IsFault result }
+    ensures only { (result ≡ ended) ⊎ (result ≡ Status.SinkFault) }
 {
     match page.write(sink) {
         Ok(()) => ended,
@@ -84,7 +85,7 @@ fn put_windows<S: Sink>(report: &WindowReport, ended: Status, sink: &mut S) -> S
     requires ends { IsEnd ended }
     ensures left { Leaves S.seen (λ text s. (text ≡ kept_text report.now.heading report.now.kept)
         × (s ≡ ended)) sink.old sink.new result }
-    ensures only { (result ≡ ended) ⊎ IsFault result }
+    ensures only { (result ≡ ended) ⊎ (result ≡ Status.SinkFault) }
 {
     match report.write(sink) {
         Ok(()) => ended,
@@ -99,6 +100,7 @@ fn put<S: Sink>(alloc: Global, work: &Work, sink: &mut S) -> Status
         sink.old sink.new result }
     ensures usage { result ≢ Status.Usage }
     ensures depot { result ≢ Status.DepotFault }
+    ensures whole { IsWhole work.now → result ≢ Status.NoMemory }
 {
     match work {
         Work::Draw(work) => put_drawing(alloc, work, sink),
@@ -120,17 +122,28 @@ pub fn deosk_show<D: Depot, S: Sink>(
     // what stands there was appended; where memory ran out, nothing or such a prefix; where a read failed, nothing.
     ensures output { Leaves S.seen (StandsInOutput (D.seen depot.old).files (map string_bytes words.now))
         sink.old sink.new result }
-    // Where a text stands in Output with Done, no other answer comes than a failed read or write or want of memory.
-    ensures complete { IfSome (D.seen depot.old).files (λ at. (text : List ℕ)
+    // Where a text stands in Output with Done, no other answer comes than a failed read or write or want of memory. What is
+    // sought in so many ticks may stand there and not be found.
+    ensures complete { IfSome (D.seen depot.old).files (λ at. (text : List ℕ) → ¬ IsSought (meaning (map string_bytes words.now))
         → IsOutput (map string_bytes words.now) at text Status.Done → (result ≡ Status.Done) ⊎ IsFaulty result) }
+    // All memory is taken before the first write, but for a drawing, which is written line by line.
+    ensures untouched { IfSome (meaning (map string_bytes words.now)) DrawsNothing → result ≡ Status.NoMemory
+        → sink.new ≡ sink.old }
     // Usage by the words alone.
     ensures usage { MeansNothing (map string_bytes words.now) → (result ≡ Status.Usage) ⊎ IsFault result }
     ensures usage_only { result ≡ Status.Usage → MeansNothing (map string_bytes words.now) }
     ensures depot_fault { result ≡ Status.DepotFault → Rises (D.seen depot.old).faults (D.seen depot.new).faults }
     ensures sink_fault { result ≡ Status.SinkFault → Rises (S.seen sink.old).faults (S.seen sink.new).faults }
-    // No failed read is swallowed: with any other answer none failed.
+    // No failed read and no failed write is swallowed: with any other answer none failed.
     ensures no_read_failed { result ≢ Status.DepotFault → (D.seen depot.new).faults ≡ (D.seen depot.old).faults }
+    ensures no_write_failed { result ≢ Status.SinkFault → (S.seen sink.new).faults ≡ (S.seen sink.old).faults }
     ensures faults { (D.seen depot.old).faults ≤ (D.seen depot.new).faults }
+    // Unless a read failed or memory ran out, exactly the bytes were handed out that the command asks for. No read strays
+    // where no file that it asks for is missing.
+    ensures given { IfSome (D.seen depot.old).files (λ at. result ≢ Status.DepotFault → result ≢ Status.NoMemory
+        → (D.seen depot.new).given ≡ (D.seen depot.old).given + handed_for_words (meaning (map string_bytes words.now)) at) }
+    ensures strays { IfSome (D.seen depot.old).files (λ at. ¬ WordsMiss (meaning (map string_bytes words.now)) at
+        → (D.seen depot.new).strays ≡ (D.seen depot.old).strays) }
     ensures same { (D.seen depot.new).files ≡ (D.seen depot.old).files }
 {
     match plan(alloc, words, depot) {

@@ -1,11 +1,12 @@
 //! What is told of a configuration.
-ghost use Rattle.std.specs.Prelude.{◌≡◌, ◌≢◌, ◌^◌, ◌<◌, ◌≤◌, IfOk, IfErr, IfSome, length};
+ghost use Rattle.std.specs.Prelude.{◌≡◌, ◌≢◌, ◌^◌, ◌<◌, ◌≤◌, IfOk, IfErr, IfSome, length, None};
 ghost use Rattle.dk_config.specs.Checked.{BreaksNoRule, IsChecked, IsWithinLimits};
 ghost use Rattle.dk_certify.specs.Verdicts.{verdict_of};
 ghost use Rattle.dk_show.specs.Answers.{IsEnd};
+ghost use Rattle.dk_show.specs.Asking.{Asks, handed_out};
 ghost use Rattle.dk_show.specs.Leaves.{Reads};
 ghost use Rattle.dk_show.specs.Output.{IsOfDocument, IsOfNamed, IsToldOf, certified_end};
-ghost use Rattle.dk_show.specs.Works.{IsMade, IsReady, Plans};
+ghost use Rattle.dk_show.specs.Works.{IsMade, IsWhole, Plans};
 
 use crate::commands::Telling;
 use crate::files::file_at;
@@ -25,7 +26,7 @@ fn when_work(alloc: Global, config: &Config) -> Result<Work, Refusal>
     requires checked { IsChecked config.now }
     requires limits { IsWithinLimits config.now }
     ensures plans { Plans (IsToldOf Telling.When config.now (verdict_of config.now)) result }
-    ensures made { IsMade result }
+    ensures made { IsMade IsWhole result }
 {
     match certify(config) {
         Verdict::Accepted(_) => Ok(Work::Page(when(alloc, config)?, Status::Done)),
@@ -59,7 +60,7 @@ fn certificate_work(alloc: Global, config: &Config) -> Result<Work, Refusal>
     requires checked { IsChecked config.now }
     requires limits { IsWithinLimits config.now }
     ensures plans { Plans (IsToldOf Telling.Certify config.now (verdict_of config.now)) result }
-    ensures made { IsMade result }
+    ensures made { IsMade IsWhole result }
 {
     Ok(Work::Page(certificate(alloc, config)?, certified_end(config)))
 }
@@ -70,7 +71,7 @@ fn margins_work(alloc: Global, config: &Config) -> Result<Work, Refusal>
     requires checked { IsChecked config.now }
     requires limits { IsWithinLimits config.now }
     ensures plans { Plans (IsToldOf Telling.Margins config.now (verdict_of config.now)) result }
-    ensures made { IsMade result }
+    ensures made { IsMade IsWhole result }
 {
     Ok(Work::Page(margins(alloc, config)?, Status::Done))
 }
@@ -80,7 +81,7 @@ fn warnings_work(alloc: Global, config: &Config) -> Result<Work, Refusal>
     requires checked { IsChecked config.now }
     requires limits { IsWithinLimits config.now }
     ensures plans { Plans (IsToldOf Telling.Warnings config.now (verdict_of config.now)) result }
-    ensures made { IsMade result }
+    ensures made { IsMade IsWhole result }
 {
     Ok(Work::Page(warnings(alloc, config)?, Status::Done))
 }
@@ -91,7 +92,7 @@ fn told_of(alloc: Global, telling: Telling, config: &Config) -> Result<Work, Ref
     requires checked { IsChecked config.now }
     requires limits { IsWithinLimits config.now }
     ensures plans { Plans (IsToldOf telling config.now (verdict_of config.now)) result }
-    ensures made { IsMade result }
+    ensures made { IsMade IsWhole result }
 {
     match telling {
         Telling::Certify => certificate_work(alloc, config),
@@ -105,7 +106,7 @@ fn told_of(alloc: Global, telling: Telling, config: &Config) -> Result<Work, Ref
 fn of_document(alloc: Global, telling: Telling, bytes: &[u8]) -> Result<Work, Refusal>
     requires { length bytes.now ≤ MAX_CONFIG_BYTES }
     ensures plans { Plans (IsOfDocument telling bytes.now) result }
-    ensures made { IsMade result }
+    ensures made { IsMade IsWhole result }
 {
     match read_config(alloc, bytes) {
         Ok(config) => told_of(alloc, telling, &config),
@@ -116,6 +117,7 @@ fn of_document(alloc: Global, telling: Telling, bytes: &[u8]) -> Result<Work, Re
 }
 
 /// What is told of the document in the file of this name.
+#[tactic(auto, using(crate::proofs::Asks::asks_on, crate::proofs::Asks::asks_fails))]
 pub(crate) fn telling_plan<D: Depot>(
     alloc: Global,
     telling: Telling,
@@ -125,7 +127,9 @@ pub(crate) fn telling_plan<D: Depot>(
     requires { (D.seen depot.old).given < 2 ^ 62 }
     ensures plans { IfSome (D.seen depot.old).files
         (λ at. Plans (IsOfNamed at file.now MAX_CONFIG_BYTES Refusal.LongConfig (IsOfDocument telling)) result) }
-    ensures ready { IfOk result IsReady }
+    ensures whole { IfOk result IsWhole }
+    ensures asks { Asks (D.seen depot.old).files (λ at. handed_out MAX_CONFIG_BYTES (at file.now)) (λ at. at file.now ≡ None)
+        (D.seen depot.old) (D.seen depot.new) result }
     ensures late { IfErr result (λ e. e ≢ Refusal.Usage) }
     ensures reads { Reads (D.seen depot.old) (D.seen depot.new) result }
 {

@@ -1,9 +1,10 @@
 //! What the threads of a ledger did in their windows.
-ghost use Rattle.std.specs.Prelude.{◌≡◌, ◌≢◌, ◌^◌, ◌<◌, IfOk, IfErr, IfSome};
+ghost use Rattle.std.specs.Prelude.{◌≡◌, ◌≢◌, ◌^◌, ◌<◌, IfOk, IfErr, IfSome, None};
 ghost use Rattle.dk_show.specs.Answers.{IsEnd};
+ghost use Rattle.dk_show.specs.Asking.{Asks, handed_out};
 ghost use Rattle.dk_show.specs.Leaves.{Reads};
 ghost use Rattle.dk_show.specs.Output.{IsOfNamed, IsOfWindows, end_of};
-ghost use Rattle.dk_show.specs.Works.{IsMade, IsReady, Plans};
+ghost use Rattle.dk_show.specs.Works.{IsMade, IsWhole, Plans};
 
 use crate::files::file_at;
 use crate::work::Work;
@@ -29,7 +30,7 @@ fn end_of(strict: bool, clean: bool) -> Status
 /// What the threads of the ledger in these bytes did.
 fn of_ledger(alloc: Global, strict: bool, bytes: &[u8]) -> Result<Work, Refusal>
     ensures plans { Plans (IsOfWindows strict bytes.now) result }
-    ensures made { IsMade result }
+    ensures made { IsMade IsWhole result }
 {
     match WindowReport::of(alloc, bytes) {
         Ok(report) => {
@@ -42,6 +43,7 @@ fn of_ledger(alloc: Global, strict: bool, bytes: &[u8]) -> Result<Work, Refusal>
 }
 
 /// What the threads of the ledger in the file of this name did.
+#[tactic(auto, using(crate::proofs::Asks::asks_on, crate::proofs::Asks::asks_fails))]
 pub(crate) fn windows_plan<D: Depot>(
     alloc: Global,
     ledger: &str,
@@ -51,7 +53,9 @@ pub(crate) fn windows_plan<D: Depot>(
     requires { (D.seen depot.old).given < 2 ^ 62 }
     ensures plans { IfSome (D.seen depot.old).files
         (λ at. Plans (IsOfNamed at ledger.now MAX_LEDGER_BYTES Refusal.LongLedger (IsOfWindows strict)) result) }
-    ensures ready { IfOk result IsReady }
+    ensures whole { IfOk result IsWhole }
+    ensures asks { Asks (D.seen depot.old).files (λ at. handed_out MAX_LEDGER_BYTES (at ledger.now)) (λ at. at ledger.now ≡ None)
+        (D.seen depot.old) (D.seen depot.new) result }
     ensures late { IfErr result (λ e. e ≢ Refusal.Usage) }
     ensures reads { Reads (D.seen depot.old) (D.seen depot.new) result }
 {

@@ -1,11 +1,11 @@
 //! The words of a command, read by `clap`.
 ghost use Rattle.std.specs.Prelude.{◌≡◌, Bool, codes, IfOk, map, option_map, string_bytes};
 ghost use Rattle.clap.specs.Words.{app_of, found_of, first_of, rows_of, with_rule};
-ghost use Rattle.dk_show.specs.Clap.{argument, file_app, file_given_by, given_by, is_true, range_app, windows_app, windows_given_by, windows_words_in, words_in};
+ghost use Rattle.dk_show.specs.Clap.{argument, file_app, file_given_by, flag, given_by, is_true, range_app, windows_app, windows_given_by, windows_words_in, words_in};
 
 use clap::error::ErrorKind;
 use clap::{Arg, ArgAction, ArgMatches, Command};
-use dk_config::NoMemory;
+use dk_config::{NoMemory, Text};
 use std::alloc::{AllocError, Global};
 use std::marker::Model;
 
@@ -46,8 +46,16 @@ impl<'a> Model for WindowsGiven<'a> {
     ghost view = { λ g. record { ledger = option_map (λ w. w.now) g.ledger; strict = g.strict } };
 }
 
+/// A copy of a word.
+pub(crate) fn copy_of(alloc: Global, word: &str) -> Result<Text, NoMemory>
+    ensures { IfOk result (λ t. t ≡ word.now) }
+{
+    let copy = String::from_str(alloc, word)?;
+    Ok(Text::new(copy))
+}
+
 /// The command with one argument more.
-fn add_argument<'a>(
+pub(crate) fn add_argument<'a>(
     alloc: Global,
     command: Command<'a>,
     name: &'a str,
@@ -59,6 +67,18 @@ fn add_argument<'a>(
         .required(required)
         .action(ArgAction::Set);
     command.arg(argument)
+}
+
+/// The command with a flag more.
+pub(crate) fn add_flag<'a>(
+    alloc: Global,
+    command: Command<'a>,
+    name: &'a str,
+) -> Result<Command<'a>, AllocError>
+    ensures { IfOk result (λ c. app_of c ≡ with_rule (app_of command.entry) (flag name.entry.now)) }
+{
+    let flag = Arg::new(alloc, name).long(name).action(ArgAction::SetTrue);
+    command.arg(flag)
 }
 
 /// A command with a ledger, and perhaps a range.
@@ -83,10 +103,7 @@ fn windows_command<'a>(alloc: Global, word: &'a str) -> Result<Command<'a>, Allo
     ensures { IfOk result (λ c. app_of c ≡ windows_app word.entry.now) }
 {
     let command = add_argument(alloc, Command::new(alloc, word), "LEDGER", true)?;
-    let flag = Arg::new(alloc, "strict")
-        .long("strict")
-        .action(ArgAction::SetTrue);
-    command.arg(flag)
+    add_flag(alloc, command, "strict")
 }
 
 fn given_of<'a>(matches: &ArgMatches<'a>) -> Given<'a>
@@ -136,7 +153,7 @@ pub(crate) fn read_file_word<'a>(
     }
 }
 
-fn is_true(value: Option<&str>) -> bool
+pub(crate) fn is_true(value: Option<&str>) -> bool
     ensures { result ≡ is_true (option_map (λ w. w.now) value.entry) }
 {
     match value {

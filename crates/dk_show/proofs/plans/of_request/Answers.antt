@@ -4,6 +4,8 @@ use Rattle.dk_config.specs.declared.TheConstants.{MAX_LEDGER_BYTES}
 use Rattle.dk_show.specs.declared.refusal.Refusal.TheVariants as why
 use Rattle.dk_show.specs.declared.request.Request.{Request}
 use Rattle.dk_show.specs.Output.{IsOfNamed, IsOfPicture, IsOfRequest, IsOfWindows}
+use Rattle.dk_show.specs.Loading.{IsOfLoaded}
+use Rattle.dk_show.specs.Repeats.{IsOfRepeats}
 use Rattle.dk_show.specs.Works.{Plans}
 use Rattle.dk_show.proofs.plans.of_request.Goals as goal
 
@@ -22,3 +24,16 @@ returns-in-Windows-clause-plans g c =
     let strict = c.in-Windows.strict in
     let named = subst (λ (name : List ℕ). IfSome files (λ at. Plans (IsOfNamed at name MAX_LEDGER_BYTES why.LongLedger (IsOfWindows strict)) result)) c.as_str-in-Windows.ensures c.windows_plan.ensures.plans in
     subst (λ (r : Request). IfSome files (λ at. Plans (IsOfRequest (Some r) at) result)) (sym c.in-Windows.is) named
+
+pub returns-in-Chain-clause-plans : goal.returns-in-Chain-clause-plans
+returns-in-Chain-clause-plans g c =
+    let files = (g.D.Depot.seen c.args.depot.now).files in
+    subst (λ (r : Request). IfSome files (λ at. Plans (IsOfRequest (Some r) at) c.chain_plan.result)) (sym c.in-Chain.is) c.chain_plan.ensures.plans
+
+pub returns-in-Repeats-clause-plans : goal.returns-in-Repeats-clause-plans
+returns-in-Repeats-clause-plans g c =
+    let files = (g.D.Depot.seen c.args.depot.now).files in
+    let result = c.repeats_plan.result in
+    let ticks = c.in-Repeats.ticks in
+    let named = subst (λ (name : List ℕ). IfSome files (λ at. Plans (IsOfLoaded at name (IsOfRepeats ticks)) result)) c.as_str-in-Repeats.ensures c.repeats_plan.ensures.plans in
+    subst (λ (r : Request). IfSome files (λ at. Plans (IsOfRequest (Some r) at) result)) (sym c.in-Repeats.is) named

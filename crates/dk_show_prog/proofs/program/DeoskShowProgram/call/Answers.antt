@@ -8,12 +8,16 @@ returns g c =
       whole = e.output.whole;
       cut = e.output.cut;
       silent = λ silent. ap g.S.Sink.seen (e.output.silent silent);
+      untouched = λ draws memory. ap g.S.Sink.seen (e.untouched draws memory);
       complete = e.complete;
       usage = e.usage;
       usage_only = e.usage_only;
       depot_fault = e.depot_fault;
       sink_fault = e.sink_fault;
       no_read_failed = e.no_read_failed;
+      no_write_failed = e.no_write_failed;
       faults = e.faults;
+      given = e.given;
+      strays = e.strays;
       same = e.same;
     }

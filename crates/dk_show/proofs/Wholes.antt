@@ -1,0 +1,12 @@
+-- A work that is whole is ready.
+use Rattle.std.specs.Prelude.{Result, Ok, Err, IfOk}
+use Rattle.dk_show.specs.declared.refusal.Refusal.{Refusal}
+use Rattle.dk_show.specs.declared.work.Work.{Work}
+use Rattle.dk_show.specs.declared.work.Work.TheVariants as work
+use Rattle.dk_show.specs.Works.{IsReady, IsWhole}
+
+pub whole_ready : (result : Result Work Refusal) → IfOk result IsWhole → IfOk result IsReady
+whole_ready (Err e) is = tt
+whole_ready (Ok (work.Draw w)) is = absurd is
+whole_ready (Ok (work.Windows report ended)) is = is
+whole_ready (Ok (work.Page page ended)) is = is

@@ -1,0 +1,76 @@
+-- What a command asks of the files, and what it leaves of a depot's counts.
+use Rattle.std.specs.Prelude.{ℕ, ◌≡◌, ◌+◌, min, false, length, List, Option, Some, None, IfSome, Result, Ok, Err}
+use Rattle.dk_config.specs.declared.TheConstants.{MAX_CONFIG_BYTES, MAX_LEDGER_BYTES}
+use Rattle.dk_config.specs.Configuration.{Configuration}
+use Rattle.dk_outside.specs.Views.{DepotView}
+use Rattle.dk_loader.specs.Programs.{bytes_read}
+use Rattle.dk_loader.specs.Workload.{Workload}
+use Rattle.dk_show.specs.declared.request.Request.{Request}
+use Rattle.dk_show.specs.declared.request.Request.TheVariants as request
+use Rattle.dk_show.specs.declared.refusal.Refusal.{Refusal}
+use Rattle.dk_show.specs.declared.refusal.Refusal.TheVariants as why
+use Rattle.dk_show.specs.Answers.{Files, is_silent}
+use Rattle.dk_show.specs.Loading.{certified_at, loaded}
+
+-- how many bytes a read hands out: all of a file, or one more than the most
+abbrev pub handed_out : ℕ → Option (List ℕ) → ℕ
+handed_out most None = 0
+handed_out most (Some file) = min (most + 1) (length file)
+
+-- those of the programs of a configuration, up to the first that isn't there or is too long
+abbrev pub handed_with : Files → Result Configuration Refusal → ℕ
+handed_with at (Ok c) = bytes_read at c.processes
+handed_with at (Err e) = 0
+
+-- those of a configuration with its programs
+abbrev pub handed_load : Files → List ℕ → ℕ
+handed_load at name = handed_out MAX_CONFIG_BYTES (at name) + handed_with at (certified_at (at name))
+
+-- the new configuration is asked for where the old one is there with its programs
+abbrev pub handed_after : Files → List ℕ → Result Workload Refusal → ℕ
+handed_after at new (Ok w) = handed_load at new
+handed_after at new (Err e) = 0
+
+-- how many bytes the reads of a command hand out
+abbrev pub handed_for : Request → Files → ℕ
+handed_for (request.Draw r) at = handed_out MAX_LEDGER_BYTES (at r.ledger)
+handed_for (request.Picture ledger range) at = handed_out MAX_LEDGER_BYTES (at ledger)
+handed_for (request.Windows ledger strict) at = handed_out MAX_LEDGER_BYTES (at ledger)
+handed_for (request.Faults file) at = handed_out MAX_CONFIG_BYTES (at file)
+handed_for (request.Tell t file) at = handed_out MAX_CONFIG_BYTES (at file)
+handed_for (request.Chain r) at = handed_out MAX_CONFIG_BYTES (at r.file)
+handed_for (request.Impact r) at = handed_load at r.old + handed_after at r.new (loaded at r.old)
+handed_for (request.Repeats file ticks) at = handed_load at file
+
+abbrev pub misses_after : Files → List ℕ → Result Workload Refusal → Type 0
+misses_after at new (Ok w) = loaded at new ≡ Err why.Depot
+misses_after at new (Err e) = e ≡ why.Depot
+
+-- a file that the command asks for isn't there
+abbrev pub Misses : Request → Files → Type 0
+Misses (request.Draw r) at = at r.ledger ≡ None
+Misses (request.Picture ledger range) at = at ledger ≡ None
+Misses (request.Windows ledger strict) at = at ledger ≡ None
+Misses (request.Faults file) at = at file ≡ None
+Misses (request.Tell t file) at = at file ≡ None
+Misses (request.Chain r) at = at r.file ≡ None
+Misses (request.Impact r) at = misses_after at r.new (loaded at r.old)
+Misses (request.Repeats file ticks) at = loaded at file ≡ Err why.Depot
+
+abbrev pub IsLoud : {A : Type 0} → Result A Refusal → Type 0
+IsLoud (Ok x) = Unit {0}
+IsLoud (Err e) = is_silent e ≡ false
+
+-- Exactly so many bytes were handed out, unless a read failed or memory ran out; and no read strayed where no file is missed.
+pub record Asks {A : Type 0} (files : Option Files) (bytes : Files → ℕ) (Missing : Files → Type 0) (old new : DepotView)
+    (result : Result A Refusal) : Type 0 where
+  pub given : IfSome files (λ at. IsLoud result → new.given ≡ old.given + bytes at)
+  pub strays : IfSome files (λ at. (Missing at → ⊥) → new.strays ≡ old.strays)
+
+abbrev pub handed_for_words : Option Request → Files → ℕ
+handed_for_words None at = 0
+handed_for_words (Some r) at = handed_for r at
+
+abbrev pub WordsMiss : Option Request → Files → Type 0
+WordsMiss None at = ⊥
+WordsMiss (Some r) at = Misses r at
