@@ -1,9 +1,10 @@
--- By itself a process runs the same in two configurations of which it sees the same, tick by tick.
-use Rattle.std.proofs.Common.{ℕ, zero, suc, ◌≡◌, ◌+◌, ◌%◌, ◌<◌, inl, inr, Bool, true, false, cond, not, ◌&&◌, ◌||◌, List, [], ◌∷◌, length, map, Option, Some, None, refl, sym, ap, ◌∙◌, subst, arith}
+-- By itself a process runs the same in two configurations of which it sees the same but the period, tick by tick of a window.
+use Rattle.std.proofs.Common.{ℕ, zero, suc, ◌≡◌, ◌+◌, ◌-◌, ◌*◌, ◌%◌, ◌<◌, ◌≤◌, ◌⊎◌, inl, inr, Bool, true, false, cond, not, ◌&&◌, ◌||◌, List, [], ◌∷◌, length, map, Option, Some, None, refl, sym, ap, ◌∙◌, subst, arith}
 use Rattle.std.specs.Prelude.{replicate}
 use Rattle.std.proofs.lemmas.Bool.{cases_Bool, cases_lt}
 use Rattle.std.proofs.Math.Nat.{mod-eq_of_lt}
 use Rattle.dk_config.specs.Configuration.{Configuration}
+use Rattle.dk_config.specs.Checked.{IsChecked, IsAccepted}
 use Rattle.dk_config.specs.Windows.{period, main_level, budget}
 use Rattle.dk_trace.specs.declared.Phase.{Phase}
 use Rattle.dk_trace.specs.declared.Choice.{Choice}
@@ -21,13 +22,16 @@ use Rattle.dk_cpu.specs.declared.kernel_call.KernelCall.{KernelCall}
 use Rattle.dk_cpu.specs.Machine.{Tick, body_tick}
 use Rattle.dk_cpu.specs.State.{zero_context}
 use Rattle.dk_world.specs.Run.{Image, World, Turn, quiet_entry, quiet_step, thread_turn, tick_in, step_of}
+use Rattle.dk_world.proofs.Limits.{budget_period}
 use Rattle.dk_world.proofs.Refused.{update-same}
 use Rattle.dk_alone.specs.Alone.{alone, choice_alone, is_of_process, entries_of, KeepsToItself}
 use Rattle.dk_alone.proofs.Own.{Own, own, booked, after, fresh, IsPlainEvent, Plain, filter-in, filter-out, booked-after, own-within, own-begins}
 use Rattle.dk_alone.proofs.Steps.{alone-works, alone-rests}
 use Rattle.dk_alone.proofs.Ties.{alone-long}
-use Rattle.dk_impact.specs.Impact.{SeesTheSame, renamed, IsSameAcross}
+use Rattle.dk_alone.proofs.Again.{on}
+use Rattle.dk_impact.specs.Impact.{SeesTheSameButPeriod, renamed, IsSameAcross}
 use Rattle.dk_impact.proofs.Seen.{Users, users-next, IsOwnEvent, Whose, SameLevels, Turns, turns}
+use Rattle.dk_impact.proofs.Spent.{moves-on, start_of, start-is, start-begins, finish}
 use Rattle.dk_impact.proofs.Whose.{whose-in, whose-out, whose-idle, whose-body, time-number, create-number, not-done}
 
 -- what is said of the process is the same but for its number
@@ -106,7 +110,7 @@ turn-if : (P : Turn → Type 0) (b : Bool) (x y : Turn) → P x → P y → P (c
 turn-if P true x y first second = first
 turn-if P false x y first second = second
 
-module _ (c c' : Configuration) (p p' : ℕ) (program : List ℕ) (sees : SeesTheSame c p c' p' program)
+module _ (c c' : Configuration) (p p' : ℕ) (program : List ℕ) (sees : SeesTheSameButPeriod c p c' p' program)
     (positive : 0 < period c (main_level c p)) (positive' : 0 < period c' (main_level c' p'))
     (keeps : KeepsToItself c p program) (keeps' : KeepsToItself c' p' program) where
   fresh-alike : (o : Own) (o' : Own) → Alike p' o o' → Alike p' (fresh c p positive o) (fresh c' p' positive' o')
@@ -118,62 +122,92 @@ module _ (c c' : Configuration) (p p' : ℕ) (program : List ℕ) (sees : SeesTh
         ended = alike.ended;
       }
 
-  -- the same entry, and maybe a new window
-  own-alike : (n : ℕ) (e e' : Entry) (past past' : List Entry) → length past ≡ n → length past' ≡ n → Whose p p' e.label e'.label → renamed p' e ≡ e'
-      → Plain (entries_of p (e ∷ past)) → Plain (entries_of p' (e' ∷ past')) → Alike p' (own c p past) (own c' p' past')
-      → Alike p' (own c p (e ∷ past)) (own c' p' (e' ∷ past'))
-  own-alike n e e' past past' long long' whose names plain plain' alike =
-      let after_both : Alike p' (booked c p e past) (booked c' p' e' past') =
+  -- after a tick both windows end, or neither does
+  abbrev InStep : ℕ → ℕ → Type 0
+  InStep n n' =
+      ((suc n % period c (main_level c p) ≡ 0) × (suc n' % period c' (main_level c' p') ≡ 0))
+      ⊎ ((suc n % period c (main_level c p) ≡ suc (n % period c (main_level c p)))
+      × (suc n' % period c' (main_level c' p') ≡ suc (n' % period c' (main_level c' p'))))
+
+  -- the same entry
+  booked-alike : (e e' : Entry) (past past' : List Entry) → Whose p p' e.label e'.label → renamed p' e ≡ e' → Plain (entries_of p (e ∷ past))
+      → Plain (entries_of p' (e' ∷ past')) → Alike p' (own c p past) (own c' p' past') → Alike p' (booked c p e past) (booked c' p' e' past')
+  booked-alike e e' past past' whose names plain plain' alike =
       subst (λ o. Alike p' o (booked c' p' e' past')) (sym (booked-after c p positive e past plain))
       (subst (λ o. Alike p' (after p e (own c p past)) o) (sym (booked-after c' p' positive' e' past' plain'))
-      (after-alike p p' e e' (own c p past) (own c' p' past') whose names alike)) in
-      elim (mod-next n (period c (main_level c p)) positive) [
-        | inl end ↦
-            let begins : suc (length past) % period c (main_level c p) ≡ 0 = ap (λ k. suc k % period c (main_level c p)) long ∙ end.0 in
-            let begins' : suc (length past') % period c' (main_level c' p') ≡ 0 =
-            ap (λ k. suc k % period c' (main_level c' p')) long' ∙ ap (λ k. suc n % k) (sym sees.period) ∙ end.0 in
+      (after-alike p p' e e' (own c p past) (own c' p' past') whose names alike))
+
+  -- the same entry, and maybe a new window
+  own-alike : (n n' : ℕ) (e e' : Entry) (past past' : List Entry) → length past ≡ n → length past' ≡ n' → InStep n n' → Whose p p' e.label e'.label → renamed p' e ≡ e'
+      → Plain (entries_of p (e ∷ past)) → Plain (entries_of p' (e' ∷ past')) → Alike p' (own c p past) (own c' p' past')
+      → Alike p' (own c p (e ∷ past)) (own c' p' (e' ∷ past'))
+  own-alike n n' e e' past past' long long' step whose names plain plain' alike =
+      let after_both = booked-alike e e' past past' whose names plain plain' alike in
+      elim step [
+        | inl ends ↦
+            let begins : suc (length past) % period c (main_level c p) ≡ 0 = ap (λ k. suc k % period c (main_level c p)) long ∙ ends.0 in
+            let begins' : suc (length past') % period c' (main_level c' p') ≡ 0 = ap (λ k. suc k % period c' (main_level c' p')) long' ∙ ends.1 in
             subst (λ o. Alike p' o (own c' p' (e' ∷ past'))) (sym (own-begins c p positive (e ∷ past) (booked c p e past) plain begins refl refl refl))
             (subst (λ o. Alike p' (fresh c p positive (booked c p e past)) o) (sym (own-begins c' p' positive' (e' ∷ past') (booked c' p' e' past') plain' begins' refl refl refl))
             (fresh-alike (booked c p e past) (booked c' p' e' past') after_both))
         | inr on ↦
             let within : suc (length past) % period c (main_level c p) ≡ suc (length past % period c (main_level c p)) =
-            subst (λ k. suc k % period c (main_level c p) ≡ suc (k % period c (main_level c p))) (sym long) on in
-            let on' : suc n % period c' (main_level c' p') ≡ suc (n % period c' (main_level c' p')) = subst (λ k. suc n % k ≡ suc (n % k)) sees.period on in
+            subst (λ k. suc k % period c (main_level c p) ≡ suc (k % period c (main_level c p))) (sym long) on.0 in
             let within' : suc (length past') % period c' (main_level c' p') ≡ suc (length past' % period c' (main_level c' p')) =
-            subst (λ k. suc k % period c' (main_level c' p') ≡ suc (k % period c' (main_level c' p'))) (sym long') on' in
+            subst (λ k. suc k % period c' (main_level c' p') ≡ suc (k % period c' (main_level c' p'))) (sym long') on.1 in
             subst (λ o. Alike p' o (own c' p' (e' ∷ past'))) (sym (own-within c p positive e past within))
             (subst (λ o. Alike p' (booked c p e past) o) (sym (own-within c' p' positive' e' past' within')) after_both)
       ]
 
-  -- the two worlds after n ticks
-  record At (n : ℕ) : Type 0 where
-    alike : Alike p' (own c p (alone c p program n).past) (own c' p' (alone c' p' program n).past)
-    image : (alone c p program n).images p ≡ (alone c' p' program n).images p'
+  -- the one world after n ticks and the other after n'
+  record At (n n' : ℕ) : Type 0 where
+    alike : Alike p' (own c p (alone c p program n).past) (own c' p' (alone c' p' program n').past)
+    image : (alone c p program n).images p ≡ (alone c' p' program n').images p'
     code : ((alone c p program n).images p).code ≡ program
     users : Users c p (held_by (main_id p) (alone c p program n).past)
     plain : Plain (entries_of p (alone c p program n).past)
-    plain' : Plain (entries_of p' (alone c' p' program n).past)
+    plain' : Plain (entries_of p' (alone c' p' program n').past)
 
-  at-next : (n : ℕ) → At n → Ticks c p p' (alone c p program n) (alone c' p' program n) (alone c p program (suc n)) (alone c' p' program (suc n)) → At (suc n)
-  at-next n at t =
+  abbrev Next : ℕ → ℕ → Type 0
+  Next n n' = Ticks c p p' (alone c p program n) (alone c' p' program n') (alone c p program (suc n)) (alone c' p' program (suc n'))
+
+  -- what the ticks leave, before the windows that they end give way to the next
+  record Left (n n' : ℕ) (e e' : Entry) : Type 0 where
+    alike : Alike p' (booked c p e (alone c p program n).past) (booked c' p' e' (alone c' p' program n').past)
+    users : Users c p (held_by (main_id p) (e ∷ (alone c p program n).past))
+    plain : Plain (entries_of p (e ∷ (alone c p program n).past))
+    plain' : Plain (entries_of p' (e' ∷ (alone c' p' program n').past))
+
+  left-by : (n n' : ℕ) → At n n' → (t : Next n n') → Left n n' t.e t.e'
+  left-by n n' at t =
       let w = alone c p program n in
-      let v = alone c' p' program n in
+      let v = alone c' p' program n' in
       let event : IsPlainEvent t.e.event = own-plain c p t.e.event t.event in
       let event' : IsPlainEvent t.e'.event = subst (λ (i : Entry). IsPlainEvent i.event) t.renames event in
       let plain = plain-next p t.e w.past event at.plain in
       let plain' = plain-next p' t.e' v.past event' at.plain' in
-      let booked_users : Users c p (held_by (main_id p) (t.e ∷ w.past)) =
-      subst (Users c p) (sym (ap (λ (o : Own). o.held) (booked-after c p positive t.e w.past plain)))
-      (users-next c p (does is_end (main_id p) t.e) (is_of (main_id p) t.e) t.e.event (held_by (main_id p) w.past) t.event at.users) in
-      let alike = own-alike n t.e t.e' w.past v.past (alone-long c p program n) (alone-long c' p' program n) t.whose t.renames plain plain' at.alike in
       record {
-        alike = subst (λ es. Alike p' (own c p es) (own c' p' (alone c' p' program (suc n)).past)) (sym t.past)
+        alike = booked-alike t.e t.e' w.past v.past t.whose t.renames plain plain' at.alike;
+        users = subst (Users c p) (sym (ap (λ (o : Own). o.held) (booked-after c p positive t.e w.past plain)))
+            (users-next c p (does is_end (main_id p) t.e) (is_of (main_id p) t.e) t.e.event (held_by (main_id p) w.past) t.event at.users);
+        plain = plain;
+        plain' = plain';
+      }
+
+  at-next : (n n' : ℕ) → InStep n n' → At n n' → Next n n' → At (suc n) (suc n')
+  at-next n n' step at t =
+      let w = alone c p program n in
+      let v = alone c' p' program n' in
+      let left = left-by n n' at t in
+      let alike = own-alike n n' t.e t.e' w.past v.past (alone-long c p program n) (alone-long c' p' program n') step t.whose t.renames left.plain left.plain' at.alike in
+      record {
+        alike = subst (λ es. Alike p' (own c p es) (own c' p' (alone c' p' program (suc n')).past)) (sym t.past)
             (subst (λ es. Alike p' (own c p (t.e ∷ w.past)) (own c' p' es)) (sym t.past') alike);
         image = t.image;
         code = t.code ∙ at.code;
-        users = subst (λ es. Users c p (held_by (main_id p) es)) (sym t.past) booked_users;
-        plain = subst (λ es. Plain (entries_of p es)) (sym t.past) plain;
-        plain' = subst (λ es. Plain (entries_of p' es)) (sym t.past') plain';
+        users = subst (λ es. Users c p (held_by (main_id p) es)) (sym t.past) left.users;
+        plain = subst (λ es. Plain (entries_of p es)) (sym t.past) left.plain;
+        plain' = subst (λ es. Plain (entries_of p' es)) (sym t.past') left.plain';
       }
 
   levels-by : (image : Image) → image.code ≡ program → (tick_in c image 0).outcome ≡ Outcome.CallDone KernelCall.Create → SameLevels c p c' p'
@@ -186,16 +220,16 @@ module _ (c c' : Configuration) (p p' : ℕ) (program : List ℕ) (sees : SeesTh
   turn-code : (past : List Entry) (choice : Choice) (image : Image) (tick : Tick) → (thread_turn c past choice (main_id p) image tick).image.code ≡ image.code
   turn-code past choice image tick = turn-if (λ t. t.image.code ≡ image.code) _ _ _ refl refl
 
-  works : (n : ℕ) (at : At n) (next : Phase)
-      → Ticks c p p' (alone c p program n) (alone c' p' program n)
-      (step_of c (alone c p program n) (Choice.Budget (main_id p) next)) (step_of c' (alone c' p' program n) (Choice.Budget (main_id p') next))
-  works n at Phase.In =
+  works : (n n' : ℕ) (at : At n n') (next : Phase)
+      → Ticks c p p' (alone c p program n) (alone c' p' program n')
+      (step_of c (alone c p program n) (Choice.Budget (main_id p) next)) (step_of c' (alone c' p' program n') (Choice.Budget (main_id p') next))
+  works n n' at Phase.In =
       record { e = quiet_entry (Label.In (main_id p)); e' = quiet_entry (Label.In (main_id p')); past = refl; past' = refl; whose = whose-in p p'; renames = refl; event = tt; image = at.image; code = refl }
-  works n at Phase.Out =
+  works n n' at Phase.Out =
       record { e = quiet_entry (Label.Out (main_id p)); e' = quiet_entry (Label.Out (main_id p')); past = refl; past' = refl; whose = whose-out p p'; renames = refl; event = tt; image = at.image; code = refl }
-  works n at Phase.Body =
+  works n n' at Phase.Body =
       let w = alone c p program n in
-      let v = alone c' p' program n in
+      let v = alone c' p' program n' in
       let choice = Choice.Budget (main_id p) Phase.Body in
       let choice' = Choice.Budget (main_id p') Phase.Body in
       let image = w.images p in
@@ -222,15 +256,15 @@ module _ (c c' : Configuration) (p p' : ℕ) (program : List ℕ) (sees : SeesTh
         code = ap (λ (i : Image). i.code) (update-same p one.image w.images) ∙ turn-code w.past choice image tick;
       }
 
-  rests : (n : ℕ) (at : At n)
-      → Ticks c p p' (alone c p program n) (alone c' p' program n) (quiet_step Choice.Idle (alone c p program n)) (quiet_step Choice.Idle (alone c' p' program n))
-  rests n at = record { e = quiet_entry Label.Idle; e' = quiet_entry Label.Idle; past = refl; past' = refl; whose = whose-idle p p'; renames = refl; event = tt; image = at.image; code = refl }
+  rests : (n n' : ℕ) (at : At n n')
+      → Ticks c p p' (alone c p program n) (alone c' p' program n') (quiet_step Choice.Idle (alone c p program n)) (quiet_step Choice.Idle (alone c' p' program n'))
+  rests n n' at = record { e = quiet_entry Label.Idle; e' = quiet_entry Label.Idle; past = refl; past' = refl; whose = whose-idle p p'; renames = refl; event = tt; image = at.image; code = refl }
 
   -- what is left decides who has the next tick
-  next-tick : (n : ℕ) → At n → Ticks c p p' (alone c p program n) (alone c' p' program n) (alone c p program (suc n)) (alone c' p' program (suc n))
-  next-tick n at =
+  next-tick : (n n' : ℕ) → At n n' → Next n n'
+  next-tick n n' at =
       let w = alone c p program n in
-      let v = alone c' p' program n in
+      let v = alone c' p' program n' in
       let job = (own c p w.past).job in
       let job' = (own c' p' v.past).job in
       let left : rem c.costs.switch job ≡ rem c'.costs.switch job' = ap (λ k. rem k job) sees.switch ∙ ap (rem c'.costs.switch) at.alike.job in
@@ -243,14 +277,14 @@ module _ (c c' : Configuration) (p p' : ℕ) (program : List ℕ) (sees : SeesTh
             alone-works c' p' v.past some' ∙ ap (Choice.Budget (main_id p')) (sym phases) in
             subst (λ choice. Ticks c p p' w v (step_of c w choice) (step_of c' v (choice_alone c' p' v.past))) (sym mine)
             (subst (λ choice. Ticks c p p' w v (step_of c w (Choice.Budget (main_id p) (phase c.costs.switch job))) (step_of c' v choice)) (sym mine')
-            (works n at (phase c.costs.switch job)))
+            (works n n' at (phase c.costs.switch job)))
         | inr none ↦
             let over : rem c.costs.switch job ≡ 0 = omega arith in
             let over' : rem c'.costs.switch job' ≡ 0 = sym left ∙ over in
             let mine : choice_alone c p w.past ≡ Choice.Idle = alone-rests c p w.past over in
             let mine' : choice_alone c' p' v.past ≡ Choice.Idle = alone-rests c' p' v.past over' in
             subst (λ choice. Ticks c p p' w v (step_of c w choice) (step_of c' v (choice_alone c' p' v.past))) (sym mine)
-            (subst (λ choice. Ticks c p p' w v (quiet_step Choice.Idle w) (step_of c' v choice)) (sym mine') (rests n at))
+            (subst (λ choice. Ticks c p p' w v (quiet_step Choice.Idle w) (step_of c' v choice)) (sym mine') (rests n n' at))
       ]
 
   -- before the first tick all windows begin
@@ -265,8 +299,8 @@ module _ (c c' : Configuration) (p p' : ℕ) (program : List ℕ) (sees : SeesTh
       (subst (λ o. Alike p' (fresh c p positive none) o) (sym (own-begins c' p' positive' [] none tt begins' refl refl refl))
       (fresh-alike none none (record { entries = refl; job = refl; held = refl; ended = refl })))
 
-  at : (n : ℕ) → At n
-  at zero =
+  first : At 0 0
+  first =
       record {
         alike = first-alike;
         image = ap (λ k. (let i : Image = record { code = program; memory = replicate k 0; contexts = λ serial. zero_context } in i)) sees.memory;
@@ -275,13 +309,93 @@ module _ (c c' : Configuration) (p p' : ℕ) (program : List ℕ) (sees : SeesTh
         plain = tt;
         plain' = tt;
       }
-  at (suc n) = at-next n (at n) (next-tick n (at n))
 
-  pub across : (n : ℕ) → IsSameAcross p p' (alone c p program n) (alone c' p' program n)
-  across n =
-      let here = at n in
-      record {
-        entries = here.alike.entries;
-        memory = ap (λ (i : Image). i.memory) here.image;
-        contexts = λ serial. ap (λ (i : Image). i.contexts serial) here.image;
-      }
+  same-there : (n n' : ℕ) → At n n' → IsSameAcross p p' (alone c p program n) (alone c' p' program n')
+  same-there n n' at = record {
+    entries = at.alike.entries;
+    memory = ap (λ (i : Image). i.memory) at.image;
+    contexts = λ serial. ap (λ (i : Image). i.contexts serial) at.image;
+  }
+
+  -- in windows of one length each tick of the one is that tick of the other
+  module _ (period_is : period c (main_level c p) ≡ period c' (main_level c' p')) where
+    in-step : (n : ℕ) → InStep n n
+    in-step n =
+        elim (mod-next n (period c (main_level c p)) positive) [
+          | inl end ↦ inl (end.0, ap (λ k. suc n % k) (sym period_is) ∙ end.0)
+          | inr on ↦ inr (on, subst (λ k. suc n % k ≡ suc (n % k)) period_is on)
+        ]
+
+    at : (n : ℕ) → At n n
+    at zero = first
+    at (suc n) = at-next n n (in-step n) (at n) (next-tick n n (at n))
+
+    pub across : (n : ℕ) → IsSameAcross p p' (alone c p program n) (alone c' p' program n)
+    across n = same-there n n (at n)
+
+  -- in windows of two lengths the process does the same while its budget lasts, and then rests
+  module _ (plains : (n : ℕ) → Plain (entries_of p (alone c p program n).past)) (plains' : (n : ℕ) → Plain (entries_of p' (alone c' p' program n).past))
+      (room : 2 * c.costs.switch + 1 ≤ budget c p) (room' : 2 * c'.costs.switch + 1 ≤ budget c' p')
+      (fits : budget c p ≤ period c (main_level c p)) (fits' : budget c' p' ≤ period c' (main_level c' p'))
+      (last : ℕ) (whole : suc last ≡ budget c p) (whole' : suc last ≡ budget c' p') where
+    -- m and m' are starts of windows
+    while-it-lasts : (m m' : ℕ) → m % period c (main_level c p) ≡ 0 → m' % period c' (main_level c' p') ≡ 0 → At m m' → (j : ℕ) → j ≤ last → At (on j m) (on j m')
+    while-it-lasts m m' begins begins' at zero within = at
+    while-it-lasts m m' begins begins' at (suc j) within =
+        let before = while-it-lasts m m' begins begins' at j (omega arith) in
+        at-next (on j m) (on j m')
+        (inr (moves-on (period c (main_level c p)) m j begins (omega (arith, within, whole, fits)), moves-on (period c' (main_level c' p')) m' j begins' (omega (arith, within, whole', fits'))))
+        before (next-tick (on j m) (on j m') before)
+
+    window : (m m' : ℕ) → m % period c (main_level c p) ≡ 0 → m' % period c' (main_level c' p') ≡ 0 → At m m'
+        → At (on (period c (main_level c p)) m) (on (period c' (main_level c' p')) m')
+    window m m' begins begins' at =
+        let before = while-it-lasts m m' begins begins' at last (omega arith) in
+        let t = next-tick (on last m) (on last m') before in
+        let left = left-by (on last m) (on last m') before t in
+        let end = on (period c (main_level c p)) m in
+        let end' = on (period c' (main_level c' p')) m' in
+        let one = finish c p program positive plains room fits m last t.e begins whole t.past in
+        let other = finish c' p' program positive' plains' room' fits' m' last t.e' begins' whole' t.past' in
+        record {
+          alike = subst (λ o. Alike p' o (own c' p' (alone c' p' program end').past)) (sym one.0)
+              (subst (λ o. Alike p' (fresh c p positive (booked c p t.e (alone c p program (on last m)).past)) o) (sym other.0)
+              (fresh-alike (booked c p t.e (alone c p program (on last m)).past) (booked c' p' t.e' (alone c' p' program (on last m')).past) left.alike));
+          image = one.1 ∙ t.image ∙ sym other.1;
+          code = ap (λ (i : Image). i.code) one.1 ∙ t.code ∙ before.code;
+          users = subst (λ (o : Own). Users c p o.held) (sym one.0) left.users;
+          plain = plains end;
+          plain' = plains' end';
+        }
+
+    windows : (k : ℕ) → At (start_of (period c (main_level c p)) k) (start_of (period c' (main_level c' p')) k)
+    windows zero = first
+    windows (suc k) =
+        window (start_of (period c (main_level c p)) k) (start_of (period c' (main_level c' p')) k)
+        (start-begins (period c (main_level c p)) k positive) (start-begins (period c' (main_level c' p')) k positive') (windows k)
+
+    pub across-windows : (k : ℕ) → IsSameAcross p p' (alone c p program (k * period c (main_level c p))) (alone c' p' program (k * period c' (main_level c' p')))
+    across-windows k =
+        subst (λ n. IsSameAcross p p' (alone c p program n) (alone c' p' program (k * period c' (main_level c' p')))) (start-is (period c (main_level c p)) k)
+        (subst (λ n. IsSameAcross p p' (alone c p program (start_of (period c (main_level c p)) k)) (alone c' p' program n)) (start-is (period c' (main_level c' p')) k)
+        (same-there (start_of (period c (main_level c p)) k) (start_of (period c' (main_level c' p')) k) (windows k)))
+
+-- by itself a process that keeps to itself makes no child and never asks for slack
+plain-alone : (c : Configuration) (p : ℕ) (program : List ℕ) → 0 < period c (main_level c p) → KeepsToItself c p program → (n : ℕ) → Plain (entries_of p (alone c p program n).past)
+plain-alone c p program positive keeps n =
+    let sees : SeesTheSameButPeriod c p c p program =
+    record { switch = refl; call = refl; budget = refl; memory = refl; mutexes = λ m. refl; holds = λ m is. refl; levels = inl (refl, refl) } in
+    (at c c p p program sees positive positive keeps keeps refl n).plain
+
+pub any-period : (c c' : Configuration) (p p' : ℕ) (program : List ℕ) → IsChecked c → IsAccepted c → IsChecked c' → IsAccepted c' → KeepsToItself c p program → KeepsToItself c' p' program
+    → SeesTheSameButPeriod c p c' p' program → (k : ℕ)
+    → IsSameAcross p p' (alone c p program (k * period c (main_level c p))) (alone c' p' program (k * period c' (main_level c' p')))
+any-period c c' p p' program checked accepted checked' accepted' keeps keeps' sees k =
+    let positive = checked.positive (main_level c p) (checked.levels p keeps.known) in
+    let positive' = checked'.positive (main_level c' p') (checked'.levels p' keeps'.known) in
+    let room = checked.budgets p keeps.known in
+    let last = budget c p - 1 in
+    let whole : suc last ≡ budget c p = omega (arith, room) in
+    across-windows c c' p p' program sees positive positive' keeps keeps' (plain-alone c p program positive keeps) (plain-alone c' p' program positive' keeps')
+    room (checked'.budgets p' keeps'.known) (budget_period c p checked accepted keeps.known) (budget_period c' p' checked' accepted' keeps'.known)
+    last whole (whole ∙ sees.budget) k

@@ -1,5 +1,6 @@
 pub mod Seen
 pub mod Whose
+pub mod Spent
 pub mod Across
 pub mod Joined
 pub mod Windows

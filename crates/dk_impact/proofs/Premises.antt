@@ -1,6 +1,7 @@
 -- Without any one of the things that a process must see unchanged the law is false: runs of one process in two configurations that differ in it alone.
-use Rattle.std.proofs.Common.{ℕ, zero, suc, ◌≡◌, ◌+◌, ◌*◌, ◌%◌, ◌≤◌, inl, ◌⊎◌, true, false, List, [], ◌∷◌, length, map, Option, Some, None, refl, ap, sym, ◌∙◌, arith}
+use Rattle.std.proofs.Common.{ℕ, zero, suc, ◌≡◌, ◌+◌, ◌*◌, ◌/◌, ◌%◌, ◌≤◌, inl, ◌⊎◌, true, false, List, [], ◌∷◌, length, map, Option, Some, None, refl, ap, sym, ◌∙◌, subst, arith}
 use Rattle.std.specs.Prelude.{slice_index_or}
+use Rattle.std.proofs.Math.Nat.{div-add-mod}
 use Rattle.dk_config.specs.Configuration.{Configuration}
 use Rattle.dk_config.specs.Mutex.{Mutex}
 use Rattle.dk_config.specs.declared.rows.LevelRow.{LevelRow}
@@ -16,9 +17,9 @@ use Rattle.dk_trace.specs.declared.Entry.{Entry}
 use Rattle.dk_trace.specs.Refusals.{number}
 use Rattle.dk_world.specs.Run.{world, trace}
 use Rattle.dk_bound.proofs.Accepted.{accepted}
-use Rattle.dk_alone.specs.Alone.{entries_of, ReadsNoTick, KeepsToItself}
+use Rattle.dk_alone.specs.Alone.{alone, entries_of, ReadsNoTick, KeepsToItself}
 use Rattle.dk_alone.proofs.Premises.{program, call_of, earlier-call}
-use Rattle.dk_impact.specs.Impact.{MakesNoThread, renamed, IsSameAcross}
+use Rattle.dk_impact.specs.Impact.{MakesNoThread, SeesTheSameButPeriod, renamed, IsSameAcross}
 use Rattle.dk_impact.specs.Laws.{ChangesOfOthersHaveNoImpact}
 
 -- one process, with a level for each of these periods, at the last of them
@@ -64,6 +65,10 @@ holding = frame 0 1 (at_period 10) 0 5 0 (held_for 3)
 abbrev deeper : Configuration
 deeper = frame 0 1 (record { period = 5; release = 0 } ∷ at_period 10) 1 5 0 []
 
+-- its budget is more than its window
+abbrev crowded : Configuration
+crowded = frame 0 1 (at_period 4) 0 5 0 []
+
 abbrev Passes : Configuration → Type 0
 Passes c = first_broken (all_tests c) ≡ None
 
@@ -102,6 +107,10 @@ holding-passes = refl
 deeper-passes : Passes deeper
 unfolding all_tests version_tests count_tests range_tests period_tests name_tests again_tests level_tests budget_tests user_tests slowest_tests
 deeper-passes = refl
+
+crowded-passes : Passes crowded
+unfolding all_tests version_tests count_tests range_tests period_tests name_tests again_tests level_tests budget_tests user_tests slowest_tests
+crowded-passes = refl
 
 -- shows a register, for ever
 abbrev putter : List ℕ
@@ -193,7 +202,10 @@ whole : ChangesOfOthersHaveNoImpact
     → LawWith (λ c p c' p' program. Levels c p c' p' program × all Switch Call Period Budget Memory Mutexes Holds c p c' p' program)
 whole law c c' programs others p p' n passes fits passes' fits' keeps keeps' agree met begins =
     law c c' programs others p p' n passes fits passes' fits' keeps keeps' agree
-    (record { switch = met.1.0; call = met.1.1; period = met.1.2; budget = met.1.3; memory = met.1.4; mutexes = met.1.5; holds = met.1.6; levels = met.0 })
+    (record {
+      but_period = record { switch = met.1.0; call = met.1.1; budget = met.1.3; memory = met.1.4; mutexes = met.1.5; holds = met.1.6; levels = met.0 };
+      period = met.1.2;
+    })
     begins
 
 -- how many entries have an event
@@ -270,3 +282,38 @@ levels-are-needed =
     refuted (all Switch Call Period Budget Memory Mutexes Holds) plain deeper creator 10 refusals 12 6 plain-passes deeper-passes (accepted plain refl) (accepted deeper refl)
     (record { known = omega arith; threads = refl; slack = refl; clock = creator-clock }) (record { known = omega arith; threads = refl; slack = refl; clock = creator-clock })
     (refl, refl, refl, refl, refl, λ m. refl, λ m is. refl) refl refl refl (λ e. absurd (omega arith))
+
+-- At any period the process by itself is the same only where its budget fits both windows, as it does where both are accepted.
+pub acceptance-is-needed
+    : ((c c' : Configuration) (code : List ℕ) (p p' k : ℕ) → IsChecked c → IsAccepted c → IsChecked c' → KeepsToItself c p code → KeepsToItself c' p' code
+    → SeesTheSameButPeriod c p c' p' code
+    → IsSameAcross p p' (alone c p code (k * period c (main_level c p))) (alone c' p' code (k * period c' (main_level c' p'))))
+    → ⊥
+acceptance-is-needed law =
+    let same = law plain crowded putter 0 0 1 (checked plain plain-passes) (accepted plain refl) (checked crowded crowded-passes)
+    (record { known = omega arith; threads = refl; slack = refl; clock = putter-clock }) (record { known = omega arith; threads = refl; slack = refl; clock = putter-clock })
+    (record { switch = refl; call = refl; budget = refl; memory = refl; mutexes = λ m. refl; holds = λ m is. refl; levels = inl (refl, refl) }) in
+    differ _ _ refl refl (ap length same.entries)
+  where
+    differ : (n m : ℕ) → n ≡ 5 → m ≡ 4 → n ≡ m → ⊥
+    differ n m five four is = absurd (omega (arith, five, four, is))
+
+-- the law at any period, with these premises in place of what the process sees
+abbrev AnyPeriodWith : Premise → Type 0
+AnyPeriodWith Premises =
+    (c c' : Configuration) (programs others : List (List ℕ)) (p p' k : ℕ) → IsChecked c → IsAccepted c → IsChecked c' → IsAccepted c'
+    → KeepsToItself c p (slice_index_or programs p []) → KeepsToItself c' p' (slice_index_or others p' [])
+    → slice_index_or programs p [] ≡ slice_index_or others p' [] → Premises c p c' p' (slice_index_or programs p [])
+    → IsSameAcross p p' (world c programs (k * period c (main_level c p))) (world c' others (k * period c' (main_level c' p')))
+
+-- So what the law above needs beside the period this one needs too: with one period it is that law.
+pub of-one-period : (Premises : Premise) → AnyPeriodWith Premises → LawWith (λ c p c' p' code. Period c p c' p' code × Premises c p c' p' code)
+of-one-period Premises law c c' programs others p p' n passes fits passes' fits' keeps keeps' agree met begins =
+    let P = period c (main_level c p) in
+    let k = n / P in
+    let parts : P * k + n % P ≡ n = div-add-mod n P in
+    let turned : P * k ≡ k * P = grind arith in
+    let is : k * P ≡ n = omega (arith, parts, turned, begins) in
+    subst (λ m. IsSameAcross p p' (world c programs m) (world c' others m)) is
+    (subst (λ Q. IsSameAcross p p' (world c programs (k * P)) (world c' others (k * Q))) (sym met.0)
+    (law c c' programs others p p' k passes fits passes' fits' keeps keeps' agree met.1))

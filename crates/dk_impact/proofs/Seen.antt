@@ -31,7 +31,7 @@ use Rattle.dk_alone.specs.Alone.{is_of_process, entries_of}
 use Rattle.dk_world.proofs.Audits.{held-quiet}
 use Rattle.dk_alone.proofs.Own.{own, Plain, family-alone}
 use Rattle.dk_alone.proofs.Same.{row-at}
-use Rattle.dk_impact.specs.Impact.{SeesTheSame, renamed_label, renamed}
+use Rattle.dk_impact.specs.Impact.{SeesTheSameButPeriod, renamed_label, renamed}
 
 -- each mutex that is held is one that the process may lock
 abbrev pub Users : Configuration → ℕ → List Hold → Type 0
@@ -206,7 +206,7 @@ abbrev pub SameLevels : Configuration → ℕ → Configuration → ℕ → Type
 SameLevels c p c' p' = (main_level c p ≡ main_level c' p') × (max_level c p ≡ max_level c' p')
 
 -- two pasts of two configurations that say the same of it
-module _ (c c' : Configuration) (p p' : ℕ) (program : List ℕ) (sees : SeesTheSame c p c' p' program)
+module _ (c c' : Configuration) (p p' : ℕ) (program : List ℕ) (sees : SeesTheSameButPeriod c p c' p' program)
     (few : slots c p ≡ 0) (few' : slots c' p' ≡ 0) (right : may_ask c p ≡ false) (right' : may_ask c' p' ≡ false)
     (one other : List Entry) (jobs : (own c p one).job ≡ (own c' p' other).job)
     (held : held_by (main_id p) one ≡ held_by (main_id p') other) (users : Users c p (held_by (main_id p) one))
@@ -311,7 +311,7 @@ turns-by c p p' false label label' image tick given whose mine =
     record { whose = whose; renames = ap (λ l. (let e : Entry = record { label = l; event = given.event } in e)) whose.renames; image = refl; event = mine }
 
 -- the body's turn is the same over both pasts but for the process
-pub turns : (c c' : Configuration) (p p' : ℕ) (program : List ℕ) (sees : SeesTheSame c p c' p' program)
+pub turns : (c c' : Configuration) (p p' : ℕ) (program : List ℕ) (sees : SeesTheSameButPeriod c p c' p' program)
     → slots c p ≡ 0 → slots c' p' ≡ 0 → may_ask c p ≡ false → may_ask c' p' ≡ false
     → (one other : List Entry) → (own c p one).job ≡ (own c' p' other).job → held_by (main_id p) one ≡ held_by (main_id p') other
     → Users c p (held_by (main_id p) one) → Plain (entries_of p one) → Plain (entries_of p' other)

@@ -1,5 +1,5 @@
 -- What the first change tells of what a process sees.
-use Rattle.std.proofs.Common.{ℕ, zero, suc, ◌≡◌, ◌+◌, ◌<◌, ◌≤◌, inl, inr, Bool, true, false, cond, length, Option, Some, None, refl, sym, ap, ◌∙◌, subst, arith}
+use Rattle.std.proofs.Common.{ℕ, zero, suc, ◌≡◌, ◌+◌, ◌<◌, ◌≤◌, ◌⊎◌, inl, inr, Bool, true, false, cond, List, length, Option, Some, None, refl, sym, ap, ◌∙◌, subst, arith}
 use Rattle.std.specs.Prelude.{slice_get}
 use Rattle.std.specs.Option.{option_map_or, option_or}
 use Rattle.std.proofs.lemmas.Bool.{cases_lt}
@@ -13,6 +13,7 @@ use Rattle.dk_config.specs.Mutex.{Mutex}
 use Rattle.dk_config.specs.Windows.{period, main_level, max_level, budget, memory, longest_hold}
 use Rattle.dk_config.specs.Certification.{is_user, uses}
 use Rattle.dk_impact.specs.declared.change.Change.{Change}
+use Rattle.dk_impact.specs.Impact.{MakesNoThread, SeesTheSame}
 use Rattle.dk_impact.specs.Changes.{differs, use_of, mutex_change, first_change, Tells}
 
 -- the numbers differ, or the search goes on
@@ -57,8 +58,8 @@ module _ (c : Configuration) (p : ℕ) (c' : Configuration) (p' : ℕ) (limits :
 
   use-at : (m : ℕ) (o : Option Change) → Use m (longest_hold c m) (longest_hold c' m) (is_user c m p) (is_user c' m p') o → (rest : Option Change) → (o ≡ None → T rest) → T (option_or o rest)
   use-at m None told rest on = on refl
-  use-at m (Some x) (hold is differ) rest on = λ program sees. differ (sees.holds m is)
-  use-at m (Some x) (user differ) rest on = λ program sees. differ (sees.mutexes m)
+  use-at m (Some x) (hold is differ) rest on = λ program sees. differ (sees.but_period.holds m is)
+  use-at m (Some x) (user differ) rest on = λ program sees. differ (sees.but_period.mutexes m)
 
   -- the mutexes from a number on
   search-from : (low n : ℕ) (rest : Option Change) → (((j : ℕ) → low ≤ j → j < low + n → f j ≡ None) → T rest) → T (option_or (first_of f (numbers low n)) rest)
@@ -103,42 +104,41 @@ module _ (c : Configuration) (p : ℕ) (c' : Configuration) (p' : ℕ) (limits :
   pub told : T (first_change c p c' p')
   told =
       subst T (sym (or-or (differs Change.Switch c.costs.switch c'.costs.switch) (differs Change.Call c.costs.call c'.costs.call) _))
-      (step T Change.Switch c.costs.switch c'.costs.switch _ (λ differ program sees. differ sees.switch) (λ switch.
-      step T Change.Call c.costs.call c'.costs.call _ (λ differ program sees. differ sees.call) (λ call.
+      (step T Change.Switch c.costs.switch c'.costs.switch _ (λ differ program sees. differ sees.but_period.switch) (λ switch.
+      step T Change.Call c.costs.call c'.costs.call _ (λ differ program sees. differ sees.but_period.call) (λ call.
       subst T (sym (or-or (differs Change.Period (period c (main_level c p)) (period c' (main_level c' p'))) _ _))
       (step T Change.Period (period c (main_level c p)) (period c' (main_level c' p')) _ (λ differ program sees. differ sees.period) (λ window.
       subst T (sym (or-or (differs Change.Budget (budget c p) (budget c' p')) (differs Change.Memory (memory c p) (memory c' p')) _))
-      (step T Change.Budget (budget c p) (budget c' p') _ (λ differ program sees. differ sees.budget) (λ part.
-      step T Change.Memory (memory c p) (memory c' p') _ (λ differ program sees. differ sees.memory) (λ words.
+      (step T Change.Budget (budget c p) (budget c' p') _ (λ differ program sees. differ sees.but_period.budget) (λ part.
+      step T Change.Memory (memory c p) (memory c' p') _ (λ differ program sees. differ sees.but_period.memory) (λ words.
       search-from 0 MAX_MUTEXES _ (λ none.
       let all = all-unchanged (λ j within. none j (omega arith) (omega (arith, within))) in
       step T Change.Levels (main_level c p) (main_level c' p') _ (λ differ. levels-differ switch call window part words all (λ levels. differ levels.0)) (λ own.
       last-step T Change.Levels (max_level c p) (max_level c' p') (λ differ. levels-differ switch call window part words all (λ levels. differ levels.1))
-      (λ slowest program. record {
-        switch = switch;
-        call = call;
-        period = window;
-        budget = part;
-        memory = words;
-        mutexes = λ m. (all m).0;
-        holds = λ m. (all m).1;
-        levels = inl (own, slowest);
-      })))))))))))
+      (λ slowest program. all-seen switch call window part words all program (inl (own, slowest)))))))))))))
     where
+      all-seen : c.costs.switch ≡ c'.costs.switch → c.costs.call ≡ c'.costs.call → period c (main_level c p) ≡ period c' (main_level c' p')
+          → budget c p ≡ budget c' p' → memory c p ≡ memory c' p'
+          → ((m : ℕ) → (is_user c m p ≡ is_user c' m p') × (is_user c m p ≡ true → longest_hold c m ≡ longest_hold c' m))
+          → (program : List ℕ) → ((main_level c p ≡ main_level c' p') × (max_level c p ≡ max_level c' p')) ⊎ MakesNoThread program → SeesTheSame c p c' p' program
+      all-seen switch call window part words all program levels = record {
+        but_period = record {
+          switch = switch;
+          call = call;
+          budget = part;
+          memory = words;
+          mutexes = λ m. (all m).0;
+          holds = λ m. (all m).1;
+          levels = levels;
+        };
+        period = window;
+      }
+
       levels-differ : c.costs.switch ≡ c'.costs.switch → c.costs.call ≡ c'.costs.call → period c (main_level c p) ≡ period c' (main_level c' p')
           → budget c p ≡ budget c' p' → memory c p ≡ memory c' p'
           → ((m : ℕ) → (is_user c m p ≡ is_user c' m p') × (is_user c m p ≡ true → longest_hold c m ≡ longest_hold c' m))
           → (((main_level c p ≡ main_level c' p') × (max_level c p ≡ max_level c' p')) → ⊥) → T (Some Change.Levels)
       levels-differ switch call window part words all differ program = (
-        λ sees. elim sees.levels [ inl levels ↦ absurd (differ levels) | inr none ↦ none ],
-        λ none. record {
-          switch = switch;
-          call = call;
-          period = window;
-          budget = part;
-          memory = words;
-          mutexes = λ m. (all m).0;
-          holds = λ m. (all m).1;
-          levels = inr none;
-        },
+        λ sees. elim sees.but_period.levels [ inl levels ↦ absurd (differ levels) | inr none ↦ none ],
+        λ none. all-seen switch call window part words all program (inr none),
       )

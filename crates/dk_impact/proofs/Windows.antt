@@ -1,13 +1,15 @@
 -- The entries of a process in whole windows of two runs that number it differently.
-use Rattle.std.proofs.Common.{ℕ, zero, suc, ◌≡◌, ◌+◌, List, [], ◌∷◌, ◌++◌, map, refl, sym, ap, ◌∙◌, subst, arith}
+use Rattle.std.proofs.Common.{ℕ, zero, suc, ◌≡◌, ◌+◌, ◌*◌, List, [], ◌∷◌, ◌++◌, map, refl, sym, ap, ◌∙◌, subst, arith}
 use Rattle.std.specs.Prelude.{take}
 use Rattle.std.proofs.lemmas.List.{append_cancel_right}
 use Rattle.std.proofs.lemmas.List.Elements.{filter-append}
 use Rattle.dk_config.specs.Configuration.{Configuration}
+use Rattle.dk_config.specs.Windows.{period, main_level}
 use Rattle.dk_trace.specs.declared.Entry.{Entry}
 use Rattle.dk_trace.specs.Choices.{chosen}
 use Rattle.dk_world.specs.Run.{trace, world}
 use Rattle.dk_alone.specs.Alone.{entries_of, is_of_process}
+use Rattle.dk_alone.specs.Again.{own_window}
 use Rattle.dk_alone.proofs.Again.{entry-by, on, on-is}
 use Rattle.dk_impact.specs.Impact.{renamed, IsSameAcross}
 
@@ -32,15 +34,30 @@ map-parts f [] b = refl
 map-parts f (e ∷ a) b = ap (λ es. f e ∷ es) (map-parts f a b)
 
 -- where both ends of the windows are the same, what is between them is
-pub windows-across : (c c' : Configuration) (programs others : List (List ℕ)) (p p' t n : ℕ)
-    → IsSameAcross p p' (world c programs t) (world c' others t) → IsSameAcross p p' (world c programs (t + n)) (world c' others (t + n))
-    → map (renamed p') (entries_of p (take n (trace c programs (t + n)))) ≡ entries_of p' (take n (trace c' others (t + n)))
-windows-across c c' programs others p p' t n here there =
+pub windows-across : (c c' : Configuration) (programs others : List (List ℕ)) (p p' t n t' n' : ℕ)
+    → IsSameAcross p p' (world c programs t) (world c' others t') → IsSameAcross p p' (world c programs (t + n)) (world c' others (t' + n'))
+    → map (renamed p') (entries_of p (take n (trace c programs (t + n)))) ≡ entries_of p' (take n' (trace c' others (t' + n')))
+windows-across c c' programs others p p' t n t' n' here there =
     let last = entries_of p (take n (trace c programs (t + n))) in
     let before = entries_of p (trace c programs t) in
-    append_cancel_right (map (renamed p') last) (entries_of p' (take n (trace c' others (t + n)))) (map (renamed p') before)
+    append_cancel_right (map (renamed p') last) (entries_of p' (take n' (trace c' others (t' + n')))) (map (renamed p') before)
     (sym (map-parts (renamed p') last before)
     ∙ ap (map (renamed p')) (sym (parted c programs p t n))
     ∙ there.entries
-    ∙ parted c' others p' t n
-    ∙ ap (λ es. entries_of p' (take n (trace c' others (t + n))) ++ es) (sym here.entries))
+    ∙ parted c' others p' t' n'
+    ∙ ap (λ es. entries_of p' (take n' (trace c' others (t' + n'))) ++ es) (sym here.entries))
+
+next-window : (P k : ℕ) → suc k * P ≡ k * P + P
+next-window P k = grind arith
+
+-- so it is with the k-th windows
+pub windows-any-period : (c c' : Configuration) (programs others : List (List ℕ)) (p p' k : ℕ)
+    → IsSameAcross p p' (world c programs (k * period c (main_level c p))) (world c' others (k * period c' (main_level c' p')))
+    → IsSameAcross p p' (world c programs (suc k * period c (main_level c p))) (world c' others (suc k * period c' (main_level c' p')))
+    → map (renamed p') (own_window c programs p (k * period c (main_level c p))) ≡ own_window c' others p' (k * period c' (main_level c' p'))
+windows-any-period c c' programs others p p' k here there =
+    let P = period c (main_level c p) in
+    let P' = period c' (main_level c' p') in
+    windows-across c c' programs others p p' (k * P) P (k * P') P' here
+    (subst (λ n. IsSameAcross p p' (world c programs n) (world c' others (k * P' + P'))) (next-window P k)
+    (subst (λ n. IsSameAcross p p' (world c programs (suc k * P)) (world c' others n)) (next-window P' k) there))

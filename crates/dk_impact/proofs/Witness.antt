@@ -17,29 +17,42 @@ use Rattle.dk_bound.proofs.Accepted.{accepted}
 use Rattle.dk_alone.specs.Alone.{KeepsToItself, ReadsNoTick}
 use Rattle.dk_alone.specs.Again.{ProcessStandsAgain, own_window}
 use Rattle.dk_alone.proofs.Premises.{program, spinner, call_of}
-use Rattle.dk_impact.specs.Impact.{SeesTheSame, MakesNoThread, IsSameAcross, renamed}
-use Rattle.dk_impact.specs.Laws.{ChangesOfOthersHaveNoImpact, FirstWindowsTellAcross}
+use Rattle.dk_impact.specs.Impact.{SeesTheSame, SeesTheSameButPeriod, MakesNoThread, IsSameAcross, renamed}
+use Rattle.dk_impact.specs.Laws.{ChangesOfOthersHaveNoImpact, ChangesOfPeriodHaveNoImpact, FirstWindowsTellAcross, FirstWindowsTellAtAnyPeriod}
 
-abbrev old : Configuration
-old = record {
+abbrev old_at : ℕ → Configuration
+old_at ticks = record {
   version = 1;
   costs = record { switch = 1; call = 2 };
-  levels = record { period = 20; release = 0 } ∷ [];
+  levels = record { period = ticks; release = 0 } ∷ [];
   processes = record { name = 97 ∷ []; program = 97 ∷ []; level = 0; budget = 12; memory = 1; threads = 0; slack = false; max_level = 0 } ∷ [];
   mutexes = record { name = 109 ∷ []; ceiling = 0; hold = 3; users = (97 ∷ []) ∷ [] } ∷ [];
 }
 
-abbrev new : Configuration
-new = record {
+abbrev new_at : ℕ → Configuration
+new_at ticks = record {
   version = 2;
   costs = record { switch = 1; call = 2 };
-  levels = record { period = 10; release = 0 } ∷ record { period = 20; release = 0 } ∷ record { period = 60; release = 2 } ∷ [];
+  levels = record { period = 10; release = 0 } ∷ record { period = ticks; release = 0 } ∷ record { period = 120; release = 2 } ∷ [];
   processes =
       record { name = 98 ∷ []; program = 98 ∷ []; level = 0; budget = 3; memory = 0; threads = 0; slack = true; max_level = 2 }
       ∷ record { name = 97 ∷ []; program = 97 ∷ []; level = 1; budget = 12; memory = 1; threads = 0; slack = false; max_level = 2 }
       ∷ [];
   mutexes = record { name = 110 ∷ []; ceiling = 0; hold = 3; users = (98 ∷ []) ∷ (97 ∷ []) ∷ [] } ∷ [];
 }
+
+abbrev old : Configuration
+old = old_at 20
+
+abbrev new : Configuration
+new = new_at 20
+
+-- its budget is the whole window
+abbrev faster : Configuration
+faster = old_at 12
+
+abbrev slower : Configuration
+slower = new_at 40
 
 old-passes : first_broken (all_tests old) ≡ None
 unfolding all_tests version_tests count_tests range_tests period_tests name_tests again_tests level_tests budget_tests user_tests slowest_tests
@@ -48,6 +61,14 @@ old-passes = refl
 new-passes : first_broken (all_tests new) ≡ None
 unfolding all_tests version_tests count_tests range_tests period_tests name_tests again_tests level_tests budget_tests user_tests slowest_tests
 new-passes = refl
+
+faster-passes : first_broken (all_tests faster) ≡ None
+unfolding all_tests version_tests count_tests range_tests period_tests name_tests again_tests level_tests budget_tests user_tests slowest_tests
+faster-passes = refl
+
+slower-passes : first_broken (all_tests slower) ≡ None
+unfolding all_tests version_tests count_tests range_tests period_tests name_tests again_tests level_tests budget_tests user_tests slowest_tests
+slower-passes = refl
 
 -- locks, shows, unlocks, and waits
 abbrev worker : List ℕ
@@ -77,16 +98,20 @@ worker-makes-none (suc (suc (suc (suc zero)))) within is = less-than 1 3 (omega 
 worker-makes-none (suc (suc (suc (suc (suc zero))))) within is = less-than 0 3 (omega arith) (ap call_of is)
 worker-makes-none (suc (suc (suc (suc (suc (suc k)))))) within is = let more : 4 * suc (suc (suc (suc (suc (suc k))))) + 4 ≤ 24 = within in absurd (omega arith)
 
-same-users : (m : ℕ) → is_user old m 0 ≡ is_user new m 1
-same-users zero = refl
-same-users (suc m) = refl
+same-users : (ticks other m : ℕ) → is_user (old_at ticks) m 0 ≡ is_user (new_at other) m 1
+same-users ticks other zero = refl
+same-users ticks other (suc m) = refl
 
-same-holds : (m : ℕ) → is_user old m 0 ≡ true → longest_hold old m ≡ longest_hold new m
-same-holds zero is = refl
-same-holds (suc m) is = refl
+same-holds : (ticks other m : ℕ) → is_user (old_at ticks) m 0 ≡ true → longest_hold (old_at ticks) m ≡ longest_hold (new_at other) m
+same-holds ticks other zero is = refl
+same-holds ticks other (suc m) is = refl
+
+sees-but-period : (ticks other : ℕ) → SeesTheSameButPeriod (old_at ticks) 0 (new_at other) 1 worker
+sees-but-period ticks other =
+    record { switch = refl; call = refl; budget = refl; memory = refl; mutexes = same-users ticks other; holds = same-holds ticks other; levels = inr worker-makes-none }
 
 sees : SeesTheSame old 0 new 1 worker
-sees = record { switch = refl; call = refl; period = refl; budget = refl; memory = refl; mutexes = same-users; holds = same-holds; levels = inr worker-makes-none }
+sees = record { but_period = sees-but-period 20 20; period = refl }
 
 -- so the worker has the same in both, whatever the other does
 pub the-worker-is-the-same : ChangesOfOthersHaveNoImpact → IsSameAcross 0 1 (world old (worker ∷ []) 40) (world new (spinner ∷ worker ∷ []) 40)
@@ -94,6 +119,13 @@ the-worker-is-the-same law =
     law old new (worker ∷ []) (spinner ∷ worker ∷ []) 0 1 40 (checked old old-passes) (accepted old refl) (checked new new-passes) (accepted new refl)
     (record { known = omega arith; threads = refl; slack = refl; clock = worker-clock }) (record { known = omega arith; threads = refl; slack = refl; clock = worker-clock })
     refl sees refl
+
+-- and so after three windows of 12 ticks, which its budget fills, and three of 40
+pub the-worker-is-the-same-at-any-period : ChangesOfPeriodHaveNoImpact → IsSameAcross 0 1 (world faster (worker ∷ []) 36) (world slower (spinner ∷ worker ∷ []) 120)
+the-worker-is-the-same-at-any-period law =
+    law faster slower (worker ∷ []) (spinner ∷ worker ∷ []) 0 1 3 (checked faster faster-passes) (accepted faster refl) (checked slower slower-passes) (accepted slower refl)
+    (record { known = omega arith; threads = refl; slack = refl; clock = worker-clock }) (record { known = omega arith; threads = refl; slack = refl; clock = worker-clock })
+    refl (sees-but-period 12 40)
 
 -- by itself it stands at tick 80 as it stood at tick 40
 again : ProcessStandsAgain old (worker ∷ []) 0 40 40
@@ -133,3 +165,12 @@ the-worker-goes-on law others tick agree begins =
     (record { known = omega arith; threads = refl; slack = refl; clock = worker-clock })
     (subst (KeepsToItself new 1) agree (record { known = omega arith; threads = refl; slack = refl; clock = worker-clock }))
     agree sees again (λ t start early. goes-on-first t (first-four t start early)) tick begins
+
+-- nor at half its rate
+pub the-worker-goes-on-slower : FirstWindowsTellAtAnyPeriod → (others : List (List ℕ)) (tick : ℕ) → worker ≡ slice_index_or others 1 [] → tick % 40 ≡ 0
+    → goes-on (own_window slower others 1 tick) ≡ true
+the-worker-goes-on-slower law others tick agree begins =
+    law old slower (worker ∷ []) others 0 1 40 40 goes-on (checked old old-passes) (accepted old refl) (checked slower slower-passes) (accepted slower refl)
+    (record { known = omega arith; threads = refl; slack = refl; clock = worker-clock })
+    (subst (KeepsToItself slower 1) agree (record { known = omega arith; threads = refl; slack = refl; clock = worker-clock }))
+    agree (sees-but-period 20 40) again (λ t start early. goes-on-first t (first-four t start early)) tick begins

@@ -14,18 +14,22 @@ use Rattle.dk_alone.specs.Alone.{entries_of}
 abbrev pub MakesNoThread : List ℕ → Type 0
 MakesNoThread program = HoldsNoCall 3 program
 
--- The process p of one configuration sees what the process p' of the other sees: the costs, the length of its windows, its
--- budget, its memory, which mutexes it may lock, and how long it may hold each of them. The numbers of its levels are read
--- by one call alone, which a process without children is refused.
-pub record SeesTheSame (c : Configuration) (p : ℕ) (c' : Configuration) (p' : ℕ) (program : List ℕ) : Type 0 where
+-- The process p of one configuration sees what the process p' of the other sees, maybe in windows of another length: the
+-- costs, its budget, its memory, which mutexes it may lock, and how long it may hold each of them. The numbers of its levels
+-- are read by one call alone, which a process without children is refused.
+pub record SeesTheSameButPeriod (c : Configuration) (p : ℕ) (c' : Configuration) (p' : ℕ) (program : List ℕ) : Type 0 where
   pub switch : c.costs.switch ≡ c'.costs.switch
   pub call : c.costs.call ≡ c'.costs.call
-  pub period : period c (main_level c p) ≡ period c' (main_level c' p')
   pub budget : budget c p ≡ budget c' p'
   pub memory : memory c p ≡ memory c' p'
   pub mutexes : (m : ℕ) → is_user c m p ≡ is_user c' m p'
   pub holds : (m : ℕ) → is_user c m p ≡ true → longest_hold c m ≡ longest_hold c' m
   pub levels : ((main_level c p ≡ main_level c' p') × (max_level c p ≡ max_level c' p')) ⊎ MakesNoThread program
+
+-- and so it does in windows of the same length
+pub record SeesTheSame (c : Configuration) (p : ℕ) (c' : Configuration) (p' : ℕ) (program : List ℕ) : Type 0 where
+  pub but_period : SeesTheSameButPeriod c p c' p' program
+  pub period : period c (main_level c p) ≡ period c' (main_level c' p')
 
 -- the thread with this serial of process p
 abbrev pub renamed_thread : ℕ → ThreadId → ThreadId

@@ -1,10 +1,11 @@
-//! No impact: a process that keeps to itself runs the same in every configuration of which it sees the same.
+//! No impact: a process that keeps to itself runs the same in every configuration of which it sees the same, and window by
+//! window also where its period alone changes.
 //!
 //! Each function carries one law in its contract, and does nothing but call the laws that it stands on. All rules are this
 //! project's own.
 #![tactic(auto)]
 
-ghost use Rattle.dk_impact.specs.Laws.{AloneIsTheSameAcross, ChangesOfOthersHaveNoImpact, FirstWindowsTellAcross, WindowsAreTheSameAcross};
+ghost use Rattle.dk_impact.specs.Laws.{AloneIsTheSameAcross, AloneIsTheSameAtAnyPeriod, ChangesOfOthersHaveNoImpact, ChangesOfPeriodHaveNoImpact, FirstWindowsTellAcross, FirstWindowsTellAtAnyPeriod, WindowsAreTheSameAcross, WindowsAreTheSameAtAnyPeriod};
 
 mod change;
 mod changes;
@@ -34,6 +35,39 @@ pub fn windows_across_law()
     impact_law();
 }
 
+/// With the processor to itself it does in the k-th of its windows the same in two configurations that are checked and
+/// accepted and of which it sees the same but the period: in a longer window it only rests longer.
+pub fn any_period_law()
+    ensures { AloneIsTheSameAtAnyPeriod }
+{}
+
+/// So where the k-th of its windows begins its entries, its memory and its contexts are the same in both, whatever else
+/// differs: a process that is given another rate does in each window what it did.
+pub fn period_impact_law()
+    ensures { ChangesOfPeriodHaveNoImpact }
+{
+    alone_law();
+    any_period_law();
+}
+
+/// And the k-th window of the one has the same entries of it as the k-th window of the other.
+pub fn windows_any_period_law()
+    ensures { WindowsAreTheSameAtAnyPeriod }
+{
+    period_impact_law();
+}
+
+/// So what holds of its entries in each window of one run, up to two ticks at which it stands alike, holds of them in every
+/// window of every run of every configuration of which it sees the same but the period.
+///
+/// So one test of a process is evidence also where its rate changes: for as long as nothing that it sees of a window does.
+pub fn first_windows_any_period_law()
+    ensures { FirstWindowsTellAtAnyPeriod }
+{
+    windows_any_period_law();
+    first_windows_law();
+}
+
 /// So what holds of its entries in each window of one run, up to two ticks at which it stands alike, holds of them in every
 /// window of every run of every configuration of which it sees the same.
 ///
@@ -41,6 +75,5 @@ pub fn windows_across_law()
 pub fn first_windows_across_law()
     ensures { FirstWindowsTellAcross }
 {
-    windows_across_law();
-    first_windows_law();
+    first_windows_any_period_law();
 }

@@ -4,5 +4,5 @@ use Rattle.dk_impact.proofs.across_law.Goals as goal
 
 pub returns : goal.returns
 returns c one other program p p' n checked checked' keeps keeps' sees =
-    across one other p p' program sees (checked.positive (main_level one p) (checked.levels p keeps.known)) (checked'.positive (main_level other p') (checked'.levels p' keeps'.known))
-    keeps keeps' n
+    across one other p p' program sees.but_period (checked.positive (main_level one p) (checked.levels p keeps.known)) (checked'.positive (main_level other p') (checked'.levels p' keeps'.known))
+    keeps keeps' sees.period n

@@ -1,0 +1,18 @@
+use Rattle.std.proofs.Common.{◌≡◌, ◌*◌, ◌+◌, ◌/◌, ◌%◌, ◌∙◌, true, ap, arith, map, refl, sym, subst}
+use Rattle.std.proofs.Math.Nat.{div-add-mod, mul-mod_left}
+use Rattle.dk_config.specs.Windows.{period, main_level}
+use Rattle.dk_alone.specs.Again.{own_window}
+use Rattle.dk_impact.specs.Impact.{renamed}
+use Rattle.dk_impact.proofs.first_windows_any_period_law.Goals as goal
+
+pub returns : goal.returns
+returns c one other programs others p p' s k holds checked accepted checked' accepted' keeps keeps' agree sees again first tick begins =
+    let P = period one (main_level one p) in
+    let P' = period other (main_level other p') in
+    let n = tick / P' in
+    let parts : P' * n + tick % P' ≡ tick = div-add-mod tick P' in
+    let turned : P' * n ≡ n * P' = grind arith in
+    let is : n * P' ≡ tick = omega (arith, parts, turned, begins) in
+    let same = c.windows_any_period_law.ensures one other programs others p p' n checked accepted checked' accepted' keeps keeps' agree sees in
+    let told = c.first_windows_law.ensures one programs programs p s k (λ es. holds (map (renamed p') es)) checked accepted keeps refl again first (n * P) (mul-mod_left n P) in
+    subst (λ t. holds (own_window other others p' t) ≡ true) is (ap holds (sym same) ∙ told)

@@ -1,0 +1,20 @@
+use Rattle.std.proofs.Common.{◌*◌, [], sym, subst}
+use Rattle.std.specs.Prelude.{slice_index_or}
+use Rattle.std.proofs.Math.Nat.{mul-mod_left}
+use Rattle.dk_config.specs.Windows.{period, main_level}
+use Rattle.dk_alone.specs.Alone.{alone, KeepsToItself, IsSameFor}
+use Rattle.dk_world.specs.Run.{world}
+use Rattle.dk_impact.proofs.Joined.{joined}
+use Rattle.dk_impact.proofs.period_impact_law.Goals as goal
+
+pub returns : goal.returns
+returns c one other programs others p p' k checked accepted checked' accepted' keeps keeps' agree sees =
+    let program = slice_index_or programs p [] in
+    let P = period one (main_level one p) in
+    let P' = period other (main_level other p') in
+    let second : IsSameFor p' (world other others (k * P')) (alone other p' program (k * P')) =
+    subst (λ code. IsSameFor p' (world other others (k * P')) (alone other p' code (k * P'))) (sym agree)
+    (c.alone_law.ensures other others p' (k * P') checked' accepted' keeps' (mul-mod_left k P')) in
+    joined p p' (world one programs (k * P)) (alone one p program (k * P)) (alone other p' program (k * P')) (world other others (k * P'))
+    (c.alone_law.ensures one programs p (k * P) checked accepted keeps (mul-mod_left k P))
+    (c.any_period_law.ensures one other program p p' k checked accepted checked' accepted' keeps (subst (KeepsToItself other p') (sym agree) keeps') sees) second
