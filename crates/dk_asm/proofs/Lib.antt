@@ -14,6 +14,9 @@ pub mod StatementReading
 pub mod LineReading
 pub mod Places
 pub mod Causes
+pub mod FirstCause
+pub mod Refused
+pub mod Amiss
 pub mod Encodings
 pub mod Outcomes
 pub mod Programs

@@ -9,3 +9,5 @@ pub mod Reading
 pub mod Seen
 pub mod Places
 pub mod Ranges
+pub mod Causes
+pub mod Reasons

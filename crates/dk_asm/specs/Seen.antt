@@ -9,6 +9,8 @@ use Rattle.dk_asm.specs.declared.line.Line.{Line as ReadLine}
 use Rattle.dk_asm.specs.Operands.{Operand}
 use Rattle.dk_asm.specs.Grammar.{Statement, Parts}
 use Rattle.dk_asm.specs.Source.{Line}
+use Rattle.dk_asm.specs.declared.reasons.Reason.{Reason as ReadReason}
+use Rattle.dk_asm.specs.Reasons.{Reason}
 
 abbrev pub operand : ReadOperand → Operand
 operand (read.Value n) = Operand.value n
@@ -31,3 +33,6 @@ seen_line line = option_map parts line
 
 abbrev pub seen_lines : List (Option ReadLine) → List Line
 seen_lines lines = map seen_line lines
+
+abbrev pub reason : ReadReason → Reason
+reason r = record { text = r.text.now; operand = r.operand; wanted = r.wanted }

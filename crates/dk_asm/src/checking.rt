@@ -30,7 +30,7 @@ fn any_outside<'a>(operands: &[Operand<'a>]) -> bool
     }
 }
 
-fn operands_on<'l, 'a>(line: &'l Line<'a>) -> &'l [Operand<'a>]
+pub(crate) fn operands_on<'l, 'a>(line: &'l Line<'a>) -> &'l [Operand<'a>]
     ensures { seen_operands result.now ≡ operands_on (Some (seen_parts line.now)) }
 {
     match &line.statement {
@@ -84,7 +84,7 @@ fn has_part<'a>(line: &Line<'a>) -> bool
 }
 
 /// Why line i is at fault, if it is; the lines before it have so many instructions.
-fn cause_of<'a>(
+pub(crate) fn cause_of<'a>(
     labels: &Labels<'a>,
     line: &Option<Line<'a>>,
     i: usize,

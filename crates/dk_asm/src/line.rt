@@ -41,7 +41,7 @@ fn instruction_of<'a>(mnemonic: Mnemonic, text: &'a [u8]) -> Option<Statement<'a
     Some(Statement::Instruction(mnemonic, operands))
 }
 
-fn is_bytes_name(name: &[u8]) -> bool
+pub(crate) fn is_bytes_name(name: &[u8]) -> bool
     ensures { result ≡ bytes_eq name.now (codes "BYTES") }
 {
     name == b"BYTES".as_slice()
@@ -73,7 +73,7 @@ fn with_label<'a>(label: Option<&'a [u8]>, text: &'a [u8]) -> Option<Line<'a>>
     Some(Line { label, statement })
 }
 
-fn begins_lower(text: &[u8]) -> bool
+pub(crate) fn begins_lower(text: &[u8]) -> bool
     ensures { result ≡ begins_lower text.now }
 {
     match text {
@@ -83,7 +83,7 @@ fn begins_lower(text: &[u8]) -> bool
 }
 
 /// A name with a colon directly behind it, and what stands behind the colon.
-fn split_label(text: &[u8]) -> Option<(&[u8], &[u8])>
+pub(crate) fn split_label(text: &[u8]) -> Option<(&[u8], &[u8])>
     ensures { option_map (λ parts. (parts.0.now, parts.1.now)) result ≡ split_label text.now }
 {
     match cut_at(text, b':') {
@@ -104,7 +104,7 @@ fn bare_line<'a>(text: &'a [u8]) -> Option<Line<'a>>
     with_label(Some(name), skip_blanks(rest))
 }
 
-fn without_comment(bytes: &[u8]) -> &[u8]
+pub(crate) fn without_comment(bytes: &[u8]) -> &[u8]
     ensures { result.now ≡ before_first (λ b. b == 35) bytes.now }
 {
     let end = byte_at(bytes, b'#').unwrap_or(bytes.len());

@@ -14,7 +14,7 @@ use arrayvec::ArrayVec;
 pub type Operands<'a> = ArrayVec<Operand<'a>, 4>;
 
 /// What stands before the first comma, and what stands behind it, if there is one.
-fn first_piece(text: &[u8]) -> (&[u8], Option<&[u8]>)
+pub(crate) fn first_piece(text: &[u8]) -> (&[u8], Option<&[u8]>)
     ensures { slice_split (λ b. b == 44) text.now
         ≡ result.0.now ∷ pieces_behind (option_map (λ rest. rest.now) result.1) }
 {
@@ -24,7 +24,7 @@ fn first_piece(text: &[u8]) -> (&[u8], Option<&[u8]>)
     }
 }
 
-fn piece_operand<'a>(kind: Kind, piece: &'a [u8]) -> Option<Operand<'a>>
+pub(crate) fn piece_operand<'a>(kind: Kind, piece: &'a [u8]) -> Option<Operand<'a>>
     ensures { option_map seen_operand result ≡ read_piece kind piece.now }
 {
     operand_of(kind, only_word(piece)?)

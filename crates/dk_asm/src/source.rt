@@ -8,8 +8,8 @@ use crate::line::{Line, line_of};
 use crate::words::cut_at;
 use std::alloc::{AllocError, Global};
 
-/// The first line, without its line feed, and what stands behind it.
-fn first_line(text: &[u8]) -> (&[u8], &[u8])
+/// The first line of a text that isn't empty, without its line feed, and what stands behind it.
+pub fn first_line(text: &[u8]) -> (&[u8], &[u8])
     requires { 0 < length text.now }
     ensures lines { lines_of text.now ≡ result.0.now ∷ lines_of result.1.now }
     ensures shorter { length result.1.now < length text.now }

@@ -5,7 +5,7 @@ ghost use Rattle.std.specs.Option.{option_copied, option_map};
 ghost use Rattle.dk_asm.specs.Words.{is_blank};
 ghost use Rattle.dk_asm.specs.Reading.{cut_at, is_solid, is_sought, skipped, behind_word, only_word};
 
-fn is_blank(b: u8) -> bool
+pub(crate) fn is_blank(b: u8) -> bool
     ensures { result ≡ is_blank b }
 {
     b == b' ' || b == b'\t' || b == b'\r'
