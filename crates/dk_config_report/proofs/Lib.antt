@@ -1,2 +1,4 @@
 pub mod Adding
 pub mod Greatest
+pub mod Bounds
+pub mod Stays

@@ -1,5 +1,6 @@
 -- What stands at the place of a fault, and what is allowed there.
-use Rattle.std.specs.Prelude.{ℕ, ◌+◌, ◌-◌, ◌*◌, ◌==◌, if◌then◌else◌, List, [], ◌++◌, length, codes, decimal, slice_get, Option, Some, None, option_map}
+use Rattle.std.specs.Prelude.{ℕ, ◌≡◌, ◌+◌, ◌-◌, ◌*◌, ◌%◌, ◌==◌, ◌&&◌, nat_lt, nat_le, Bool, true, false, if◌then◌else◌, List, [], ◌++◌, length, codes, decimal, slice_get, Option, Some, None, option_map}
+use Rattle.std.specs.List.{AllByRecursion}
 use Rattle.std.specs.Option.{option_map_or}
 use Rattle.dk_config.specs.Configuration.{Configuration}
 use Rattle.dk_config.specs.declared.fault.ConfigFault.{ConfigFault}
@@ -8,7 +9,8 @@ use Rattle.dk_config.specs.declared.fault.Section.TheVariants as section
 use Rattle.dk_config.specs.declared.fault.Field.{Field}
 use Rattle.dk_config.specs.declared.fault.Field.TheVariants as field
 use Rattle.dk_config.specs.declared.TheConstants.{MAX_LEVELS, MAX_LEVELS_1, MAX_PROCESSES, MAX_MUTEXES, MAX_CHILDREN, MAX_SPAN, MAX_COST, MAX_MEMORY}
-use Rattle.dk_config.specs.Rules.{is_name}
+use Rattle.dk_config.specs.Rules.{is_name, all_tests}
+use Rattle.dk_config.specs.Tests.{Test}
 use Rattle.dk_config.specs.Windows.{ceiling, main_level, period}
 use Rattle.dk_config_report.specs.declared.allowed.Allowed.{Allowed}
 use Rattle.dk_config_report.specs.declared.allowed.Allowed.TheVariants as allowed
@@ -76,10 +78,11 @@ rows_of version field.Level = allowed.Range 1 (if version == 2 then MAX_LEVELS e
 rows_of version field.Process = allowed.Range 1 MAX_PROCESSES
 rows_of version _ = allowed.Range 0 MAX_MUTEXES
 
--- C13: in version 1 the last level alone
+-- C13: in version 1 the last level alone; a process of a level that isn't there has none
 abbrev pub slowest_of : Configuration → ℕ → Allowed
 slowest_of c p =
-    if c.version == 1 then allowed.Last else (allowed.Levels (main_level c p) (length c.levels))
+    if c.version == 1 && nat_lt (main_level c p) (length c.levels) then allowed.Last (length c.levels)
+    else allowed.Levels (main_level c p) (length c.levels)
 
 -- C10 to C13
 abbrev pub allowed_from_levels : Configuration → ConfigFault → Allowed
@@ -105,20 +108,39 @@ allowed_at c f =
     else if f.number == 6 then range_of f.field
     else allowed_from_periods c f
 
+-- the number is one of those that are allowed; where no number is told, each is
+abbrev pub allows : Allowed → ℕ → Bool
+allows (allowed.Range low high) n = nat_le low n && nat_le n high
+allows (allowed.Multiples period) n = n % period == 0 && nat_le (2 * period) n
+allows (allowed.Below levels) n = nat_lt n levels
+allows (allowed.AtLeast least) n = nat_le least n
+allows (allowed.Levels low levels) n = nat_le low n && nat_lt n levels
+allows (allowed.Last levels) n = n + 1 == levels
+allows _ n = true
+
+-- where the test fails, the number at its place isn't one of those that are allowed; so with one of those it passes
+abbrev pub IsRightOf : Configuration → Test → Type 0
+IsRightOf c t = t.1 ≡ true
+    → (n : ℕ) → value_at c t.0.section t.0.row t.0.field ≡ Some n → allows (allowed_at c t.0) n ≡ false
+
+-- of each test of C4 to C13
+abbrev pub TellsBounds : Configuration → Type 0
+TellsBounds c = AllByRecursion (IsRightOf c) (all_tests c)
+
 abbrev pub allowed_text : Allowed → List ℕ
-allowed_text (allowed.Range low high) = decimal low ++ (codes " to " ++ (decimal high ++ codes " are allowed\n"))
+allowed_text (allowed.Range low high) = decimal low ++ (codes " to " ++ (decimal high ++ codes " are allowed"))
 allowed_text (allowed.Multiples period) = codes "multiples of "
-    ++ (decimal period ++ (codes " from " ++ (decimal (2 * period) ++ codes " on are allowed\n")))
+    ++ (decimal period ++ (codes " from " ++ (decimal (2 * period) ++ codes " on are allowed")))
 allowed_text allowed.Spelling =
-    codes "a name is 1 to 16 of a to z, 0 to 9 and _ from a letter on, a file 1 to 64 letters, digits and . _ - /\n"
-allowed_text allowed.OwnName = codes "no two rows of a section have one name\n"
-allowed_text (allowed.Below levels) = codes "numbers below " ++ (decimal levels ++ codes " are allowed\n")
-allowed_text (allowed.AtLeast least) = decimal least ++ codes " or more are allowed\n"
+    codes "a name is 1 to 16 of a to z, 0 to 9 and _ from a letter on, a file 1 to 64 letters, digits and . _ - /"
+allowed_text allowed.OwnName = codes "no two rows of a section have one name"
+allowed_text (allowed.Below levels) = codes "numbers below " ++ (decimal levels ++ codes " are allowed")
+allowed_text (allowed.AtLeast least) = decimal least ++ codes " or more are allowed"
 allowed_text (allowed.Users level) =
-    codes "one or more processes of level " ++ (decimal level ++ codes " or slower are allowed, each once\n")
+    codes "one or more processes of level " ++ (decimal level ++ codes " or slower are allowed, each once")
 allowed_text (allowed.Levels low levels) = codes "from "
-    ++ (decimal low ++ (codes " on numbers below " ++ (decimal levels ++ codes " are allowed\n")))
-allowed_text allowed.Last = codes "in version 1 the last level alone is allowed\n"
+    ++ (decimal low ++ (codes " on numbers below " ++ (decimal levels ++ codes " are allowed")))
+allowed_text (allowed.Last levels) = codes "in version 1 the last level alone is allowed"
 
 abbrev pub value_text : Option ℕ → List ℕ
 value_text (Some value) = codes " has " ++ (decimal value ++ codes ", ")

@@ -6,3 +6,4 @@ pub mod FaultLines
 pub use Rattle.dk_config.specs.Ahead
 pub use Rattle.dk_config.specs.Checked
 pub use Rattle.dk_outside.specs.Written
+pub mod Following

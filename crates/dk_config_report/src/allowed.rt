@@ -29,8 +29,8 @@ pub enum Allowed {
     Users(u32),
     /// The numbers from the one on that are below the other.
     Levels(u32, u32),
-    /// The last level.
-    Last,
+    /// The last of so many levels.
+    Last(u32),
 }
 
 fn range_of(field: Field) -> Allowed
@@ -87,10 +87,12 @@ fn slowest_of(config: &Config, process: u32) -> Allowed
     requires few { HasFewRows config.now }
     ensures { result ≡ slowest_of config.now process }
 {
-    if config.version == 1 {
-        Allowed::Last
+    let low = level_of(config, process);
+    let levels = config.levels.len() as u32;
+    if config.version == 1 && low < levels {
+        Allowed::Last(levels)
     } else {
-        Allowed::Levels(level_of(config, process), config.levels.len() as u32)
+        Allowed::Levels(low, levels)
     }
 }
 
@@ -144,7 +146,7 @@ fn multiples_text(alloc: Global, period: u32) -> Result<String, AllocError>
     ensures { IfOk result (λ s. string_bytes s ≡ allowed_text (Allowed.Multiples period)) }
 {
     let double = 2 * period as u64;
-    format!(in alloc; "multiples of {period} from {double} on are allowed\n")
+    format!(in alloc; "multiples of {period} from {double} on are allowed")
 }
 
 /// What is allowed, in words.
@@ -152,23 +154,23 @@ pub(crate) fn allowed_text(alloc: Global, allowed: Allowed) -> Result<String, Al
     ensures { IfOk result (λ s. string_bytes s ≡ allowed_text allowed) }
 {
     match allowed {
-        Allowed::Range(low, high) => format!(in alloc; "{low} to {high} are allowed\n"),
+        Allowed::Range(low, high) => format!(in alloc; "{low} to {high} are allowed"),
         Allowed::Multiples(period) => multiples_text(alloc, period),
         Allowed::Spelling => String::from_str(
             alloc,
-            "a name is 1 to 16 of a to z, 0 to 9 and _ from a letter on, a file 1 to 64 letters, digits and . _ - /\n",
+            "a name is 1 to 16 of a to z, 0 to 9 and _ from a letter on, a file 1 to 64 letters, digits and . _ - /",
         ),
-        Allowed::OwnName => String::from_str(alloc, "no two rows of a section have one name\n"),
-        Allowed::Below(levels) => format!(in alloc; "numbers below {levels} are allowed\n"),
-        Allowed::AtLeast(least) => format!(in alloc; "{least} or more are allowed\n"),
+        Allowed::OwnName => String::from_str(alloc, "no two rows of a section have one name"),
+        Allowed::Below(levels) => format!(in alloc; "numbers below {levels} are allowed"),
+        Allowed::AtLeast(least) => format!(in alloc; "{least} or more are allowed"),
         Allowed::Users(level) => {
             format!(in alloc;
-                "one or more processes of level {level} or slower are allowed, each once\n"
+                "one or more processes of level {level} or slower are allowed, each once"
             )
         }
         Allowed::Levels(low, levels) => {
-            format!(in alloc; "from {low} on numbers below {levels} are allowed\n")
+            format!(in alloc; "from {low} on numbers below {levels} are allowed")
         }
-        Allowed::Last => String::from_str(alloc, "in version 1 the last level alone is allowed\n"),
+        Allowed::Last(_) => String::from_str(alloc, "in version 1 the last level alone is allowed"),
     }
 }

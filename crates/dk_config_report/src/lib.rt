@@ -6,6 +6,7 @@
 
 mod allowed;
 mod fault_lines;
+mod following;
 mod listing;
 mod page;
 mod reaches;

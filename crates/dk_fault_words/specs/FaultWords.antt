@@ -45,3 +45,7 @@ fault_head f = codes "config: C"
 -- the line of a refusal
 abbrev pub fault_text : ConfigFault → List ℕ
 fault_text f = fault_head f ++ codes "\n"
+
+-- the rule and the place alone
+abbrev pub fault_name : ConfigFault → List ℕ
+fault_name f = codes "C" ++ (decimal f.number ++ (codes " " ++ (place_text f.section f.row ++ field_word f.field)))

@@ -1,6 +1,6 @@
 //! The words of the line of a fault.
 ghost use Rattle.std.specs.Prelude.{◌≡◌, string_bytes, IfOk};
-ghost use Rattle.dk_fault_words.specs.FaultWords.{fault_head, fault_text, field_word, place_text};
+ghost use Rattle.dk_fault_words.specs.FaultWords.{fault_head, fault_name, fault_text, field_word, place_text};
 
 use dk_config::{ConfigFault, Field, Section};
 use std::alloc::{AllocError, Global};
@@ -53,6 +53,17 @@ pub fn fault_head(alloc: Global, fault: ConfigFault) -> Result<String, AllocErro
     let place = place.as_str();
     let word = field_word(fault.field);
     format!(in alloc; "config: C{number} {place}{word}")
+}
+
+/// The rule and the place of the fault, as `C6 level 1 period`.
+pub fn fault_name(alloc: Global, fault: ConfigFault) -> Result<String, AllocError>
+    ensures { IfOk result (λ s. string_bytes s ≡ fault_name fault) }
+{
+    let number = fault.number;
+    let place = place_text(alloc, fault.section, fault.row)?;
+    let place = place.as_str();
+    let word = field_word(fault.field);
+    format!(in alloc; "C{number} {place}{word}")
 }
 
 /// The line of the refusal by the fault.

@@ -3,4 +3,4 @@
 
 mod fault_words;
 
-pub use fault_words::{fault_head, fault_text};
+pub use fault_words::{fault_head, fault_name, fault_text};

@@ -5,4 +5,4 @@ use Rattle.dk_config_report.proofs.fault_lines.add_faults.Given as goal
 -- the lines so far, before those of the faults that are left
 abbrev pub invariant-loop-fault : goal.invariant-loop-fault
 invariant-loop-fault l =
-    string_bytes l.text ++ flat_map (fault_line l.config) (drop l.fault-index l.found) ≡ string_bytes l.initial.text ++ flat_map (fault_line l.config) l.found
+    string_bytes l.text ++ flat_map (fault_line l.config l.found) (drop l.fault-index l.found) ≡ string_bytes l.initial.text ++ flat_map (fault_line l.config l.found) l.found
