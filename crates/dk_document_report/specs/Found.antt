@@ -54,11 +54,17 @@ told_unknown f k = record { fault = f; key = k }
 abbrev pub if_unknown : ConfigFault → Bool → List ℕ → List Told
 if_unknown f second k = if is_key f.section second k then [] else (told_unknown f k ∷ [])
 
+-- a test that fails is told, whatever is found of it
+abbrev pub or_itself : ConfigFault → List Told → List Told
+or_itself f [] = told_unknown f [] ∷ []
+or_itself f (t ∷ ts) = t ∷ ts
+
 -- of keys that are unknown each by itself
+abbrev pub keys_told : Members → ConfigFault → List Told
+keys_told ms f = if f.number == 1 then flat_map (if_unknown f (is_second ms)) (keys_in f.section f.row ms) else []
+
 abbrev pub told_of : Members → ConfigFault → List Told
-told_of ms f =
-    if f.number == 1 then flat_map (if_unknown f (is_second ms)) (keys_in f.section f.row ms)
-    else (told_unknown f [] ∷ [])
+told_of ms f = or_itself f (keys_told ms f)
 
 -- each thing that is wrong, of these tests that fail
 abbrev pub told_all : Members → List ConfigFault → List Told

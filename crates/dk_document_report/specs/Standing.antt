@@ -1,13 +1,13 @@
--- Where in a document a thing stands: up to which byte it doesn't, and up to which it does.
-use Rattle.std.specs.Prelude.{ℕ, ◌≡◌, ◌≤◌, ◌<◌, ◌==◌, ◌&&◌, Bool, true, false, is_some, codes, decimal, List, [], ◌++◌, length, take, MatchBool, if◌then◌else◌}
+-- Where in a document a thing stands: in the expression up to whose start it doesn't, and up to whose end it does.
+use Rattle.std.specs.Prelude.{ℕ, ◌≡◌, ◌≤◌, ◌<◌, ◌==◌, ◌&&◌, ◌||◌, Bool, not, true, false, Option, Some, None, is_some, codes, decimal, List, [], ◌++◌, length, take, slice_index, MatchBool, if◌then◌else◌}
 use Rattle.std.specs.Option.{option_map_or}
 use Rattle.toml.specs.Data.{Data, as_table, get_member, Members}
 use Rattle.dk_config.specs.declared.fault.Section.{Section}
 use Rattle.dk_loader.specs.Keys.{key_name}
 use Rattle.dk_loader.specs.Reading.{document}
 use Rattle.dk_document_report.specs.declared.place.Place.{Place}
-use Rattle.dk_document_report.specs.declared.places.Piece.{Piece}
 use Rattle.dk_document_report.specs.declared.places.Search.{Search}
+use Rattle.dk_document_report.specs.Expressions.{IsExpression, is_document, start_of, stop_of}
 use Rattle.dk_document_report.specs.Found.{Told, is_top, row_in}
 use Rattle.dk_document_report.specs.Places.{place_after}
 
@@ -37,25 +37,41 @@ stands_by t bytes = option_map_or (stands t) (document bytes) false
 abbrev pub place_text : Place → List ℕ
 place_text p = codes "line " ++ (decimal p.line ++ (codes " column " ++ (decimal p.column ++ codes ": ")))
 
--- up to the start of this part it doesn't stand yet, and up to its end it does
-pub record IsPieceOf (bytes : List ℕ) (t : Told) (piece : Piece) : Type 0 where
-  pub order : piece.start ≤ piece.stop
-  pub within : piece.stop ≤ length bytes
-  pub before : 0 < piece.start → stands_by t (take piece.start bytes) ≡ false
-  pub after : stands_by t (take piece.stop bytes) ≡ true
+-- What is looked for stands by these bytes; where it is nothing, they are no document.
+abbrev pub is_reached : Option Told → List ℕ → Bool
+is_reached None bytes = not (is_document bytes)
+is_reached (Some t) bytes = stands_by t bytes
 
--- the part so far, and which of so many ends are left
-pub record IsSearch (bytes : List ℕ) (ends : ℕ) (t : Told) (s : Search) : Type 0 where
-  pub is : IsPieceOf bytes t s.piece
-  pub inside : s.high ≤ ends
+-- the expression that brings it
+pub record IsReachedIn (bytes : List ℕ) (sought : Option Told) (start stop : ℕ) : Type 0 where
+  pub is : IsExpression bytes start stop
+  pub before : 0 < start → is_reached sought (take start bytes) ≡ false
+  pub after : is_reached sought (take stop bytes) ≡ true
 
--- the place of a byte of such a part
+-- it is reached with one of these expressions
+pub record IsSearch (bytes ends : List ℕ) (sought : Option Told) (s : Search) : Type 0 where
+  pub order : s.low ≤ s.high
+  pub inside : s.high ≤ length ends
+  pub before : 0 < s.low → is_reached sought (take (start_of ends s.low) bytes) ≡ false
+  pub after : is_reached sought (take (stop_of bytes ends s.high) bytes) ≡ true
+
+abbrev pub is_blank : ℕ → Bool
+is_blank b = ((b == 32 || b == 9) || b == 13) || b == 10
+
+-- only blanks are before it, and it is none
+pub record IsFirstWord (bytes : List ℕ) (start stop at : ℕ) : Type 0 where
+  pub low : start ≤ at
+  pub high : at ≤ stop
+  pub blank : (k : ℕ) → start ≤ k → k < at → is_blank (slice_index bytes k) ≡ true
+  pub word : at < stop → is_blank (slice_index bytes at) ≡ false
+
+-- the place where the expression begins that brings the key, or the row
 pub record IsPlaced (bytes : List ℕ) (t : Told) (text : List ℕ) : Type 0 where
-  pub piece : Piece
+  pub start : ℕ
+  pub stop : ℕ
   pub at : ℕ
-  pub is : IsPieceOf bytes t piece
-  pub low : piece.start ≤ at
-  pub high : at ≤ piece.stop
+  pub is : IsReachedIn bytes (Some t) start stop
+  pub first : IsFirstWord bytes start stop at
   pub whole : text ≡ place_text (place_after (take at bytes))
 
 -- a place where it is asked for and there is one, and else none

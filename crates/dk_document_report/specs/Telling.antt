@@ -1,5 +1,6 @@
 -- What is told of a document.
-use Rattle.std.specs.Prelude.{ℕ, ◌≡◌, ◌≤◌, nat_lt, Bool, List, ◌++◌, length, take, codes, decimal, slice_get, Some, Result, Ok, Err}
+use Rattle.std.specs.Prelude.{ℕ, ◌≡◌, ◌≤◌, ◌<◌, nat_lt, Bool, false, List, ◌++◌, length, take, codes, decimal, slice_get, Some, None, Result, Ok, Err}
+use Rattle.std.specs.List.{list_any}
 use Rattle.toml.specs.Data.{Members}
 use Rattle.dk_config.specs.Configuration.{Configuration}
 use Rattle.dk_loader.specs.declared.fault.LoadFault.{LoadFault}
@@ -11,20 +12,30 @@ use Rattle.dk_config_report.specs.Pages.{AreLines}
 use Rattle.dk_document_report.specs.declared.place.Place.{Place}
 use Rattle.dk_document_report.specs.Places.{place_after}
 use Rattle.dk_document_report.specs.Found.{Told, told_all}
-use Rattle.dk_document_report.specs.Reasons.{told_text}
-use Rattle.dk_document_report.specs.Standing.{IsPlaceText}
+use Rattle.dk_document_report.specs.Reasons.{is_control, told_text}
+use Rattle.dk_document_report.specs.Standing.{IsPlaceText, IsReachedIn}
 
 abbrev pub not_toml_text : Place → List ℕ → List ℕ
 not_toml_text p message = codes "config: not TOML: line "
     ++ (decimal p.line
     ++ (codes " column " ++ (decimal p.column ++ (codes ": " ++ (message ++ codes "\nfaults 1\n")))))
 
--- the reader's own message, and the place of a byte of the document where it stopped
+-- a message that fits on the line
+pub record IsMessage (message : List ℕ) : Type 0 where
+  pub some : 0 < length message
+  pub one_line : list_any is_control message ≡ false
+
+-- why it isn't, and a place in the expression with which the bytes are no document any more
 pub record IsNotTomlText (bytes text : List ℕ) : Type 0 where
   pub start : ℕ
+  pub stop : ℕ
+  pub at : ℕ
   pub message : List ℕ
-  pub within : start ≤ length bytes
-  pub whole : text ≡ not_toml_text (place_after (take start bytes)) message
+  pub is : IsReachedIn bytes None start stop
+  pub low : start ≤ at
+  pub high : at ≤ stop
+  pub fits : IsMessage message
+  pub whole : text ≡ not_toml_text (place_after (take at bytes)) message
 
 -- what is wrong, with its place
 pub record IsToldLine (bytes : List ℕ) (ms : Members) (asked : Bool) (t : Told) (line : List ℕ) : Type 0 where

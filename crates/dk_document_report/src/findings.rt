@@ -3,7 +3,7 @@ ghost use Rattle.std.specs.Prelude.{◌≡◌, ◌++◌, [], ◌∷◌, flat_map
 ghost use Rattle.std.specs.BTreeMap.{keys};
 ghost use Rattle.toml.specs.View.{table_view};
 ghost use Rattle.dk_loader.specs.Look.{keys_of};
-ghost use Rattle.dk_document_report.specs.Found.{if_unknown, told_all, told_of, told_unknown};
+ghost use Rattle.dk_document_report.specs.Found.{if_unknown, keys_told, told_all, told_of, told_unknown};
 
 use crate::looks::{is_key, is_second, table_in};
 use dk_config::{ConfigFault, NoMemory};
@@ -93,6 +93,24 @@ fn add_unknown(
     Ok(())
 }
 
+/// The keys that are unknown, of a test for these.
+fn add_keys(
+    alloc: Global,
+    found: &mut Vec<Finding>,
+    table: &Table,
+    fault: ConfigFault,
+) -> Result<(), NoMemory>
+    ensures { OnOk result (found.new.items ≡ found.old.items ++ keys_told (table_view table.now) fault) }
+{
+    if fault.number != 1 {
+        return Ok(());
+    }
+    match table_in(table, fault.section, fault.row) {
+        Some(section) => add_unknown(alloc, found, fault, is_second(table), section),
+        None => Ok(()),
+    }
+}
+
 /// What a test that fails has found.
 fn add_finding(
     alloc: Global,
@@ -102,13 +120,12 @@ fn add_finding(
 ) -> Result<(), NoMemory>
     ensures { OnOk result (found.new.items ≡ found.old.items ++ told_of (table_view table.now) fault) }
 {
-    if fault.number != 1 {
-        return add(alloc, found, fault, "");
+    let before = found.len();
+    add_keys(alloc, found, table, fault)?;
+    if found.len() == before {
+        add(alloc, found, fault, "")?;
     }
-    match table_in(table, fault.section, fault.row) {
-        Some(section) => add_unknown(alloc, found, fault, is_second(table), section),
-        None => Ok(()),
-    }
+    Ok(())
 }
 
 /// Each thing that is wrong, of the tests that fail: of keys that are unknown each by itself.

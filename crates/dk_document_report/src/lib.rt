@@ -3,6 +3,7 @@
 
 mod findings;
 mod kinds;
+mod laws;
 mod looks;
 mod marks;
 mod place;
@@ -12,4 +13,5 @@ mod reasons;
 mod shape;
 mod telling;
 
+pub use laws::tells_none_law;
 pub use telling::document_faults;

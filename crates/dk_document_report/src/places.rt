@@ -1,14 +1,15 @@
 //! Where in a document a thing stands.
-ghost use Rattle.std.specs.Prelude.{◌≡◌, ◌≤◌, ◌<◌, ◌-◌, ◌&&◌, length, string_bytes, true, IfOk, Some};
+ghost use Rattle.std.specs.Prelude.{◌≡◌, ◌≤◌, ◌<◌, ◌-◌, ◌&&◌, length, option_map, string_bytes, true, IfOk, Some};
 ghost use Rattle.toml.specs.View.{table_view, view};
 ghost use Rattle.dk_config.specs.declared.TheConstants.{MAX_CONFIG_BYTES};
 ghost use Rattle.dk_loader.specs.Reading.{document};
-ghost use Rattle.dk_document_report.specs.Standing.{IsPieceOf, IsPlaceText, IsPlaced, IsSearch, key_stands, place_text, row_has, stands, stands_by, told_key};
+ghost use Rattle.dk_document_report.specs.Expressions.{AreEnds, start_of, stop_of};
+ghost use Rattle.dk_document_report.specs.Standing.{IsFirstWord, IsPlaceText, IsPlaced, IsReachedIn, IsSearch, is_blank, is_reached, key_stands, place_text, row_has, stands, stands_by, told_key};
 
 use crate::findings::Finding;
 use crate::looks::{find, is_top, key_name, row_in};
 use crate::place::{Place, place_after};
-use crate::reading::table_of;
+use crate::reading::{is_document, table_of};
 use dk_config::{NoMemory, Section};
 use std::alloc::{AllocError, Global};
 use toml::{Table, Value};
@@ -65,96 +66,107 @@ fn stands_by(alloc: Global, bytes: &[u8], told: &Finding) -> Result<bool, NoMemo
     }
 }
 
-/// A part of a document: up to its start a thing doesn't stand yet, and up to its end it does.
+/// Whether what is looked for stands by these bytes; where it is nothing, whether they are no document.
+fn is_reached(alloc: Global, bytes: &[u8], sought: Option<&Finding>) -> Result<bool, NoMemory>
+    ensures { IfOk result (λ found. found ≡ is_reached (option_map (λ t. t.now) sought.entry) bytes.now) }
+{
+    match sought {
+        Some(told) => stands_by(alloc, bytes, told),
+        None => Ok(!is_document(alloc, bytes)?),
+    }
+}
+
+/// A part of a document, its first byte and the first one behind it.
 #[derive(Clone, Copy)]
 pub struct Piece {
     pub start: usize,
     pub stop: usize,
 }
 
-/// A search for the least part between two ends of expressions: of the ends from `low` to before `high` it isn't known.
+/// A search for an expression, from number `low` up to `high`.
 #[derive(Clone, Copy)]
 pub struct Search {
-    pub piece: Piece,
     pub low: usize,
     pub high: usize,
 }
 
-/// The search with at most half of the ends left. One out of order ends it.
+/// The search with at most half of the expressions left.
 fn halved(
     alloc: Global,
     bytes: &[u8],
     ends: &[usize],
-    told: &Finding,
+    sought: Option<&Finding>,
     search: Search,
 ) -> Result<Search, NoMemory>
-    requires search { IsSearch bytes.now (length ends.now) told.now search }
+    requires ends { AreEnds bytes.now ends.now }
+    requires search { IsSearch bytes.now ends.now (option_map (λ t. t.now) sought) search }
     requires left { search.low < search.high }
-    ensures search { IfOk result (IsSearch bytes.now (length ends.now) told.now) }
+    ensures search { IfOk result (IsSearch bytes.now ends.now (option_map (λ t. t.now) sought.entry)) }
     ensures less { IfOk result (λ s. s.high - s.low < search.high - search.low) }
 {
-    let Search { piece, low, high } = search;
+    let Search { low, high } = search;
     let middle = low + (high - low) / 2;
-    let at = ends[middle];
-    if at < piece.start || at > piece.stop {
-        return Ok(Search {
-            piece,
-            low: high,
-            high,
-        });
+    let stop = ends[middle];
+    if is_reached(alloc, &bytes[..stop], sought)? {
+        return Ok(Search { low, high: middle });
     }
-    if stands_by(alloc, &bytes[..at], told)? {
-        let piece = Piece {
-            start: piece.start,
-            stop: at,
-        };
-        return Ok(Search {
-            piece,
-            low,
-            high: middle,
-        });
-    }
-    let piece = Piece {
-        start: at,
-        stop: piece.stop,
-    };
     Ok(Search {
-        piece,
         low: middle + 1,
         high,
     })
 }
 
-/// The least part between two of these ends, as far as they are in order.
-fn piece_of(alloc: Global, bytes: &[u8], ends: &[usize], told: &Finding) -> Result<Piece, NoMemory>
-    requires stands { stands_by told.now bytes.now ≡ true }
-    ensures { IfOk result (IsPieceOf bytes.now told.now) }
+/// Where expression `k` starts, by the ends of all but the last.
+fn start_at(ends: &[usize], k: usize) -> usize
+    requires { k ≤ length ends.now }
+    ensures { result ≡ start_of ends.now k }
 {
-    let piece = Piece {
-        start: 0,
-        stop: bytes.len(),
-    };
+    if k == 0 { 0 } else { ends[k - 1] }
+}
+
+/// Where expression `k` ends.
+fn stop_at(bytes: &[u8], ends: &[usize], k: usize) -> usize
+    requires { k ≤ length ends.now }
+    ensures { result ≡ stop_of bytes.now ends.now k }
+{
+    if k < ends.len() { ends[k] } else { bytes.len() }
+}
+
+/// The expression that brings what is looked for.
+pub(crate) fn piece_of(
+    alloc: Global,
+    bytes: &[u8],
+    ends: &[usize],
+    sought: Option<&Finding>,
+) -> Result<Piece, NoMemory>
+    requires ends { AreEnds bytes.now ends.now }
+    requires reached { is_reached (option_map (λ t. t.now) sought) bytes.now ≡ true }
+    ensures { IfOk result (λ p. IsReachedIn bytes.now (option_map (λ t. t.now) sought.entry) p.start p.stop) }
+{
     let mut search = Search {
-        piece,
         low: 0,
         high: ends.len(),
     };
     while search.low < search.high {
-        search = halved(alloc, bytes, ends, told, search)?;
+        search = halved(alloc, bytes, ends, sought, search)?;
     }
-    Ok(search.piece)
+    Ok(Piece {
+        start: start_at(ends, search.low),
+        stop: stop_at(bytes, ends, search.low),
+    })
 }
 
-fn is_blank(byte: u8) -> bool {
-    matches!(byte, b' ' | b'\t' | b'\r' | b'\n')
+fn is_blank(byte: u8) -> bool
+    ensures { result ≡ is_blank byte }
+{
+    byte == b' ' || byte == b'\t' || byte == b'\r' || byte == b'\n'
 }
 
 /// The first byte of a part that is no blank.
 fn first_word(bytes: &[u8], piece: Piece) -> usize
     requires order { piece.start ≤ piece.stop }
     requires within { piece.stop ≤ length bytes.now }
-    ensures low { piece.start ≤ result }
-    ensures high { result ≤ piece.stop }
+    ensures { IsFirstWord bytes.now piece.start piece.stop result }
 {
     for i in piece.start..piece.stop {
         if !is_blank(bytes[i]) {
@@ -179,10 +191,11 @@ fn found_place(
     told: &Finding,
 ) -> Result<String, NoMemory>
     requires few { length bytes.now ≤ MAX_CONFIG_BYTES }
+    requires ends { AreEnds bytes.now ends.now }
     requires stands { stands_by told.now bytes.now ≡ true }
     ensures { IfOk result (λ s. IsPlaced bytes.now told.now (string_bytes s)) }
 {
-    let piece = piece_of(alloc, bytes, ends, told)?;
+    let piece = piece_of(alloc, bytes, ends, Some(told))?;
     let at = first_word(bytes, piece);
     let place = place_after(&bytes[..at]);
     Ok(place_text(alloc, place)?)
@@ -205,6 +218,7 @@ pub(crate) fn place_of(
 ) -> Result<String, NoMemory>
     requires few { length bytes.now ≤ MAX_CONFIG_BYTES }
     requires read { document bytes.now ≡ Some (table_view table.now) }
+    requires ends { AreEnds bytes.now ends.now }
     ensures { IfOk result (λ s. IsPlaceText bytes.now (table_view table.now) asked told.now (string_bytes s)) }
 {
     if !has_place(table, asked, told) {

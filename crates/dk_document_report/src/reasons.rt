@@ -19,7 +19,7 @@ fn is_control(byte: u8) -> bool
     byte < 32 || byte == 127
 }
 
-fn has_control(bytes: &[u8]) -> bool
+pub(crate) fn has_control(bytes: &[u8]) -> bool
     ensures { result ≡ list_any is_control bytes.now }
 {
     bytes.iter().any(|b| is_control(*b))

@@ -6,6 +6,7 @@ ghost use Rattle.dk_config_report.specs.FaultLines.{count_line};
 ghost use Rattle.dk_config_report.specs.Pages.{AddsLines};
 ghost use Rattle.dk_loader.specs.Reading.{document};
 ghost use Rattle.dk_loader.specs.ShapeFaults.{shape_faults};
+ghost use Rattle.dk_document_report.specs.Expressions.{AreEnds};
 ghost use Rattle.dk_document_report.specs.Telling.{IsLineAt, IsShapeText, IsTextOf, IsToldLine};
 
 use crate::findings::{Finding, findings};
@@ -32,6 +33,7 @@ fn told_line(
 ) -> Result<String, NoMemory>
     requires few { length bytes.now ≤ MAX_CONFIG_BYTES }
     requires read { document bytes.now ≡ Some (table_view table.now) }
+    requires ends { AreEnds bytes.now ends.now }
     ensures { IfOk result (λ s. IsToldLine bytes.now (table_view table.now) asked told.now (string_bytes s)) }
 {
     let place = place_of(alloc, bytes, table, ends, asked, told)?;
@@ -48,6 +50,7 @@ fn add_lines(
 ) -> Result<(), NoMemory>
     requires few { length bytes.now ≤ MAX_CONFIG_BYTES }
     requires read { document bytes.now ≡ Some (table_view table.now) }
+    requires ends { AreEnds bytes.now ends.now }
     ensures { OnOk result (AddsLines (IsLineAt bytes.now (table_view table.now) found.now) (length found.now) (string_bytes text.old) (string_bytes text.new)) }
 {
     for (i, told) in found.iter().enumerate() {

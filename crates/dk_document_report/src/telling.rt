@@ -1,9 +1,14 @@
 //! What is told of a document.
-ghost use Rattle.std.specs.Prelude.{◌≡◌, ◌≤◌, IfOk, length, string_bytes};
+ghost use Rattle.std.specs.Prelude.{◌≡◌, ◌≤◌, IfOk, false, length, string_bytes};
 ghost use Rattle.dk_config.specs.declared.TheConstants.{MAX_CONFIG_BYTES};
-ghost use Rattle.dk_document_report.specs.Telling.{IsNotTomlText, Tells, not_toml_text};
+ghost use Rattle.dk_document_report.specs.Expressions.{is_document};
+ghost use Rattle.dk_document_report.specs.Telling.{IsMessage, IsNotTomlText, Tells, not_toml_text};
 
+use crate::marks::ends_of_expressions;
 use crate::place::{Place, place_after};
+use crate::places::piece_of;
+use crate::reading::is_document;
+use crate::reasons::has_control;
 use crate::shape::shape_page;
 use dk_config::{MAX_CONFIG_BYTES, NoMemory};
 use dk_config_report::{Page, faults};
@@ -18,13 +23,33 @@ fn not_toml_line(alloc: Global, place: Place, message: &str) -> Result<String, A
     format!(in alloc; "config: not TOML: line {line} column {column}: {message}\nfaults 1\n")
 }
 
-fn place_page(alloc: Global, bytes: &[u8], start: usize, message: &str) -> Result<Page, NoMemory>
+/// The reader's message, where it fits on the line.
+fn shown_message(message: &str) -> &str
+    ensures { IsMessage result.now }
+{
+    if message.is_empty() || has_control(message.as_bytes()) {
+        "it can't be read"
+    } else {
+        message
+    }
+}
+
+/// The line of a document that isn't TOML: the place is that at which the reader stopped, in the expression at fault.
+fn stopped_page(
+    alloc: Global,
+    bytes: &[u8],
+    stopped: usize,
+    message: &str,
+) -> Result<Page, NoMemory>
     requires few { length bytes.now ≤ MAX_CONFIG_BYTES }
-    requires within { start ≤ length bytes.now }
+    requires refused { is_document bytes.now ≡ false }
     ensures { IfOk result (λ page. IsNotTomlText bytes.now page) }
 {
-    let place = place_after(&bytes[..start]);
-    Ok(Page::new(not_toml_line(alloc, place, message)?))
+    let ends = ends_of_expressions(alloc, bytes)?;
+    let piece = piece_of(alloc, bytes, ends.as_slice(), None)?;
+    let at = stopped.max(piece.start).min(piece.stop);
+    let place = place_after(&bytes[..at]);
+    Ok(Page::new(not_toml_line(alloc, place, shown_message(message))?))
 }
 
 /// The line of a document that isn't TOML.
@@ -32,13 +57,16 @@ fn not_toml(alloc: Global, bytes: &[u8]) -> Result<Page, NoMemory>
     requires few { length bytes.now ≤ MAX_CONFIG_BYTES }
     ensures { IfOk result (λ page. IsNotTomlText bytes.now page) }
 {
+    // The reader has just refused it.
+    if is_document(alloc, bytes)? {
+        return Err(NoMemory);
+    }
     let error = match toml::de::table_from_slice(alloc, bytes) {
-        // The reader has just refused it.
         Ok(_) => return Err(NoMemory),
         Err(error) => error,
     };
     match error.span() {
-        Some(span) => place_page(alloc, bytes, span.start, error.message()),
+        Some(span) => stopped_page(alloc, bytes, span.start, error.message()),
         None => Err(NoMemory),
     }
 }
