@@ -12,7 +12,7 @@ use Rattle.dk_trace.proofs.Windows.{mod-next}
 use Rattle.dk_window_report.specs.declared.row.Did.{Did}
 use Rattle.dk_window_report.specs.declared.row.WindowCounts.{WindowCounts}
 use Rattle.dk_window_report.specs.declared.row.Row.{Row}
-use Rattle.dk_window_report.specs.Rows.{raised, raised_if, did_with, lesser, counts_with, nothing_done, ended, filled, stepped}
+use Rattle.dk_window_report.specs.Rows.{raised, raised_if, did_with, lesser, first_with, counts_with, nothing_done, ended, filled, stepped}
 use Rattle.dk_window_report.specs.Late.{nobody, passed, windows_before, idled, after}
 use Rattle.dk_window_report.proofs.Steps.{did-equal, counts-equal, row-equal, div-same, div-more}
 
@@ -120,16 +120,20 @@ lesser-none w n = go (w == 0)
     go true = refl
     go false = omega arith
 
+-- a window in which it did nothing isn't one that it overran
+first-none : (c : WindowCounts) → first_with c nothing_done ≡ c.first_overran
+first-none c = ap (λ b. if b then raised c.windows else c.first_overran) (and-false (c.first_overran == 0))
+
 -- one window more in which it did nothing
 idle-more : (gone : Bool) (n : ℕ) (c : WindowCounts) → counts_with gone (idled gone n c) nothing_done ≡ idled gone (suc n) c
 idle-more true zero c = refl
 idle-more true (suc n) c = refl
 idle-more false zero c =
-    counts-equal (counts_with false c nothing_done) (idled false 1 c) (omega arith) refl refl refl
+    counts-equal (counts_with false c nothing_done) (idled false 1 c) (omega arith) refl refl refl (first-none c)
     (lesser-none c.windows c.least_used) (omega arith) (lesser-none c.windows c.first_done) (omega arith)
 idle-more false (suc n) c =
     let k = idled false (suc n) c in
-    counts-equal (counts_with false k nothing_done) (idled false (suc (suc n)) c) (omega arith) refl refl refl
+    counts-equal (counts_with false k nothing_done) (idled false (suc (suc n)) c) (omega arith) refl refl refl (first-none k)
     (lesser-none k.windows 0) (omega arith) (lesser-none k.windows 0) (omega arith)
 
 after-more : (n : ℕ) (r : Row) → ended (after n r) (after n r).did ≡ after (suc n) r

@@ -1,5 +1,7 @@
 pub mod OnOk
 pub mod Steps
+pub mod Befallen
+pub mod Lines
 pub mod Idle
 pub mod Found
 pub mod Stepping

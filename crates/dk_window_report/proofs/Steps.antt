@@ -1,6 +1,6 @@
 -- What one more entry makes of what is kept of a thread.
 use Rattle.std.proofs.Common.{ℕ, zero, suc, ◌≡◌, ◌≢◌, ◌+◌, ◌-◌, ◌*◌, ◌/◌, ◌%◌, ◌<◌, ◌≤◌, inl, inr, ◌∙◌, refl, sym, ap, subst, zero-add, arith, Bool, true, false, cond, List, [], ◌∷◌, ◌++◌, length, map, take, drop}
-use Rattle.std.specs.Prelude.{◌==◌, ◌||◌, min, max, if◌then◌else◌, count_by}
+use Rattle.std.specs.Prelude.{◌==◌, ◌||◌, ◌&&◌, min, max, if◌then◌else◌, count_by}
 use Rattle.std.specs.List.{list_any}
 use Rattle.std.proofs.lemmas.List.{length-take-le, map-append, length-map, length_push}
 use Rattle.std.proofs.lemmas.List.Folds.{list_any-append}
@@ -18,12 +18,12 @@ use Rattle.dk_trace.proofs.Windows.{mod-next, count_by-cons, take-newest}
 use Rattle.dk_window_report.specs.declared.row.Did.{Did}
 use Rattle.dk_window_report.specs.declared.row.WindowCounts.{WindowCounts}
 use Rattle.dk_window_report.specs.declared.row.Row.{Row}
-use Rattle.dk_window_report.specs.Windows.{window_at, ended_windows, present_window, done_in, did_in, is_overrun, unstopped, once, stopped_once, until_stopped, least_from, least, counts_of}
+use Rattle.dk_window_report.specs.Windows.{window_at, ended_windows, present_window, done_in, did_in, is_overrun, first_overrun, first_overrun_from, unstopped, once, stopped_once, until_stopped, least_from, least, counts_of}
 use Rattle.dk_window_report.specs.Owners.{Owner, own_entries}
 use Rattle.dk_window_report.specs.Rows.{raised, raised_if, did_with, lesser, counts_with, ended, stepped_at, stepped, row_of, nothing_done}
 
 abbrev pub no_counts : WindowCounts
-no_counts = record { windows = 0; waited = 0; stopped = 0; overran = 0; least_used = 0; most_used = 0; first_done = 0; last_done = 0 }
+no_counts = record { windows = 0; waited = 0; stopped = 0; overran = 0; first_overran = 0; least_used = 0; most_used = 0; first_done = 0; last_done = 0 }
 
 abbrev pub no_row : Row
 no_row = record { thread = record { process = 0; serial = 0 }; period = 0; since = 0; did = nothing_done; counts = no_counts; gone = false }
@@ -173,17 +173,38 @@ greatest-more : {A : Type 0} (f : A → ℕ) (xs : List A) (x : A) → greatest 
 greatest-more f [] x = omega arith
 greatest-more f (y ∷ xs) x = let rest = greatest-more f xs x in omega (arith, rest)
 
-pub counts-equal : (a b : WindowCounts) → a.windows ≡ b.windows → a.waited ≡ b.waited → a.stopped ≡ b.stopped → a.overran ≡ b.overran
+pub counts-equal : (a b : WindowCounts) → a.windows ≡ b.windows → a.waited ≡ b.waited → a.stopped ≡ b.stopped → a.overran ≡ b.overran → a.first_overran ≡ b.first_overran
     → a.least_used ≡ b.least_used → a.most_used ≡ b.most_used → a.first_done ≡ b.first_done → a.last_done ≡ b.last_done → a ≡ b
-counts-equal a b e0 e1 e2 e3 e4 e5 e6 e7 =
-    ap (λ x. record { windows = x; waited = a.waited; stopped = a.stopped; overran = a.overran; least_used = a.least_used; most_used = a.most_used; first_done = a.first_done; last_done = a.last_done }) e0
-    ∙ ap (λ x. record { windows = b.windows; waited = x; stopped = a.stopped; overran = a.overran; least_used = a.least_used; most_used = a.most_used; first_done = a.first_done; last_done = a.last_done }) e1
-    ∙ ap (λ x. record { windows = b.windows; waited = b.waited; stopped = x; overran = a.overran; least_used = a.least_used; most_used = a.most_used; first_done = a.first_done; last_done = a.last_done }) e2
-    ∙ ap (λ x. record { windows = b.windows; waited = b.waited; stopped = b.stopped; overran = x; least_used = a.least_used; most_used = a.most_used; first_done = a.first_done; last_done = a.last_done }) e3
-    ∙ ap (λ x. record { windows = b.windows; waited = b.waited; stopped = b.stopped; overran = b.overran; least_used = x; most_used = a.most_used; first_done = a.first_done; last_done = a.last_done }) e4
-    ∙ ap (λ x. record { windows = b.windows; waited = b.waited; stopped = b.stopped; overran = b.overran; least_used = b.least_used; most_used = x; first_done = a.first_done; last_done = a.last_done }) e5
-    ∙ ap (λ x. record { windows = b.windows; waited = b.waited; stopped = b.stopped; overran = b.overran; least_used = b.least_used; most_used = b.most_used; first_done = x; last_done = a.last_done }) e6
-    ∙ ap (λ x. record { windows = b.windows; waited = b.waited; stopped = b.stopped; overran = b.overran; least_used = b.least_used; most_used = b.most_used; first_done = b.first_done; last_done = x }) e7
+counts-equal a b e0 e1 e2 e3 e4 e5 e6 e7 e8 =
+    ap (λ x. record { windows = x; waited = a.waited; stopped = a.stopped; overran = a.overran; first_overran = a.first_overran; least_used = a.least_used; most_used = a.most_used; first_done = a.first_done; last_done = a.last_done }) e0
+    ∙ ap (λ x. record { windows = b.windows; waited = x; stopped = a.stopped; overran = a.overran; first_overran = a.first_overran; least_used = a.least_used; most_used = a.most_used; first_done = a.first_done; last_done = a.last_done }) e1
+    ∙ ap (λ x. record { windows = b.windows; waited = b.waited; stopped = x; overran = a.overran; first_overran = a.first_overran; least_used = a.least_used; most_used = a.most_used; first_done = a.first_done; last_done = a.last_done }) e2
+    ∙ ap (λ x. record { windows = b.windows; waited = b.waited; stopped = b.stopped; overran = x; first_overran = a.first_overran; least_used = a.least_used; most_used = a.most_used; first_done = a.first_done; last_done = a.last_done }) e3
+    ∙ ap (λ x. record { windows = b.windows; waited = b.waited; stopped = b.stopped; overran = b.overran; first_overran = x; least_used = a.least_used; most_used = a.most_used; first_done = a.first_done; last_done = a.last_done }) e4
+    ∙ ap (λ x. record { windows = b.windows; waited = b.waited; stopped = b.stopped; overran = b.overran; first_overran = b.first_overran; least_used = x; most_used = a.most_used; first_done = a.first_done; last_done = a.last_done }) e5
+    ∙ ap (λ x. record { windows = b.windows; waited = b.waited; stopped = b.stopped; overran = b.overran; first_overran = b.first_overran; least_used = b.least_used; most_used = x; first_done = a.first_done; last_done = a.last_done }) e6
+    ∙ ap (λ x. record { windows = b.windows; waited = b.waited; stopped = b.stopped; overran = b.overran; first_overran = b.first_overran; least_used = b.least_used; most_used = b.most_used; first_done = x; last_done = a.last_done }) e7
+    ∙ ap (λ x. record { windows = b.windows; waited = b.waited; stopped = b.stopped; overran = b.overran; first_overran = b.first_overran; least_used = b.least_used; most_used = b.most_used; first_done = b.first_done; last_done = x }) e8
+
+-- the first of those that overran, with one more
+first-if : (b : Bool) (k n : ℕ) (ds : List Did) (d : Did) → 0 < k → first_overrun_from (k + 1) (ds ++ d ∷ []) ≡ (if (first_overrun_from (k + 1) ds == 0) && is_overrun d then k + 1 + length ds else first_overrun_from (k + 1) ds)
+    → (if b then k else first_overrun_from (k + 1) (ds ++ d ∷ []))
+    ≡ (if ((if b then k else first_overrun_from (k + 1) ds) == 0) && is_overrun d then k + suc (length ds) else (if b then k else first_overrun_from (k + 1) ds))
+first-if true k n ds d some h = sym (ap (λ t. if t && is_overrun d then k + suc (length ds) else k) (ne_eqb k 0 (λ is. omega (arith, is, some))))
+first-if false k n ds d some h =
+    let size : k + 1 + length ds ≡ k + suc (length ds) = omega arith in
+    h ∙ ap (λ m. if (first_overrun_from (k + 1) ds == 0) && is_overrun d then m else first_overrun_from (k + 1) ds) size
+
+first-from-more : (k : ℕ) (ds : List Did) (d : Did) → 0 < k
+    → first_overrun_from k (ds ++ d ∷ []) ≡ (if (first_overrun_from k ds == 0) && is_overrun d then k + length ds else first_overrun_from k ds)
+first-from-more k [] d some = let same : k ≡ k + 0 = omega arith in ap (λ m. if is_overrun d then m else 0) same
+first-from-more k (y ∷ ds) d some = first-if (is_overrun y) k 0 ds d some (first-from-more (k + 1) ds d (omega arith))
+
+first-more : (ds : List Did) (d : Did) → length ds < 4294967295
+    → first_overrun (ds ++ d ∷ []) ≡ (if (first_overrun ds == 0) && is_overrun d then raised (length ds) else first_overrun ds)
+first-more ds d few =
+    let size : 1 + length ds ≡ raised (length ds) = omega (arith, few) in
+    first-from-more 1 ds d (omega arith) ∙ ap (λ m. if (first_overrun ds == 0) && is_overrun d then m else first_overrun ds) size
 
 -- whether a window before was the one of the stop
 abbrev pub is_gone : List Did → Bool
@@ -267,6 +288,7 @@ counts-with-one ds d few =
     (count-raised (λ (y : Did). y.waited) ds d few)
     (count-raised (λ (y : Did). y.stopped) ds d few)
     (count-raised is_overrun ds d few)
+    (lived-more first_overrun ds d _ (first-more ls d (omega (arith, most, few))))
     (lived-more (λ (xs : List Did). least (map (λ (y : Did). y.used) xs)) ds d _ (least-more (λ (y : Did). y.used) ls d))
     (lived-more (λ (xs : List Did). greatest (map (λ (y : Did). y.used) xs)) ds d _ (greatest-more (λ (y : Did). y.used) ls d))
     (lived-more (λ (xs : List Did). least (map (λ (y : Did). y.done) xs)) ds d _ (least-more (λ (y : Did). y.done) ls d))

@@ -13,6 +13,8 @@ use Rattle.dk_ledger.proofs.EntryLists.{next_turn}
 use Rattle.dk_window_report.specs.Windows.{did_in, counts_of, once, stopped_once, window_at}
 use Rattle.dk_window_report.specs.Owners.{Owner, owners, mains, main_owner, made_of, made_in, child_owner}
 use Rattle.dk_window_report.specs.Rows.{stepped, row_of, rows_of, new_row, Kept, IsKeptOf, kept_with, is_trouble}
+use Rattle.dk_window_report.specs.Accounts.{accounts_of, accounts_with}
+use Rattle.dk_window_report.proofs.Befallen.{accounts-next}
 use Rattle.dk_window_report.proofs.Steps.{row_with, row-next, row-equal, is_gone, numbers-more}
 use Rattle.dk_config.specs.Sums.{below}
 
@@ -71,6 +73,7 @@ kept-next h past e k few is =
           ∙ ap (λ rs. rs ++ map new_row made) (rows-next os e past few)
           ∙ ap (λ rs. map (row_of (e ∷ past)) os ++ rs) (new-in h (length past) (thread_of e.label) e.event (e ∷ past) refl)
           ∙ sym (map-append (row_of (e ∷ past)) os made);
+      accounts = ap (accounts_with k.ticks e) is.accounts ∙ ap (λ n. accounts_with n e (accounts_of h past)) is.ticks ∙ accounts-next h e past few;
       ticks = let before = is.ticks in omega (arith, before);
       troubled = ap (λ b. has_event is_trouble e || b) is.troubled;
     }

@@ -1,8 +1,10 @@
 pub mod Windows
 pub mod Owners
+pub mod Accounts
 pub mod Rows
 pub mod Late
 pub mod Touched
 pub mod Text
+pub mod Firsts
 pub mod Report
 pub mod Overruns

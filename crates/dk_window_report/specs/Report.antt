@@ -9,6 +9,7 @@ use Rattle.dk_ledger.specs.ReadSoFar.{Reading, HasRead, HasReadAll}
 use Rattle.dk_window_report.specs.declared.row.Row.{Row}
 use Rattle.dk_window_report.specs.Rows.{Kept, IsKeptOf}
 use Rattle.dk_window_report.specs.Text.{thread_body, overruns_body}
+use Rattle.dk_window_report.specs.Firsts.{firsts_by, is_clean_by, reasons_by}
 
 -- The reader has just read this line behind these entries, or there is none, and they are all.
 abbrev pub ComesNext : List ℕ → List Entry → Option LedgerLine → Reading → Type 0
@@ -36,3 +37,14 @@ kept_text h k = flat_map (row_line h) k.rows ++ ended (overruns_body (overruns_i
 
 abbrev pub is_kept_clean : Kept → Bool
 is_kept_clean k = (overruns_in k.rows == 0) && not k.troubled
+
+-- ---- when first, and why it isn't clean
+
+abbrev pub kept_firsts : Heading → Kept → List ℕ
+kept_firsts h k = firsts_by h k.rows k.accounts
+
+abbrev pub kept_reasons : Bool → Heading → Kept → List ℕ
+kept_reasons sparing h k = reasons_by sparing h k.rows k.accounts
+
+abbrev pub is_kept_strictly_clean : Bool → Kept → Bool
+is_kept_strictly_clean sparing k = is_clean_by sparing k.rows k.accounts k.troubled

@@ -1,5 +1,5 @@
 -- What is kept of a thread while a ledger is read.
-use Rattle.std.specs.Prelude.{ℕ, ◌≡◌, ◌+◌, ◌-◌, ◌%◌, ◌==◌, ◌||◌, ◌&&◌, not, Bool, true, false, nat_lt, min, max, if◌then◌else◌, List, ◌++◌, length, map}
+use Rattle.std.specs.Prelude.{ℕ, ◌≡◌, ◌<◌, ◌+◌, ◌-◌, ◌%◌, ◌==◌, ◌||◌, ◌&&◌, not, Bool, true, false, nat_lt, min, max, if◌then◌else◌, List, [], ◌∷◌, ◌++◌, length, map}
 use Rattle.std.specs.List.{list_any}
 use Rattle.dk_trace.specs.declared.ThreadId.{ThreadId}
 use Rattle.dk_trace.specs.declared.Event.{Event}
@@ -9,6 +9,8 @@ use Rattle.dk_ledger.specs.Heading.{Heading}
 use Rattle.dk_window_report.specs.declared.row.Did.{Did}
 use Rattle.dk_window_report.specs.declared.row.WindowCounts.{WindowCounts}
 use Rattle.dk_window_report.specs.declared.row.Row.{Row}
+use Rattle.dk_window_report.specs.declared.account.Account.{Account}
+use Rattle.dk_window_report.specs.Accounts.{accounts_of, accounts_with}
 use Rattle.dk_window_report.specs.Windows.{present_window, did_in, is_overrun, once}
 use Rattle.dk_window_report.specs.Owners.{Owner, owners, own_entries, made_in, did_of, numbers_of}
 
@@ -33,6 +35,10 @@ did_with gone x e ticks d = record {
 abbrev pub lesser : ℕ → ℕ → ℕ → ℕ
 lesser windows m n = if windows == 0 then n else min m n
 
+-- the first window that it overran, with one more
+abbrev pub first_with : WindowCounts → Did → ℕ
+first_with c d = if (c.first_overran == 0) && is_overrun d then raised c.windows else c.first_overran
+
 -- the numbers with one more window, where the thread may have been stopped before
 abbrev pub counts_with : Bool → WindowCounts → Did → WindowCounts
 counts_with gone c d = record {
@@ -40,6 +46,7 @@ counts_with gone c d = record {
   waited = raised_if d.waited c.waited;
   stopped = raised_if d.stopped c.stopped;
   overran = raised_if (is_overrun d) c.overran;
+  first_overran = if gone then c.first_overran else first_with c d;
   least_used = if gone then c.least_used else lesser c.windows c.least_used d.used;
   most_used = if gone then c.most_used else max c.most_used d.used;
   first_done = if gone then c.first_done else lesser c.windows c.first_done d.done;
@@ -89,15 +96,17 @@ is_trouble (Event.Refused refusal) = true
 is_trouble (Event.Fault kind) = true
 is_trouble _ = false
 
--- what is kept of all threads, how many entries there were, and whether a call was refused or a thread faulted
+-- what is kept of all threads and processes, how many entries there were, and whether a call was refused or a thread faulted
 pub record Kept : Type 0 where
   pub rows : List Row
+  pub accounts : List Account
   pub ticks : ℕ
   pub troubled : Bool
 
 -- this is kept after these entries
 pub record IsKeptOf (h : Heading) (past : List Entry) (k : Kept) : Type 0 where
   pub rows : k.rows ≡ rows_of h past
+  pub accounts : k.accounts ≡ accounts_of h past
   pub ticks : k.ticks ≡ length past
   pub troubled : k.troubled ≡ list_any (has_event is_trouble) past
 
@@ -113,6 +122,7 @@ fresh x period since = record {
     waited = 0;
     stopped = 0;
     overran = 0;
+    first_overran = 0;
     least_used = 0;
     most_used = 0;
     first_done = 0;
@@ -125,10 +135,21 @@ fresh x period since = record {
 abbrev pub new_row : Owner → Row
 new_row o = fresh o.id o.period o.since
 
+-- what is kept of a thread before any entry
+abbrev pub RowsStart : Type 0
+RowsStart = (o : Owner) → row_of [] o ≡ new_row o
+
+-- and behind one entry more
+abbrev pub RowsStep : Type 0
+RowsStep =
+    (o : Owner) (e : Entry) (past : List Entry) → length past < 4294967295
+    → row_of (e ∷ past) o ≡ stepped (length past) e (row_of past o)
+
 -- what is kept after one entry more
 abbrev pub kept_with : Heading → Entry → Kept → Kept
 kept_with h e k = record {
   rows = map (stepped k.ticks e) k.rows ++ map new_row (made_in h k.ticks e);
+  accounts = accounts_with k.ticks e k.accounts;
   ticks = k.ticks + 1;
   troubled = has_event is_trouble e || k.troubled;
 }

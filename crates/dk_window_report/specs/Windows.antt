@@ -65,14 +65,24 @@ abbrev pub least : List ℕ → ℕ
 least [] = 0
 least (n ∷ ns) = least_from n ns
 
--- The numbers of a thread that did this in its windows. How many they are, what it used and when it was done is told of
--- those up to the one in which it was stopped.
+-- the number of the first that overran, where the first of all has number k, or 0
+abbrev pub first_overrun_from : ℕ → List Did → ℕ
+first_overrun_from k [] = 0
+first_overrun_from k (d ∷ ds) = if is_overrun d then k else first_overrun_from (k + 1) ds
+
+-- the number of the first window that it overran, from 1, or 0
+abbrev pub first_overrun : List Did → ℕ
+first_overrun ds = first_overrun_from 1 ds
+
+-- The numbers of a thread that did this in its windows. How many they are, which it overran first, what it used and when it
+-- was done is told of those up to the one in which it was stopped.
 abbrev pub counts_of : List Did → WindowCounts
 counts_of ds = record {
   windows = length (until_stopped ds);
   waited = count_by (λ d. d.waited) ds;
   stopped = count_by (λ d. d.stopped) ds;
   overran = count_by is_overrun ds;
+  first_overran = first_overrun (until_stopped ds);
   least_used = least (map (λ d. d.used) (until_stopped ds));
   most_used = greatest (map (λ d. d.used) (until_stopped ds));
   first_done = least (map (λ d. d.done) (until_stopped ds));

@@ -9,6 +9,7 @@ ghost use Rattle.dk_window_report.specs.Rows.{fresh, new_row, is_trouble, kept_w
 ghost use Rattle.dk_window_report.specs.Late.{rows_at};
 ghost use Rattle.dk_window_report.specs.Touched.{ArePlaced, IsPlaced};
 
+use crate::account::{Account, new_accounts, take_entry};
 use crate::late::Late;
 use crate::row::{Did, Row, WindowCounts, thread_of};
 use crate::rows::Rows;
@@ -19,7 +20,7 @@ use std::alloc::Global;
 use std::marker::Model;
 
 /// The row of a thread of which no window has begun.
-fn fresh(thread: ThreadId, period: u32, since: u32) -> Row
+pub fn fresh(thread: ThreadId, period: u32, since: u32) -> Row
     ensures { result ≡ fresh thread period since }
 {
     Row {
@@ -112,11 +113,12 @@ fn is_trouble(entry: Entry) -> bool
     }
 }
 
-/// What is kept: a row for each thread, how many entries there were, and whether a call was refused or a thread
+/// What is kept: a row for each thread, an account of each process, how many entries there were, and whether a call was refused or a thread
 /// faulted in one.
 #[derive(Drop)]
 pub struct Table {
     rows: Rows,
+    accounts: Vec<Account>,
     ticks: u32,
     troubled: bool,
 }
@@ -128,7 +130,7 @@ impl Model for Table {
     ghost Value = { Tabled };
 
     ghost view = { λ t. record {
-      kept = record { rows = rows_at t.ticks t.rows.lates.items; ticks = t.ticks; troubled = t.troubled };
+      kept = record { rows = rows_at t.ticks t.rows.lates.items; accounts = t.accounts.items; ticks = t.ticks; troubled = t.troubled };
       rows = t.rows;
     } };
 }
@@ -156,6 +158,7 @@ impl Table {
     {
         Ok(Table {
             rows: main_rows(alloc, header)?,
+            accounts: new_accounts(alloc, header)?,
             ticks: 0,
             troubled: false,
         })
@@ -166,6 +169,13 @@ impl Table {
         ensures { rows_at self.now.kept.ticks result.now ≡ self.now.kept.rows }
     {
         self.rows.lates.as_slice()
+    }
+
+    /// What befell each process.
+    pub fn accounts(&self) -> &[Account]
+        ensures { result.now ≡ self.now.kept.accounts }
+    {
+        self.accounts.as_slice()
     }
 
     /// How many entries there were.
@@ -194,6 +204,7 @@ impl Table {
         if let Some(row) = child_row(header, now, entry) {
             self.rows.push(row, now + 1)?;
         }
+        take_entry(&mut self.accounts, now, entry);
         self.ticks = now + 1;
         self.troubled = is_trouble(entry) || self.troubled;
         Ok(())

@@ -4,6 +4,7 @@ ghost use Rattle.dk_config.specs.Configuration.{Configuration};
 ghost use Rattle.dk_trace.specs.declared.Entry.{Entry};
 ghost use Rattle.dk_trace.specs.Guarantees.{Received};
 ghost use Rattle.dk_ledger.specs.Heading.{Heading};
+ghost use Rattle.dk_window_report.specs.Rows.{RowsStart, RowsStep};
 ghost use Rattle.dk_window_report.specs.Text.{overruns};
 ghost use Rattle.dk_window_report.specs.Overruns.{IsHeadingOf, AllCounted, AllWaited};
 
@@ -17,4 +18,10 @@ pub fn counted_law()
 pub fn no_overrun_law()
     ensures { (c : Configuration) (h : Heading) (past : List Entry) → IsHeadingOf c h → Received c past
         → overruns h past ≡ 0 → AllWaited c past }
+{}
+
+/// The row of a thread before any entry is a fresh one, and behind one entry more it is stepped by that entry.
+pub fn row_law()
+    ensures start { RowsStart }
+    ensures step { RowsStep }
 {}

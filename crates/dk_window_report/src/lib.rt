@@ -1,7 +1,9 @@
 //! What each thread of a ledger did in its windows. The format is this project's own.
 #![tactic(auto)]
 
+mod account;
 mod family;
+mod firsts;
 mod kept;
 mod late;
 mod laws;
@@ -11,6 +13,8 @@ mod row;
 mod rows;
 mod touched;
 
-pub use laws::{counted_law, no_overrun_law};
+pub use account::{Account, Tally};
+pub use kept::fresh;
+pub use laws::{counted_law, no_overrun_law, row_law};
 pub use report::WindowReport;
-pub use row::{Did, WindowCounts};
+pub use row::{Did, Row, WindowCounts, stepped};

@@ -14,7 +14,7 @@ use dk_outside::{Sink, SinkError};
 use dk_trace::ThreadId;
 
 /// The name of the process, and no text where the header has no such line.
-fn name_at(header: &Header, process: u8) -> &str
+pub fn name_at(header: &Header, process: u8) -> &str
     requires { IsPrintable header.now }
     ensures name { result.now ≡ name_of header.now process }
     ensures short { length result.now ≤ MAX_NAME_BYTES }

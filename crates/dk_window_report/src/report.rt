@@ -8,8 +8,10 @@ ghost use Rattle.dk_ledger.specs.Readable.{IsNoText, IsWrongLine};
 ghost use Rattle.dk_window_report.specs.Rows.{IsKeptOf};
 ghost use Rattle.dk_window_report.specs.Touched.{IsPlaced};
 ghost use Rattle.dk_window_report.specs.Text.{windows_text, is_clean};
-ghost use Rattle.dk_window_report.specs.Report.{ComesNext, IsKeptIn, kept_text, overruns_in, is_kept_clean};
+ghost use Rattle.dk_window_report.specs.Firsts.{firsts_text, is_strictly_clean, reasons_text};
+ghost use Rattle.dk_window_report.specs.Report.{ComesNext, IsKeptIn, kept_firsts, kept_reasons, kept_text, overruns_in, is_kept_clean, is_kept_strictly_clean};
 
+use crate::firsts::{Wanted, any_counts, write_accounts, write_overruns, write_troubles};
 use crate::kept::Table;
 use crate::printing::{overruns_in, overruns_line, write_rows};
 use dk_ledger::{Header, LedgerFault, LedgerLine, LedgerReader};
@@ -105,5 +107,73 @@ impl WindowReport {
     {
         write_rows(&self.header, self.table.ticks(), self.table.lates(), sink)?;
         overruns_line(self.overruns()).write_to(sink)
+    }
+
+    /// Whether no call was refused, no thread faulted, and nothing overran; with `sparing` a thread that lives on slack
+    /// may overrun: one that never waits, of a process that had slack.
+    pub fn is_strictly_clean(&self, sparing: bool) -> bool
+        ensures kept { result ≡ is_kept_strictly_clean sparing self.now.kept }
+        ensures clean { (past : List Entry) → IsKeptOf self.now.heading past self.now.kept
+            → result ≡ is_strictly_clean sparing self.now.heading past }
+    {
+        let table = &self.table;
+        !any_counts(sparing, table.accounts(), table.ticks(), table.lates()) && !table.is_troubled()
+    }
+
+    /// Writes a line for each process, with its budget, how many calls of it were refused, how many faults and how many
+    /// ticks of slack it had, each with the tick of the first; and one for each thread that overran, with the first
+    /// window. It takes no memory.
+    pub fn write_firsts<S: Sink>(&self, sink: &mut S) -> Result<(), SinkError>
+        requires { IsPrintable self.now.heading }
+
+        ensures wrote { Writes (S.seen sink.old) (S.seen sink.new) result
+            (kept_firsts self.now.heading self.now.kept) }
+
+        // It is the text of the entries of which this is kept.
+        ensures text { (past : List Entry) → IsKeptOf self.now.heading past self.now.kept
+            → kept_firsts self.now.heading self.now.kept ≡ firsts_text self.now.heading past }
+    {
+        let table = &self.table;
+        let wanted = Wanted {
+            strict: false,
+            sparing: false,
+        };
+        write_accounts(&self.header, table.accounts(), sink)?;
+        write_overruns(
+            &self.header,
+            table.accounts(),
+            table.ticks(),
+            table.lates(),
+            wanted,
+            sink,
+        )
+    }
+
+    /// Writes why it isn't strictly clean: a line for each thread that overran, but with `sparing` for none that lives on
+    /// slack, and for the refused calls and the faults of each process. It takes no memory.
+    pub fn write_reasons<S: Sink>(&self, sparing: bool, sink: &mut S) -> Result<(), SinkError>
+        requires { IsPrintable self.now.heading }
+
+        ensures wrote { Writes (S.seen sink.old) (S.seen sink.new) result
+            (kept_reasons sparing self.now.heading self.now.kept) }
+
+        // It is the text of the entries of which this is kept.
+        ensures text { (past : List Entry) → IsKeptOf self.now.heading past self.now.kept
+            → kept_reasons sparing self.now.heading self.now.kept ≡ reasons_text sparing self.now.heading past }
+    {
+        let table = &self.table;
+        let wanted = Wanted {
+            strict: true,
+            sparing,
+        };
+        write_overruns(
+            &self.header,
+            table.accounts(),
+            table.ticks(),
+            table.lates(),
+            wanted,
+            sink,
+        )?;
+        write_troubles(&self.header, table.accounts(), sink)
     }
 }

@@ -2,7 +2,7 @@
 ghost use Rattle.std.specs.Prelude.{◌≡◌, ◌%◌};
 ghost use Rattle.dk_trace.specs.Entries.{is_of, is_budget_of, does, is_wait, is_end, is_delete_of, stops, thread_of};
 ghost use Rattle.dk_window_report.specs.Windows.{is_overrun};
-ghost use Rattle.dk_window_report.specs.Rows.{raised, raised_if, did_with, lesser, counts_with, ended, filled, stepped};
+ghost use Rattle.dk_window_report.specs.Rows.{raised, raised_if, did_with, lesser, first_with, counts_with, ended, filled, stepped};
 
 use dk_trace::{Entry, Event, Label, ThreadId};
 
@@ -25,6 +25,8 @@ pub struct WindowCounts {
     pub waited: u32,
     pub stopped: u32,
     pub overran: u32,
+    /// The first window that it overran, counted from 1, or 0.
+    pub first_overran: u32,
     pub least_used: u32,
     pub most_used: u32,
     pub first_done: u32,
@@ -166,6 +168,17 @@ fn lesser(windows: u32, one: u32, other: u32) -> u32
     if windows == 0 { other } else { one.min(other) }
 }
 
+/// The first window that it overran, with one more.
+fn first_with(counts: WindowCounts, did: Did) -> u32
+    ensures { result ≡ first_with counts did }
+{
+    if counts.first_overran == 0 && is_overrun(did) {
+        raised(counts.windows)
+    } else {
+        counts.first_overran
+    }
+}
+
 /// The counts with one more window, where the thread may have been stopped before.
 fn counts_with(gone: bool, counts: WindowCounts, did: Did) -> WindowCounts
     ensures { result ≡ counts_with gone counts did }
@@ -173,6 +186,7 @@ fn counts_with(gone: bool, counts: WindowCounts, did: Did) -> WindowCounts
     let windows = counts.windows;
     let least_used = lesser(windows, counts.least_used, did.used);
     let first_done = lesser(windows, counts.first_done, did.done);
+    let first_overran = first_with(counts, did);
     let most_used = counts.most_used.max(did.used);
     let last_done = counts.last_done.max(did.done);
     WindowCounts {
@@ -180,6 +194,11 @@ fn counts_with(gone: bool, counts: WindowCounts, did: Did) -> WindowCounts
         waited: raised_if(did.waited, counts.waited),
         stopped: raised_if(did.stopped, counts.stopped),
         overran: raised_if(is_overrun(did), counts.overran),
+        first_overran: if gone {
+            counts.first_overran
+        } else {
+            first_overran
+        },
         least_used: if gone { counts.least_used } else { least_used },
         most_used: if gone { counts.most_used } else { most_used },
         first_done: if gone { counts.first_done } else { first_done },

@@ -7,6 +7,7 @@ returns-clause-start c =
     let h = c.args.header.now in
     record {
       rows = c.in_ok-main_rows.ensures.rows ∙ mains-start h (length h.processes);
+      accounts = c.in_ok-new_accounts.ensures;
       ticks = refl;
       troubled = refl;
     }
