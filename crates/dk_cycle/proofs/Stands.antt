@@ -1,5 +1,5 @@
 -- A run, or a process, that is what it was stands again.
-use Rattle.std.proofs.Common.{ℕ, ◌≡◌, ◌+◌, ◌-◌, ◌<◌, ◌%◌, ◌∙◌, inl, inr, Bool, true, List, [], length, Option, Some, None, refl, sym, subst, arith}
+use Rattle.std.proofs.Common.{ℕ, ◌≡◌, ◌+◌, ◌-◌, ◌<◌, ◌≤◌, ◌%◌, ◌∙◌, inl, inr, Bool, true, List, [], length, Option, Some, None, refl, sym, subst, arith}
 use Rattle.std.specs.Prelude.{slice_get, slice_index_or, IfSome}
 use Rattle.std.specs.Int.{◌∣◌}
 use Rattle.std.proofs.lemmas.Bool.{cases_eq}
@@ -159,6 +159,7 @@ run-with-cycle c programs search now y clocks checked accepted is none state beg
   reader = is.reader;
   saved = is.saved;
   cycle = run-again c programs search.saved search.kept now y clocks checked accepted (is.quiet none) is.saved state (begins-all c search.longest now.tick is.longest begins) found;
+  within = let later = found.later in let start = found.start in let long = found.lasts in omega (arith, later, start, long);
 }
 
 pub run-with-saved : (c : Configuration) (programs : List (List ℕ)) (search : RunSearch) (now : RunState) → IsRunSearch c programs now.tick search → IsRunState c programs now
@@ -170,6 +171,7 @@ run-with-saved c programs search now is state begins = record {
   reader = is.reader;
   saved = record { is = record { begins = begins-all c search.longest now.tick is.longest begins; is = state }; threads = λ kept p here. refl };
   cycle = is.cycle;
+  within = is.within;
 }
 
 -- the entry of one more tick
@@ -182,6 +184,10 @@ joined c programs tick kept both (Some s) more is = record {
   threads = λ all. let m = more all in λ p here. is.threads m.0 p here ∙ m.1 p here;
 }
 
+still-within : (tick : ℕ) (o : Option Cycle) → IfSome o (λ y. y.start + y.length ≤ tick) → IfSome o (λ y. y.start + y.length ≤ tick + 1)
+still-within tick None is = tt
+still-within tick (Some y) is = omega (arith, is)
+
 pub followed : (c : Configuration) (programs : List (List ℕ)) (tick : ℕ) (search : RunSearch) (both : Bool)
     → (both ≡ true → (search.kept ≡ true) × ThreadsStandAlike c (trace c programs tick) (trace c programs (tick + 1)))
     → IsRunSearch c programs tick search → IsRunSearch c programs (tick + 1) (record search { kept = both })
@@ -192,4 +198,5 @@ followed c programs tick search both more is = record {
   reader = is.reader;
   saved = joined c programs tick search.kept both search.saved more is.saved;
   cycle = is.cycle;
+  within = still-within tick search.cycle is.within;
 }

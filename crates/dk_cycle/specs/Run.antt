@@ -1,5 +1,5 @@
 -- The search for a cycle of a whole run.
-use Rattle.std.specs.Prelude.{ℕ, ◌≡◌, ◌+◌, ◌-◌, ◌<◌, ◌%◌, Bool, true, List, [], ◌∷◌, length, Option, Some, None, slice_get, slice_index_or, IfSome}
+use Rattle.std.specs.Prelude.{ℕ, ◌≡◌, ◌+◌, ◌-◌, ◌<◌, ◌≤◌, ◌%◌, Bool, true, List, [], ◌∷◌, length, Option, Some, None, slice_get, slice_index_or, IfSome}
 use Rattle.std.specs.Int.{◌∣◌}
 use Rattle.dk_config.specs.Configuration.{Configuration}
 use Rattle.dk_config.specs.Checked.{IsChecked, IsAccepted}
@@ -69,7 +69,8 @@ pub record IsKept (c : Configuration) (programs : List (List ℕ)) (tick : ℕ) 
   pub is : IsSavedRun c programs s
   pub threads : kept ≡ true → ThreadsStandAlike c (trace c programs s.tick) (trace c programs tick)
 
--- what a search keeps is of this run, and at the two ticks that it found the run stands alike, and reads no tick between
+-- What a search keeps is of this run, and at the two ticks that it found the run stands alike, and reads no tick between. The
+-- later one has come.
 pub record IsRunSearch (c : Configuration) (programs : List (List ℕ)) (tick : ℕ) (search : RunSearch) : Type 0 where
   pub some : 0 < search.longest
   pub longest : (i : ℕ) → i < length c.levels → period c i ∣ search.longest
@@ -77,6 +78,7 @@ pub record IsRunSearch (c : Configuration) (programs : List (List ℕ)) (tick : 
   pub reader : IfSome search.reader (λ p. (p < length c.processes) × ReadsTick (slice_index_or programs p []))
   pub saved : IfSome search.saved (IsKept c programs tick search.kept)
   pub cycle : IfSome search.cycle (λ y. RunStandsAgain c programs y.start y.length)
+  pub within : IfSome search.cycle (λ y. y.start + y.length ≤ tick)
 
 -- a search of a run that looks at the entry of the next tick is one up to that tick
 abbrev pub Follows : RunSearch → Entry → RunSearch → Type 0

@@ -1,1 +1,5 @@
+pub mod Cycles
+pub mod Windows
+pub mod OwnUses
 pub mod Told
+mod Joined

@@ -1,38 +1,55 @@
--- From the searches of a run to what the text tells.
-use Rattle.std.proofs.Common.{ℕ, ◌≡◌, ◌++◌, ◌∙◌, List, [], ◌∷◌, map, refl, ap}
-use Rattle.std.specs.Prelude.{flat_map, codes, All, slice_index_or}
-use Rattle.std.proofs.lemmas.List.Elements.{All-map}
+-- From what was found in a run to what the text tells.
+use Rattle.std.proofs.Common.{ℕ, ◌≡◌, ◌∙◌, List, Option, Some, None, ap, sym, subst, refl}
+use Rattle.std.specs.Prelude.{slice_index_or, IfSome}
 use Rattle.dk_config.specs.Configuration.{Configuration}
 use Rattle.dk_config.specs.Checked.{IsChecked, IsAccepted}
-use Rattle.dk_cycle.specs.declared.own.OwnSearch.{OwnSearch}
+use Rattle.dk_cycle.specs.declared.Cycle.{Cycle}
 use Rattle.dk_cycle.specs.declared.run.RunSearch.{RunSearch}
-use Rattle.dk_cycle.specs.Own.{IsOwnSearch}
-use Rattle.dk_cycle.specs.Told.{IsOwnTold, OwnIsTold, RunIsTold, own_told, run_told}
-use Rattle.dk_repeat_report.specs.Lines.{IsRepeats, names_of, own_line, run_line}
-use Rattle.dk_repeat_report.specs.Lines as lines
-use Rattle.dk_repeat_report.specs.Found.{Tells, found_text, process_of}
+use Rattle.dk_cycle.specs.declared.told.OwnTold.{OwnTold}
+use Rattle.dk_cycle.specs.Told.{HasCycle, IsOwnTold, OwnIsTold, RunIsTold, run_told}
+use Rattle.dk_cycle_counts.specs.declared.process.ProcessUse.{ProcessUse}
+use Rattle.dk_cycle_counts.specs.declared.counts.CycleCounts.{CycleCounts}
+use Rattle.dk_repeat_report.specs.declared.own.OwnFound.{OwnFound}
+use Rattle.dk_repeat_report.specs.Cycles.{CyclesAreAlike}
+use Rattle.dk_repeat_report.specs.OwnUses.{IsEachUse, IsOneFound, IsOneUse, IsOwnFound, OwnCyclesAreAlike}
+use Rattle.dk_repeat_report.specs.Lines.{IsRepeats, names_of}
+use Rattle.dk_repeat_report.specs.Found.{AreOf, Tells, found_text}
+use Rattle.dk_repeat_report.proofs.Cycles.{each-counted}
 
-flat-told : (names : List (List ℕ)) (ticks : ℕ) (own : List OwnSearch) → flat_map (λ s. own_line names ticks (own_told s)) own ≡ flat_map (own_line names ticks) (map own_told own)
-flat-told names ticks [] = refl
-flat-told names ticks (s ∷ own) = ap (λ rest. own_line names ticks (own_told s) ++ rest) (flat-told names ticks own)
+each-use : (c : Configuration) (programs : List (List ℕ)) (told : OwnTold) (o : Option ProcessUse) → OwnCyclesAreAlike → IsOwnTold c programs told
+    → IfSome o (IsOneUse c programs told) → IfSome o (IsEachUse c programs told)
+each-use c programs told None law is one = tt
+each-use c programs told (Some u) law is one =
+    let has : HasCycle c programs told.process one.cycle = subst (λ (o : Option Cycle). IfSome o (HasCycle c programs told.process)) one.found (is.cycle one.keeps) in
+    record { keeps = one.keeps; cycle = one.cycle; found = one.found; uses = law c programs told.process one.cycle u has one.uses }
 
-told-processes : (own : List OwnSearch) → map lines.process_of (map own_told own) ≡ map process_of own
-told-processes [] = refl
-told-processes (s ∷ own) = ap (λ rest. s.process ∷ rest) (told-processes own)
+own-found : (c : Configuration) (programs : List (List ℕ)) (f : OwnFound) → OwnIsTold → OwnCyclesAreAlike → IsChecked c → IsAccepted c → IsOneFound c programs f
+    → IsOwnFound c programs f
+own-found c programs f told-law law checked accepted one =
+    let told : IsOwnTold c programs f.told = subst (IsOwnTold c programs) (sym one.told) (told-law c programs one.search checked accepted one.is) in
+    record { told = told; done = each-use c programs f.told f.done law told one.done }
 
-all-told : (c : Configuration) (programs : List (List ℕ)) (own : List OwnSearch) → OwnIsTold → IsChecked c → IsAccepted c → All (IsOwnSearch c programs) own
-    → All (IsOwnTold c programs) (map own_told own)
-all-told c programs own law checked accepted all =
-    All-map (IsOwnTold c programs) own_told own (λ k d less. law c programs (slice_index_or own k d) checked accepted (all k d less))
+-- what was found is told
+pub repeats-text : (c : Configuration) (programs : List (List ℕ)) (ticks : ℕ) (run : RunSearch) (counts : Option CycleCounts) (own : List OwnFound) (text : List ℕ)
+    → RunIsTold → OwnIsTold → CyclesAreAlike → OwnCyclesAreAlike → IsChecked c → IsAccepted c → AreOf c programs run counts own
+    → text ≡ found_text (names_of c) ticks run counts own → (r : IsRepeats c programs ticks text) × (r.run ≡ run_told run)
+repeats-text c programs ticks run counts own text run-law own-law cycles-law own-cycles-law checked accepted of is =
+    let told = run-law c programs of.tick run checked accepted of.run_is in (
+      record {
+        run = run_told run;
+        counts = counts;
+        own = own;
+        run_is = told;
+        counts_are = each-counted c programs run.cycle counts cycles-law told.cycle of.counts_are;
+        own_are = λ k d less. own-found c programs (slice_index_or own k d) own-law own-cycles-law checked accepted (of.own_are k d less);
+        processes = of.processes;
+        text_is = is;
+      },
+      refl,
+    )
 
-pub tells : (names : List (List ℕ)) (ticks : ℕ) (run : RunSearch) (own : List OwnSearch) (text : List ℕ) → RunIsTold → OwnIsTold → text ≡ found_text names ticks run own
-    → Tells names ticks run own text
-tells names ticks run own text run-law own-law is = λ c programs checked accepted of named. record {
-  run = run_told run;
-  own = map own_told own;
-  run_is = run-law c programs of.tick run checked accepted of.run_is;
-  own_are = all-told c programs own own-law checked accepted of.own_are;
-  processes = told-processes own ∙ of.processes;
-  text_is = is ∙ ap (λ rest. run_line names ticks (run_told run) ++ (rest ++ codes "end\n")) (flat-told names ticks own)
-      ∙ ap (λ ns. run_line ns ticks (run_told run) ++ (flat_map (own_line ns ticks) (map own_told own) ++ codes "end\n")) named;
-}
+pub tells : (names : List (List ℕ)) (ticks : ℕ) (run : RunSearch) (counts : Option CycleCounts) (own : List OwnFound) (text : List ℕ) → RunIsTold → OwnIsTold
+    → CyclesAreAlike → OwnCyclesAreAlike → text ≡ found_text names ticks run counts own → Tells names ticks run counts own text
+tells names ticks run counts own text run-law own-law cycles-law own-cycles-law is = λ c programs checked accepted of named.
+    (repeats-text c programs ticks run counts own text run-law own-law cycles-law own-cycles-law checked accepted of
+    (is ∙ ap (λ ns. found_text ns ticks run counts own) named)).0

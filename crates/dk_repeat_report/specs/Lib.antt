@@ -1,2 +1,4 @@
+pub mod Cycles
+pub mod OwnUses
 pub mod Lines
 pub mod Found

@@ -3,12 +3,19 @@ use Rattle.std.specs.Prelude.{ℕ, ◌≡◌, List, [], ◌++◌, length, map, f
 use Rattle.std.specs.List.{range_with_len}
 use Rattle.std.specs.Option.{option_map_or}
 use Rattle.dk_config.specs.Configuration.{Configuration}
+use Rattle.dk_window_report.specs.declared.row.WindowCounts.{WindowCounts}
+use Rattle.dk_cycle_counts.specs.declared.process.ProcessUse.{ProcessUse}
+use Rattle.dk_cycle_counts.specs.declared.totals.CycleTotals.{CycleTotals}
+use Rattle.dk_cycle_counts.specs.declared.counts.CycleCounts.{CycleCounts}
 use Rattle.dk_cycle.specs.declared.Cycle.{Cycle}
 use Rattle.dk_cycle.specs.declared.keeping.Keeping.{Keeping}
 use Rattle.dk_cycle.specs.declared.keeping.Keeping.TheVariants as kind
 use Rattle.dk_cycle.specs.declared.told.OwnTold.{OwnTold}
 use Rattle.dk_cycle.specs.declared.told.RunTold.{RunTold}
-use Rattle.dk_cycle.specs.Told.{IsOwnTold, IsRunTold}
+use Rattle.dk_cycle.specs.Told.{IsRunTold}
+use Rattle.dk_repeat_report.specs.declared.own.OwnFound.{OwnFound}
+use Rattle.dk_repeat_report.specs.Cycles.{IsEachCounted}
+use Rattle.dk_repeat_report.specs.OwnUses.{IsOwnFound}
 
 abbrev pub name_at : List (List ℕ) → ℕ → List ℕ
 name_at names p = option_map_or (λ name. name) (slice_get names p) []
@@ -42,23 +49,86 @@ own_line_by name ticks kind.HasSlack cycle = of_process name (codes " has slack\
 abbrev pub own_line : List (List ℕ) → ℕ → OwnTold → List ℕ
 own_line names ticks told = own_line_by (name_at names told.process) ticks told.keeping told.cycle
 
+-- the ticks of threads on their budgets
+abbrev pub budget_part : CycleTotals → List ℕ
+budget_part t =
+    codes "cycle in " ++ (decimal t.ins ++ (codes " run " ++ (decimal t.runs ++ (codes " call "
+    ++ (decimal t.calls ++ (codes " out " ++ decimal t.outs))))))
+
+-- whose the ticks of a cycle are
+abbrev pub totals_line : CycleTotals → List ℕ
+totals_line t =
+    budget_part t ++ (codes " slack " ++ (decimal t.slack ++ (codes " kernel " ++ (decimal t.kernel ++ (codes " idle "
+    ++ (decimal t.idle ++ codes "\n"))))))
+
+abbrev pub cycle_totals_line : Option CycleCounts → List ℕ
+cycle_totals_line None = []
+cycle_totals_line (Some k) = totals_line k.totals
+
+abbrev pub waited_part : WindowCounts → List ℕ
+waited_part n =
+    codes " windows " ++ (decimal n.windows ++ (codes " waited " ++ (decimal n.waited ++ (codes " overran " ++ decimal n.overran))))
+
+-- the least and the most that was used in a window
+abbrev pub used_part : WindowCounts → ℕ → List ℕ
+used_part n budget =
+    codes " used " ++ (decimal n.least_used ++ (codes " to " ++ (decimal n.most_used ++ (codes " of " ++ decimal budget))))
+
+-- the earliest and the latest tick of a window at which it was done
+abbrev pub done_part : WindowCounts → List ℕ
+done_part n = codes " done " ++ (decimal n.first_done ++ (codes " to " ++ decimal n.last_done))
+
+abbrev pub events_part : ProcessUse → List ℕ
+events_part u =
+    codes " slack " ++ (decimal u.slack ++ (codes " refused " ++ (decimal u.refused ++ (codes " faults " ++ decimal u.faults))))
+
+-- what a process did in a cycle: its main in its windows, and all its threads
+abbrev pub use_line : List ℕ → ProcessUse → List ℕ
+use_line name u =
+    codes "  " ++ (name ++ (waited_part u.main.counts ++ (used_part u.main.counts u.budget ++ (done_part u.main.counts
+    ++ (events_part u ++ codes "\n")))))
+
+-- the same of the process p, where a cycle is counted
+abbrev pub cycle_use_line : List ℕ → Option CycleCounts → ℕ → List ℕ
+cycle_use_line name None p = []
+cycle_use_line name (Some k) p = option_map_or (use_line name) (slice_get k.processes.items p) []
+
+abbrev pub refused_part : ℕ → List ℕ
+refused_part n = codes " refused " ++ (decimal n ++ codes "\n")
+
+-- what a process does in each of its cycles by itself
+abbrev pub own_use_line : List ℕ → ProcessUse → List ℕ
+own_use_line name u =
+    codes "  " ++ (name ++ (codes " by itself" ++ (waited_part u.main.counts ++ (used_part u.main.counts u.budget ++ refused_part u.refused))))
+
+-- the lines of a process
+abbrev pub process_lines : List (List ℕ) → ℕ → Option CycleCounts → OwnFound → List ℕ
+process_lines names ticks counts found =
+    own_line names ticks found.told
+    ++ (cycle_use_line (name_at names found.told.process) counts found.told.process
+    ++ option_map_or (own_use_line (name_at names found.told.process)) found.done [])
+
 -- the names of the processes
 abbrev pub names_of : Configuration → List (List ℕ)
 names_of c = map (λ row. row.name) c.processes
 
--- the line of the run, those of the processes, and the last
-abbrev pub repeats_text : Configuration → ℕ → RunTold → List OwnTold → List ℕ
-repeats_text c ticks run own =
-    run_line (names_of c) ticks run ++ (flat_map (own_line (names_of c) ticks) own ++ codes "end\n")
+-- the lines of the run, those of the processes, and the last
+abbrev pub repeats_text : Configuration → ℕ → RunTold → Option CycleCounts → List OwnFound → List ℕ
+repeats_text c ticks run counts own =
+    run_line (names_of c) ticks run
+    ++ (cycle_totals_line counts ++ (flat_map (process_lines (names_of c) ticks counts) own ++ codes "end\n"))
 
-abbrev pub process_of : OwnTold → ℕ
-process_of told = told.process
+abbrev pub process_of : OwnFound → ℕ
+process_of found = found.told.process
 
--- the text tells what holds of every tick, with a line for each process
+-- the text tells what holds of every tick, with a line for each process, and what is counted of each cycle of the run and of
+-- each process by itself
 pub record IsRepeats (c : Configuration) (programs : List (List ℕ)) (ticks : ℕ) (text : List ℕ) : Type 0 where
   pub run : RunTold
-  pub own : List OwnTold
+  pub counts : Option CycleCounts
+  pub own : List OwnFound
   pub run_is : IsRunTold c programs run
-  pub own_are : All (IsOwnTold c programs) own
+  pub counts_are : IsEachCounted c programs run.cycle counts
+  pub own_are : All (IsOwnFound c programs) own
   pub processes : map process_of own ≡ range_with_len 0 (length c.processes)
-  pub text_is : text ≡ repeats_text c ticks run own
+  pub text_is : text ≡ repeats_text c ticks run counts own

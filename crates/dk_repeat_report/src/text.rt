@@ -1,28 +1,31 @@
 //! The text of what was found.
 ghost use Rattle.std.specs.Prelude.{◌≡◌, ◌++◌, flat_map, string_bytes, IfOk, OnOk};
-ghost use Rattle.dk_cycle.specs.Told.{own_told};
-ghost use Rattle.dk_repeat_report.specs.Lines.{own_line};
+ghost use Rattle.dk_repeat_report.specs.Lines.{process_lines};
 ghost use Rattle.dk_repeat_report.specs.Found.{Tells, found_text};
 
-use crate::lines::{own_line, run_line};
+use crate::laws::{cycles_law, own_cycles_law};
+use crate::lines::{cycle_totals_line, process_lines, run_line};
+use crate::own::OwnFound;
 use dk_config::{NoMemory, Text};
-use dk_cycle::{OwnSearch, RunSearch, own_told, run_told, told_law};
+use dk_cycle::{RunSearch, run_told, told_law};
+use dk_cycle_counts::CycleCounts;
 use std::alloc::{AllocError, Global};
 
-/// Adds the line of each process.
+/// Adds the lines of each process.
 fn add_lines(
     alloc: Global,
     text: &mut String,
     names: &[Text],
     ticks: u32,
-    own: &[OwnSearch],
+    counts: &Option<CycleCounts>,
+    own: &[OwnFound],
 ) -> Result<(), AllocError>
     ensures { OnOk result (string_bytes text.new
-        ≡ string_bytes text.old ++ flat_map (λ s. own_line names.now ticks (own_told s)) own.now) }
+        ≡ string_bytes text.old ++ flat_map (process_lines names.now ticks counts.now) own.now) }
 {
-    for search in own {
-        let line = own_line(alloc, names, ticks, own_told(search))?;
-        text.push_str(line.as_str())?;
+    for found in own {
+        let lines = process_lines(alloc, names, ticks, counts, found)?;
+        text.push_str(lines.as_str())?;
     }
     Ok(())
 }
@@ -33,30 +36,36 @@ fn text_of(
     names: &[Text],
     ticks: u32,
     run: &RunSearch,
-    own: &[OwnSearch],
+    counts: &Option<CycleCounts>,
+    own: &[OwnFound],
 ) -> Result<String, AllocError>
-    ensures { IfOk result (λ s. string_bytes s ≡ found_text names.now ticks run.now own.now) }
+    ensures { IfOk result (λ s. string_bytes s ≡ found_text names.now ticks run.now counts.now own.now) }
 {
     let mut text = run_line(alloc, names, ticks, run_told(run))?;
-    add_lines(alloc, &mut text, names, ticks, own)?;
+    let totals = cycle_totals_line(alloc, counts)?;
+    text.push_str(totals.as_str())?;
+    add_lines(alloc, &mut text, names, ticks, counts, own)?;
     text.push_str("end\n")?;
     Ok(text)
 }
 
-/// A line of the run, one of each process, and the last. The searches went on for so many ticks, and the names are those of
-/// the processes. `Err` is want of memory.
+/// The lines of the run, those of each process, and the last. The searches went on for so many ticks, the names are those of
+/// the processes, and what is counted is that of a cycle of the run. `Err` is want of memory.
 pub fn repeats_text(
     alloc: Global,
     names: &[Text],
     ticks: u32,
     run: &RunSearch,
-    own: &[OwnSearch],
+    counts: &Option<CycleCounts>,
+    own: &[OwnFound],
 ) -> Result<String, NoMemory>
-    ensures text { IfOk result (λ s. string_bytes s ≡ found_text names.now ticks run.now own.now) }
-    ensures tells { IfOk result (λ s. Tells names.now ticks run.now own.now (string_bytes s)) }
+    ensures text { IfOk result (λ s. string_bytes s ≡ found_text names.now ticks run.now counts.now own.now) }
+    ensures tells { IfOk result (λ s. Tells names.now ticks run.now counts.now own.now (string_bytes s)) }
 {
     told_law();
-    match text_of(alloc, names, ticks, run, own) {
+    cycles_law();
+    own_cycles_law();
+    match text_of(alloc, names, ticks, run, counts, own) {
         Ok(text) => Ok(text),
         Err(_) => Err(NoMemory),
     }

@@ -1,3 +1,4 @@
 pub mod States
 pub mod Searching
+pub mod Counting
 pub mod Repeats

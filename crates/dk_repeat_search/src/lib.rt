@@ -1,6 +1,7 @@
 //! What repeats for ever in a run: the kernel's ticks, and the searches over them.
 #![tactic(auto)]
 
+mod count;
 mod report;
 mod search;
 mod states;

@@ -4,15 +4,16 @@ ghost use Rattle.dk_config.specs.declared.TheConstants.{MAX_RUN_TICKS};
 ghost use Rattle.dk_kernel.specs.Booting.{IsLoaded};
 ghost use Rattle.dk_repeat_report.specs.Lines.{names_of};
 ghost use Rattle.dk_repeat_search.specs.Repeats.{IsRepeatsOf, repeats};
-ghost use Rattle.dk_repeat_search.specs.Searching.{IsSearched};
+ghost use Rattle.dk_repeat_search.specs.Counting.{IsFound};
 
+use crate::count::{Found, all_found, count_run, shares_of};
 use crate::search::Searches;
 use dk_config::{Config, MAX_RUN_TICKS, NoMemory, Text};
 use dk_config_report::Page;
 use dk_cycle::{RunTold, run_told, told_law};
 use dk_kernel::Kernel;
 use dk_loader::Loaded;
-use dk_repeat_report::repeats_text;
+use dk_repeat_report::{cycles_law, own_cycles_law, repeats_text};
 use dk_steps::Steps;
 use std::alloc::{AllocError, Global};
 use std::marker::Brand;
@@ -43,35 +44,48 @@ fn names_of(alloc: Global, config: &Config) -> Result<Vec<Text>, NoMemory>
     Ok(names)
 }
 
-/// The ticks of the kernel, whose steps aren't counted.
+/// The ticks of the kernel, whose steps aren't counted: those of the searches, and those of a cycle that is counted.
 fn searched_by<L: Ledger>(
     alloc: Global,
     loaded: Loaded,
     ticks: u32,
     blank: Blank,
-) -> Result<Searches, NoMemory>
+) -> Result<Found, NoMemory>
     requires loaded { IsLoaded loaded }
     requires few { ticks ≤ MAX_RUN_TICKS }
     requires name { blank.name ≡ L.name }
     requires parts { blank.parts ≡ L.parts }
     requires some { 0 < L.parts }
-    ensures { IfOk result (IsSearched loaded) }
+    ensures { IfOk result (IsFound loaded) }
 {
     let mut searches = Searches::of(alloc, &loaded)?;
+    let shares = shares_of(alloc, &loaded)?;
     let mut steps = Steps::<L>::new(blank);
     match Kernel::boot(alloc, loaded) {
         Ok(mut kernel) => {
             searches.search(alloc, &mut kernel, ticks, &mut steps)?;
-            Ok(searches)
+            let counts = count_run(
+                alloc,
+                &mut kernel,
+                &searches.run,
+                shares.as_slice(),
+                &mut steps,
+            )?;
+            let own = all_found(alloc, searches.own.as_slice())?;
+            Ok(Found {
+                run: searches.run,
+                counts,
+                own,
+            })
         }
         Err(_) => Err(NoMemory),
     }
 }
 
 /// What is found in so many ticks.
-fn searched(alloc: Global, loaded: Loaded, ticks: u32) -> Result<Searches, NoMemory>
+fn searched(alloc: Global, loaded: Loaded, ticks: u32) -> Result<Found, NoMemory>
     requires { IsLoaded loaded }
-    ensures { IfOk result (IsSearched loaded) }
+    ensures { IfOk result (IsFound loaded) }
 {
     let few = if ticks < MAX_RUN_TICKS {
         ticks
@@ -94,17 +108,20 @@ pub fn find_repeats(alloc: Global, loaded: Loaded, ticks: u32) -> Result<Repeats
     ensures { IfOk result (λ found. IsRepeatsOf loaded ticks found.page found.whole) }
 {
     told_law();
+    cycles_law();
+    own_cycles_law();
     let names = names_of(alloc, &loaded.config)?;
-    let searches = searched(alloc, loaded, ticks)?;
+    let found = searched(alloc, loaded, ticks)?;
     let text = repeats_text(
         alloc,
         names.as_slice(),
         ticks,
-        &searches.run,
-        searches.own.as_slice(),
+        &found.run,
+        &found.counts,
+        found.own.as_slice(),
     )?;
     Ok(Repeats {
         page: Page::new(text),
-        whole: repeats_whole(run_told(&searches.run)),
+        whole: repeats_whole(run_told(&found.run)),
     })
 }

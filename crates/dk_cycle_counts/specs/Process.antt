@@ -1,0 +1,46 @@
+-- What a process did in some ticks. Their entries are a list, the newest first.
+use Rattle.std.specs.Prelude.{ℕ, ◌&&◌, ◌==◌, Bool, false, List, count_by}
+use Rattle.std.specs.Option.{option_map_or}
+use Rattle.dk_trace.specs.declared.Entry.{Entry}
+use Rattle.dk_trace.specs.Entries.{borrower, has_event}
+use Rattle.dk_report.specs.Counts.{is_fault, is_of_process, is_refused}
+use Rattle.dk_window_report.specs.Owners.{Owner}
+use Rattle.dk_window_report.specs.Rows.{raised_if, row_of, stepped}
+use Rattle.dk_cycle_counts.specs.declared.process.MainShare.{MainShare}
+use Rattle.dk_cycle_counts.specs.declared.process.ProcessUse.{ProcessUse}
+
+-- the main of the process, whose first window begins with the first of the ticks
+abbrev pub main_owner : MainShare → Owner
+main_owner m = record { id = record { process = m.process; serial = 0 }; period = m.period; since = 0 }
+
+-- a thread of the process had slack
+abbrev pub has_slack : ℕ → Entry → Bool
+has_slack p e = option_map_or (λ x. x.process == p) (borrower e.label) false
+
+-- a call of a thread of the process was refused
+abbrev pub has_refused : ℕ → Entry → Bool
+has_refused p e = is_of_process p e && has_event is_refused e
+
+-- a thread of the process faulted
+abbrev pub has_fault : ℕ → Entry → Bool
+has_fault p e = is_of_process p e && has_event is_fault e
+
+-- what the process did in the ticks with these entries
+abbrev pub use_of : MainShare → List Entry → ProcessUse
+use_of m es = record {
+  main = row_of es (main_owner m);
+  budget = m.budget;
+  slack = count_by (has_slack m.process) es;
+  refused = count_by (has_refused m.process) es;
+  faults = count_by (has_fault m.process) es;
+}
+
+-- with the entry of one more tick, behind so many
+abbrev pub use_with : ℕ → Entry → ProcessUse → ProcessUse
+use_with ticks e u = record {
+  main = stepped ticks e u.main;
+  budget = u.budget;
+  slack = raised_if (has_slack u.main.thread.process e) u.slack;
+  refused = raised_if (has_refused u.main.thread.process e) u.refused;
+  faults = raised_if (has_fault u.main.thread.process e) u.faults;
+}

@@ -1,0 +1,10 @@
+//! What is counted of the ticks of a cycle, and so of each later one.
+#![tactic(auto)]
+
+mod counts;
+mod process;
+mod totals;
+
+pub use counts::CycleCounts;
+pub use process::{MainShare, ProcessUse};
+pub use totals::CycleTotals;

@@ -1,0 +1,56 @@
+-- What is counted from the start of a cycle on.
+use Rattle.std.proofs.Common.{ℕ, suc, ◌≡◌, ◌+◌, ◌-◌, ◌*◌, ◌/◌, ◌%◌, ◌<◌, ◌≤◌, ◌∙◌, List, [], ◌∷◌, take, ap, sym, subst, arith}
+use Rattle.std.proofs.Math.Nat.{div-add-mod}
+use Rattle.std.proofs.lemmas.Nat.{mod_below}
+use Rattle.dk_config.specs.Configuration.{Configuration}
+use Rattle.dk_trace.specs.declared.Entry.{Entry}
+use Rattle.dk_world.specs.Run.{trace}
+use Rattle.dk_kernel.specs.Running.{Running, trace_of}
+use Rattle.dk_cycle.specs.declared.Cycle.{Cycle}
+use Rattle.dk_cycle_counts.specs.declared.process.MainShare.{MainShare}
+use Rattle.dk_cycle_counts.specs.declared.counts.CycleCounts.{CycleCounts}
+use Rattle.dk_cycle_counts.specs.Counts.{AreCountsOf}
+use Rattle.dk_repeat_report.specs.Cycles.{CountsOne, entries_from, shares_of}
+use Rattle.dk_repeat_search.specs.Counting.{CountsSome, StartsCycle}
+
+pub starts-now : (y : Cycle) (now : ℕ) → y.start ≤ now → (now - y.start) % y.length ≡ 0 → StartsCycle y (now + 0)
+starts-now y now within none =
+    let n = now - y.start in
+    let parts = div-add-mod n y.length in
+    (n / y.length, omega (arith, parts, within, none))
+
+pub starts-later : (y : Cycle) (now : ℕ) → 0 < y.length → y.start ≤ now → StartsCycle y (now + (y.length - (now - y.start) % y.length))
+starts-later y now some within =
+    let n = now - y.start in
+    let parts = div-add-mod n y.length in
+    let low = mod_below n y.length some in
+    let times : suc (n / y.length) * y.length ≡ n / y.length * y.length + y.length = omega arith in
+    (suc (n / y.length), omega (arith, parts, within, low, times))
+
+-- the entries so far, with one more
+pub count-next : (before old new : CycleCounts) (k l : Running) (e : Entry) (n : ℕ) → trace_of l ≡ e ∷ trace_of k
+    → ((shares : List MainShare) (es : List Entry) → AreCountsOf shares es old → AreCountsOf shares (e ∷ es) new)
+    → ((shares : List MainShare) → AreCountsOf shares [] before → AreCountsOf shares (take n (trace_of k)) old)
+    → (shares : List MainShare) → AreCountsOf shares [] before → AreCountsOf shares (take (n + 1) (trace_of l)) new
+count-next before old new k l e n next more so-far = λ shares start.
+    let one : n + 1 ≡ suc n = omega arith in
+    let same : take (n + 1) (trace_of l) ≡ e ∷ take n (trace_of k) = ap (take (n + 1)) next ∙ ap (λ m. take m (e ∷ trace_of k)) one in
+    subst (λ es. AreCountsOf shares es new) (sym same) (more shares (take n (trace_of k)) (so-far shares start))
+
+pub counted-cycle : (k begun done : Running) (y : Cycle) (ahead : ℕ) (shares : List MainShare) (none counts : CycleCounts)
+    → begun ≡ record k { ticks = k.ticks + ahead } → done ≡ record begun { ticks = begun.ticks + y.length } → StartsCycle y (k.ticks + ahead)
+    → AreCountsOf shares [] none → ((ms : List MainShare) → AreCountsOf ms [] none → AreCountsOf ms (take y.length (trace_of done)) counts)
+    → CountsSome k.config k.programs shares y counts
+counted-cycle k begun done y ahead shares none counts begun-is done-is starts start counted =
+    let same : take y.length (trace_of done) ≡ entries_from k.config k.programs (y.start + starts.0 * y.length) y.length =
+    ap (λ (r : Running). take y.length (trace_of r)) (done-is ∙ ap (λ (r : Running). record r { ticks = r.ticks + y.length }) begun-is)
+    ∙ ap (λ n. take y.length (trace k.config k.programs (n + y.length))) starts.1 in
+    record { cycles = starts.0; are = subst (λ es. AreCountsOf shares es counts) same (counted shares start) }
+
+-- of all processes
+pub counts-one : (c : Configuration) (programs : List (List ℕ)) (shares : List MainShare) (y : Cycle) (k : CycleCounts) → shares ≡ shares_of c
+    → CountsSome c programs shares y k → CountsOne c programs y k
+counts-one c programs shares y k is some = record {
+  cycles = some.cycles;
+  are = subst (λ ms. AreCountsOf ms (entries_from c programs (y.start + some.cycles * y.length) y.length) k) is some.are;
+}

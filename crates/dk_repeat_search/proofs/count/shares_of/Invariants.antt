@@ -1,0 +1,7 @@
+use Rattle.std.proofs.Common.{◌≡◌, map}
+use Rattle.std.specs.List.{range_with_len}
+use Rattle.dk_repeat_report.specs.Cycles.{share_at}
+use Rattle.dk_repeat_search.proofs.count.shares_of.Given as goal
+
+abbrev pub invariant-loop-process : goal.invariant-loop-process
+invariant-loop-process l = l.shares.items ≡ map (share_at l.loaded.config) (range_with_len 0 l.process)
