@@ -1,6 +1,5 @@
 -- Digits that are read one by one.
-use Rattle.std.proofs.Common.{◌≡◌, ◌<◌, ◌+◌, ◌-◌, ◌*◌, min, take, ℕ, zero, suc, Bool, true, false, List, [], ◌∷◌, length, get_or, arith, refl}
-use Rattle.std.specs.Prelude.{◌&&◌}
+use Rattle.std.proofs.Common.{◌≡◌, ◌<◌, ◌+◌, ◌-◌, ◌*◌, min, take, ℕ, zero, suc, Bool, true, List, [], ◌∷◌, length, get_or, arith}
 use Rattle.std.specs.List.{list_all}
 use Rattle.std.specs.Char.{is_ascii_digit, digit_value}
 use Rattle.std.specs.Str.Parse.{digits_value}

@@ -4,3 +4,4 @@ pub mod Fitting
 pub mod Wanted
 pub mod Shape
 pub mod Reading
+pub mod Fit

@@ -28,7 +28,7 @@ pub(crate) enum Form {
 
 /// The values that a key takes.
 #[derive(Clone, Copy)]
-pub(crate) enum Shape {
+pub enum Shape {
     /// A number from the first to the second.
     Number { least: u32, most: u32 },
     /// The name of a need.
@@ -96,7 +96,7 @@ pub fn key_name(key: Key) -> &'static str
 }
 
 /// The values that the key takes.
-pub(crate) fn shape_of(key: Key) -> Shape
+pub fn shape_of(key: Key) -> Shape
     ensures { result ≡ shape_of key }
 {
     match key {
@@ -132,7 +132,7 @@ pub(crate) fn shape_of(key: Key) -> Shape
 }
 
 /// The key of the section's rows.
-pub(crate) fn section_key(section: Section) -> Key
+pub fn section_key(section: Section) -> Key
     ensures { result ≡ section_key section }
 {
     match section {

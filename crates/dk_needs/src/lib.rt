@@ -15,7 +15,7 @@ mod shape;
 mod tick;
 
 pub use fault::{Fault, Faults, Key, NeedsError, Place, Section, Why};
-pub use keys::key_name;
+pub use keys::{Shape, key_name, section_key, shape_of};
 pub use needs::{Names, Need, Needs, Tick, Unit, What};
 pub use reading::read_needs;
 

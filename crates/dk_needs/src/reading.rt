@@ -1,7 +1,8 @@
 //! The needs that a document of TOML stands for, or all that is wrong with it.
-ghost use Rattle.std.specs.Prelude.{◌≡◌, ◌≢◌, Err, IfOk, IfErr, IsErrOf, None, Some};
+ghost use Rattle.std.specs.Prelude.{◌≡◌, ◌≢◌, All, Err, IfOk, IfErr, IsErrOf, None, Some};
 ghost use Rattle.toml.specs.View.{table_view};
 ghost use Rattle.dk_loader.specs.Reading.{document};
+ghost use Rattle.dk_needs.specs.Fit.{IsFit};
 ghost use Rattle.dk_needs.specs.Reading.{again_faults, answer_of, named_apart, needs_of, reading, reading_of, refusal};
 
 use crate::again::again_faults;
@@ -85,6 +86,7 @@ fn read_table(alloc: Global, table: &Table) -> Result<Needs, NeedsError>
 #[tactic(auto, unfolding(crate::specs::Reading::reading))]
 pub fn read_needs(alloc: Global, bytes: &[u8]) -> Result<Needs, NeedsError>
     ensures reading { result ≢ Err NeedsError.NoMemory → result ≡ reading bytes.now }
+    ensures fit { IfOk result (λ needs. All IsFit needs.rows) }
 {
     let table = table_of(alloc, bytes)?;
     read_table(alloc, &table)

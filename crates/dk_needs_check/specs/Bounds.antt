@@ -1,0 +1,48 @@
+-- A number of a configuration, and what is asked of it.
+use Rattle.std.specs.Prelude.{ℕ, ◌≡◌, ◌≤◌, ◌↔◌, Bool, true, false, nat_le, if◌then◌else◌, IsTrue, Option, Some, None}
+use Rattle.dk_margins.specs.Margins.{IsGreatest}
+use Rattle.dk_config_report.specs.Pages.{IsLeast}
+use Rattle.dk_needs_check.specs.declared.row.Answer.{Answer}
+use Rattle.dk_needs_check.specs.declared.row.Bound.{Bound}
+use Rattle.dk_needs_check.specs.declared.row.Measure.{Measure}
+use Rattle.dk_needs_check.specs.declared.row.Verdict.{Verdict}
+
+-- at most so much is asked; of the other measures at least so much
+abbrev pub is_upper : Measure → Bool
+is_upper Measure.Done = true
+is_upper Measure.Reaction = true
+is_upper Measure.Age = true
+is_upper _ = false
+
+abbrev pub keeps : Bool → Option ℕ → ℕ → Bool
+keeps upper None asked = false
+keeps upper (Some n) asked = if upper then (nat_le n asked) else (nat_le asked n)
+
+abbrev pub is_met : Bound → Bool
+is_met b = keeps (is_upper b.measure) b.number b.asked
+
+abbrev pub verdict_of : Answer → Verdict
+verdict_of (Answer.Tested b) = if is_met b then Verdict.Met else Verdict.Missed
+verdict_of (Answer.Open reason) = Verdict.Open
+
+-- a number up to this one has the fact
+abbrev pub Within : (ℕ → Type 0) → ℕ → Type 0
+Within P asked = (n : ℕ) × (n ≤ asked) × P n
+
+-- a number from this one on has it
+abbrev pub Reaches : (ℕ → Type 0) → ℕ → Type 0
+Reaches P asked = (n : ℕ) × (asked ≤ n) × P n
+
+-- The least number with the fact is told, and the bound is met exactly where a number up to what is asked has it.
+pub record IsAtMost (P : ℕ → Type 0) (measure : Measure) (asked : ℕ) (b : Bound) : Type 0 where
+  pub number : ℕ
+  pub least : IsLeast P number
+  pub told : b ≡ record { measure = measure; number = Some number; asked = asked }
+  pub truth : IsTrue (is_met b) ↔ Within P asked
+
+-- The greatest number with the fact is told, and the bound is met exactly where a number from what is asked on has it.
+pub record IsAtLeast (P : ℕ → Type 0) (measure : Measure) (asked : ℕ) (b : Bound) : Type 0 where
+  pub most : Option ℕ
+  pub greatest : IsGreatest P most
+  pub told : b ≡ record { measure = measure; number = most; asked = asked }
+  pub truth : IsTrue (is_met b) ↔ Reaches P asked

@@ -1,0 +1,103 @@
+-- What each need means of a configuration.
+use Rattle.std.specs.Prelude.{ℕ, ◌≤◌, nat_lt, if◌then◌else◌, length, List, [], ◌∷◌, ◌≡◌, position, Option, Some, None}
+use Rattle.std.specs.Str.{bytes_eq}
+use Rattle.dk_config.specs.Configuration.{Configuration}
+use Rattle.dk_config.specs.Mutex.{Mutex}
+use Rattle.dk_config.specs.Ahead.{IsEnough}
+use Rattle.dk_config.specs.Certification.{spare}
+use Rattle.dk_config.specs.Windows.{budget}
+use Rattle.dk_plan.specs.Budget.{with_budget}
+use Rattle.dk_margins.specs.Margins.{Stands, with_hold, with_release}
+use Rattle.dk_growth.specs.Growth.{grown}
+use Rattle.dk_chain.specs.Age.{IsAge}
+use Rattle.dk_chain.specs.Chain.{AreDone, IsReaction}
+use Rattle.dk_chain_report.specs.Finding.{process_named, processes_named}
+use Rattle.dk_needs.specs.declared.needs.What.{What}
+use Rattle.dk_needs_check.specs.declared.row.Answer.{Answer}
+use Rattle.dk_needs_check.specs.declared.row.Answers.{Answers}
+use Rattle.dk_needs_check.specs.declared.row.Bound.{Bound}
+use Rattle.dk_needs_check.specs.declared.row.Measure.{Measure}
+use Rattle.dk_needs_check.specs.declared.row.Reason.{Reason}
+use Rattle.dk_needs_check.specs.Bounds.{IsAtLeast, IsAtMost}
+
+abbrev pub mutex_named : Configuration → List ℕ → Option ℕ
+mutex_named c name = position (λ (row : Mutex). bytes_eq row.name name) c.mutexes
+
+-- the level of this number
+abbrev pub level_numbered : Configuration → ℕ → Option ℕ
+level_numbered c j = if nat_lt j (length c.levels) then Some j else None
+
+-- so many ticks of each of its windows are enough for the whole budget of the process's main
+abbrev pub IsDone : Configuration → ℕ → ℕ → Type 0
+IsDone c p n = IsEnough c p (budget c p) n
+
+-- the age of the data that the last process of the chain works with
+abbrev pub HasAge : Configuration → (ℕ → ℕ) → ℕ → List ℕ → ℕ → Type 0
+HasAge c done first rest n = (reaction : ℕ) × IsReaction c done (first ∷ rest) reaction × IsAge c first rest reaction n
+
+-- with so much of one number, all else as it is, the configuration breaks none of C4 to C13 and is certified
+abbrev pub HasBudget : Configuration → ℕ → ℕ → Type 0
+HasBudget c p n = Stands (with_budget c p n)
+
+abbrev pub HasHold : Configuration → ℕ → ℕ → Type 0
+HasHold c m n = Stands (with_hold c m n)
+
+abbrev pub HasRelease : Configuration → ℕ → ℕ → Type 0
+HasRelease c j n = Stands (with_release c j n)
+
+-- and so with all budgets grown by so many percent
+abbrev pub HasGrowth : Configuration → ℕ → Type 0
+HasGrowth c n = Stands (grown c n)
+
+-- so many ticks of each window of the level are left over
+abbrev pub HasSpare : Configuration → ℕ → ℕ → Type 0
+HasSpare c j n = n ≤ spare c j
+
+abbrev pub IsReactionBound : Configuration → ℕ → List ℕ → ℕ → Bound → Type 0
+IsReactionBound c first rest within b =
+    (done : ℕ → ℕ) → AreDone c done → IsAtMost (IsReaction c done (first ∷ rest)) Measure.Reaction within b
+
+abbrev pub IsAgeBound : Configuration → ℕ → List ℕ → ℕ → Bound → Type 0
+IsAgeBound c first rest within b =
+    (done : ℕ → ℕ) → AreDone c done → IsAtMost (HasAge c done first rest) Measure.Age within b
+
+-- what is asked of a number, if anything is
+abbrev pub tested_where : Measure → ℕ → Option ℕ → Option Answer
+tested_where measure number None = None
+tested_where measure number (Some asked) = Some (Answer.Tested (record { measure = measure; number = Some number; asked = asked }))
+
+-- the bound of what is asked for, where it is there, and else nothing
+abbrev pub IfThere : (ℕ → Bound → Type 0) → Option ℕ → Option Answer → Type 0
+IfThere IsBound None answer = answer ≡ None
+IfThere IsBound (Some n) answer = (b : Bound) × IsBound n b × (answer ≡ Some (Answer.Tested b))
+
+-- one answer, and no second
+abbrev pub AreOne : (Option Answer → Type 0) → Answers → Type 0
+AreOne IsAnswer a = IsAnswer a.first × (a.second ≡ None)
+
+abbrev pub AreNone : Answers → Type 0
+AreNone a = (a.first ≡ None) × (a.second ≡ None)
+
+-- a chain's reaction time and the age of its data, as far as they are asked for
+abbrev pub AreOfChain : Configuration → Option ℕ → Option ℕ → Option (List ℕ) → Answers → Type 0
+AreOfChain c reaction age None a = AreNone a
+AreOfChain c reaction age (Some []) a = AreNone a
+AreOfChain c reaction age (Some (first ∷ rest)) a =
+    IfThere (IsReactionBound c first rest) reaction a.first × IfThere (IsAgeBound c first rest) age a.second
+
+-- what is told of a need
+abbrev pub AreAnswers : Configuration → What → Answers → Type 0
+AreAnswers c (What.Deadline name within) a =
+    AreOne (IfThere (λ p. IsAtMost (IsDone c p) Measure.Done within) (process_named c name)) a
+AreAnswers c (What.Chain names reaction age) a = AreOfChain c reaction age (processes_named c names) a
+AreAnswers c (What.Budget name wanted) a =
+    AreOne (IfThere (λ p. IsAtLeast (HasBudget c p) Measure.Budget wanted) (process_named c name)) a
+AreAnswers c (What.Hold name wanted) a =
+    AreOne (IfThere (λ m. IsAtLeast (HasHold c m) Measure.Hold wanted) (mutex_named c name)) a
+AreAnswers c (What.Release level wanted) a =
+    AreOne (IfThere (λ j. IsAtLeast (HasRelease c j) Measure.Release wanted) (level_numbered c level)) a
+AreAnswers c (What.Growth percent) a = AreOne (IfThere (IsAtLeast (HasGrowth c) Measure.Growth) (Some percent)) a
+AreAnswers c (What.Spare level ticks) a =
+    AreOne (IfThere (λ j. IsAtLeast (HasSpare c j) Measure.Spare ticks) (level_numbered c level)) a
+AreAnswers c (What.Always name) a = AreOne (λ answer. answer ≡ Some (Answer.Open Reason.NotTested)) a
+AreAnswers c (What.Run overruns refused faults) a = AreOne (λ answer. answer ≡ Some (Answer.Open Reason.NoLedger)) a

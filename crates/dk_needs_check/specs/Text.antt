@@ -1,0 +1,137 @@
+-- What is told of the rows, as text: a line each, and how many are met, missed and open.
+use Rattle.std.specs.Prelude.{ℕ, ◌*◌, ◌==◌, Bool, true, false, List, [], ◌++◌, length, filter, flat_map, slice_get, codes, decimal, if◌then◌else◌, Option, Some, None}
+use Rattle.std.specs.List.{list_all}
+use Rattle.std.specs.Option.{option_map_or}
+use Rattle.dk_needs.specs.Wanted.{Wanted}
+use Rattle.dk_needs.specs.declared.needs.Need.{Need}
+use Rattle.dk_needs.specs.declared.needs.Tick.{Tick}
+use Rattle.dk_needs.specs.declared.needs.Unit.{Unit}
+use Rattle.dk_needs.specs.declared.needs.What.{What}
+use Rattle.dk_needs_check.specs.declared.row.Answer.{Answer}
+use Rattle.dk_needs_check.specs.declared.row.Bound.{Bound}
+use Rattle.dk_needs_check.specs.declared.row.Measure.{Measure}
+use Rattle.dk_needs_check.specs.declared.row.Reason.{Reason}
+use Rattle.dk_needs_check.specs.declared.row.Row.{Row}
+use Rattle.dk_needs_check.specs.declared.row.Verdict.{Verdict}
+use Rattle.dk_needs_check.specs.Bounds.{is_upper, verdict_of}
+
+abbrev pub verdict_word : Verdict → List ℕ
+verdict_word Verdict.Met = codes "met"
+verdict_word Verdict.Missed = codes "missed"
+verdict_word Verdict.Open = codes "open"
+
+abbrev pub measure_words : Measure → List ℕ
+measure_words Measure.Done = codes "done by"
+measure_words Measure.Reaction = codes "reaction"
+measure_words Measure.Age = codes "age"
+measure_words Measure.Budget = codes "budget up to"
+measure_words Measure.Hold = codes "hold up to"
+measure_words Measure.Release = codes "release up to"
+measure_words Measure.Growth = codes "growth up to"
+measure_words Measure.Spare = codes "spare"
+
+abbrev pub reason_words : Reason → List ℕ
+reason_words Reason.NotTested = codes "not tested"
+reason_words Reason.NoLedger = codes "no ledger"
+
+-- whose number it is
+abbrev pub subject_of : What → List ℕ
+subject_of (What.Deadline name within) = name
+subject_of (What.Budget name budget) = name
+subject_of (What.Hold name hold) = name
+subject_of (What.Release level release) = codes "level " ++ decimal level
+subject_of (What.Spare level ticks) = codes "level " ++ decimal level
+subject_of _ = []
+
+-- a word before others, if there is one
+abbrev pub before_space : List ℕ → List ℕ
+before_space word = if length word == 0 then [] else (word ++ codes " ")
+
+abbrev pub number_text : Option ℕ → List ℕ
+number_text None = codes "none"
+number_text (Some n) = decimal n
+
+-- between the number and what is asked of it: at most, or at least
+abbrev pub between_text : Bool → List ℕ
+between_text upper = if upper then (codes " of ") else (codes " needs ")
+
+abbrev pub bound_text : Bound → List ℕ
+bound_text b =
+    measure_words b.measure ++ (codes " " ++ (number_text b.number ++ (between_text (is_upper b.measure) ++ decimal b.asked)))
+
+abbrev pub unit_word : Unit → List ℕ
+unit_word Unit.Nanoseconds = codes "ns"
+unit_word Unit.Microseconds = codes "us"
+unit_word Unit.Milliseconds = codes "ms"
+unit_word Unit.Seconds = codes "s"
+
+-- so many ticks as a time, exactly
+abbrev pub time_text : Tick → Option ℕ → List ℕ
+time_text tick None = codes "none"
+time_text tick (Some n) = decimal (n * tick.amount) ++ unit_word tick.unit
+
+-- all numbers but growth are times
+abbrev pub is_time : Measure → Bool
+is_time Measure.Growth = false
+is_time _ = true
+
+abbrev pub times_of : Tick → Bound → List ℕ
+times_of tick b =
+    codes ", " ++ (time_text tick b.number ++ (between_text (is_upper b.measure) ++ time_text tick (Some b.asked)))
+
+-- the same numbers as times, where the needs say how long a tick is
+abbrev pub times_text : Option Tick → Bound → List ℕ
+times_text None b = []
+times_text (Some tick) b = if is_time b.measure then times_of tick b else []
+
+abbrev pub answer_text : Option Tick → What → Answer → List ℕ
+answer_text tick what (Answer.Tested b) = before_space (subject_of what) ++ (bound_text b ++ times_text tick b)
+answer_text tick what (Answer.Open reason) = reason_words reason
+
+abbrev pub line_of : List ℕ → List ℕ → List ℕ → List ℕ
+line_of verdict id answer = verdict ++ (codes " " ++ (id ++ (codes " " ++ (answer ++ codes "\n"))))
+
+abbrev pub answer_line : Option Tick → Need → Answer → List ℕ
+answer_line tick need answer = line_of (verdict_word (verdict_of answer)) need.id (answer_text tick need.what answer)
+
+abbrev pub row_line : Option Tick → List Need → Row → List ℕ
+row_line tick needs row = option_map_or (λ need. answer_line tick need row.answer) (slice_get needs row.need) []
+
+abbrev pub is_verdict_met : Verdict → Bool
+is_verdict_met Verdict.Met = true
+is_verdict_met _ = false
+
+abbrev pub is_verdict_missed : Verdict → Bool
+is_verdict_missed Verdict.Missed = true
+is_verdict_missed _ = false
+
+abbrev pub is_verdict_open : Verdict → Bool
+is_verdict_open Verdict.Open = true
+is_verdict_open _ = false
+
+abbrev pub is_met_row : Row → Bool
+is_met_row row = is_verdict_met (verdict_of row.answer)
+
+abbrev pub is_missed_row : Row → Bool
+is_missed_row row = is_verdict_missed (verdict_of row.answer)
+
+abbrev pub is_open_row : Row → Bool
+is_open_row row = is_verdict_open (verdict_of row.answer)
+
+abbrev pub how_many : (Row → Bool) → List Row → ℕ
+how_many told rows = length (filter told rows)
+
+abbrev pub count_text : ℕ → ℕ → ℕ → List ℕ
+count_text met missed untested = codes "met "
+    ++ (decimal met ++ (codes " missed " ++ (decimal missed ++ (codes " open " ++ (decimal untested ++ codes "\n")))))
+
+abbrev pub count_line : List Row → List ℕ
+count_line rows = count_text (how_many is_met_row rows) (how_many is_missed_row rows) (how_many is_open_row rows)
+
+-- the whole text
+abbrev pub needs_text : Wanted → List Row → List ℕ
+needs_text needs rows = flat_map (row_line needs.tick needs.rows) rows ++ count_line rows
+
+-- all that was asked for is met
+abbrev pub are_met : List Row → Bool
+are_met rows = list_all is_met_row rows

@@ -1,0 +1,158 @@
+//! What is told of a need.
+ghost use Rattle.std.specs.Prelude.{◌≡◌, ◌≤◌, length, IfOk, None, Some};
+ghost use Rattle.dk_config.specs.Checked.{BreaksNoRule, IsChecked, IsWithinLimits};
+ghost use Rattle.dk_config.specs.declared.TheConstants.{MAX_PROCESSES};
+ghost use Rattle.dk_chain_report.specs.Finding.{process_named, processes_named};
+ghost use Rattle.dk_needs.specs.Fit.{HasNames};
+ghost use Rattle.dk_needs_check.specs.declared.row.Measure.{Measure};
+ghost use Rattle.dk_needs_check.specs.Bounds.{IsAtLeast, IsAtMost};
+ghost use Rattle.dk_needs_check.specs.Meaning.{AreAnswers, AreOfChain, HasBudget, HasHold, HasRelease, HasSpare, IfThere, IsDone, level_numbered, mutex_named};
+
+use crate::bounds::{
+    budget_bound, chain_bounds, done_bound, growth_bound, hold_bound, release_bound, spare_bound,
+};
+use crate::finding::{level_numbered, mutex_named, process_named};
+use crate::{Answer, Answers, Reason};
+use dk_chain_report::find_chain;
+use dk_config::{Config, NoMemory, Text};
+use dk_needs::What;
+use std::alloc::Global;
+
+fn deadline(config: &Config, name: &str, within: u32) -> Option<Answer>
+    requires checked { IsChecked config.now }
+    requires limits { IsWithinLimits config.now }
+    ensures { IfThere (λ p. IsAtMost (IsDone config.now p) Measure.Done within)
+        (process_named config.now name.now) result }
+{
+    match process_named(config, name) {
+        Some(process) => Some(Answer::Tested(done_bound(config, process, within))),
+        None => None,
+    }
+}
+
+fn budget(config: &Config, name: &str, wanted: u32) -> Option<Answer>
+    requires unbroken { BreaksNoRule config.now }
+    requires checked { IsChecked config.now }
+    requires limits { IsWithinLimits config.now }
+    ensures { IfThere (λ p. IsAtLeast (HasBudget config.now p) Measure.Budget wanted)
+        (process_named config.now name.now) result }
+{
+    match process_named(config, name) {
+        Some(process) => Some(Answer::Tested(budget_bound(config, process, wanted))),
+        None => None,
+    }
+}
+
+fn hold(config: &Config, name: &str, wanted: u32) -> Option<Answer>
+    requires unbroken { BreaksNoRule config.now }
+    requires checked { IsChecked config.now }
+    requires limits { IsWithinLimits config.now }
+    ensures { IfThere (λ m. IsAtLeast (HasHold config.now m) Measure.Hold wanted)
+        (mutex_named config.now name.now) result }
+{
+    match mutex_named(config, name) {
+        Some(mutex) => Some(Answer::Tested(hold_bound(config, mutex, wanted))),
+        None => None,
+    }
+}
+
+fn release(config: &Config, level: u32, wanted: u32) -> Option<Answer>
+    requires unbroken { BreaksNoRule config.now }
+    requires checked { IsChecked config.now }
+    requires limits { IsWithinLimits config.now }
+    ensures { IfThere (λ j. IsAtLeast (HasRelease config.now j) Measure.Release wanted)
+        (level_numbered config.now level) result }
+{
+    match level_numbered(config, level) {
+        Some(level) => Some(Answer::Tested(release_bound(config, level, wanted))),
+        None => None,
+    }
+}
+
+fn spare(config: &Config, level: u32, wanted: u32) -> Option<Answer>
+    requires checked { IsChecked config.now }
+    requires limits { IsWithinLimits config.now }
+    ensures { IfThere (λ j. IsAtLeast (HasSpare config.now j) Measure.Spare wanted)
+        (level_numbered config.now level) result }
+{
+    match level_numbered(config, level) {
+        Some(level) => Some(Answer::Tested(spare_bound(config, level, wanted))),
+        None => None,
+    }
+}
+
+fn one(answer: Option<Answer>) -> Answers
+    ensures first { result.first ≡ answer }
+    ensures second { result.second ≡ None }
+{
+    Answers {
+        first: answer,
+        second: None,
+    }
+}
+
+/// Of a chain: its reaction time and the age of its data, as far as they are asked for.
+fn chain(
+    alloc: Global,
+    config: &Config,
+    names: &[Text],
+    reaction_asked: Option<u32>,
+    age_asked: Option<u32>,
+) -> Result<Answers, NoMemory>
+    requires checked { IsChecked config.now }
+    requires limits { IsWithinLimits config.now }
+    requires few { length names.now ≤ MAX_PROCESSES }
+    ensures { IfOk result (AreOfChain config.now reaction_asked age_asked (processes_named config.now names.now)) }
+{
+    match names {
+        [] => Ok(one(None)),
+        [first, rest @ ..] => match find_chain(alloc, config, first.as_str(), rest)? {
+            Some(chain) => Ok(chain_bounds(
+                config,
+                chain.first,
+                &chain.rest,
+                reaction_asked,
+                age_asked,
+            )),
+            None => Ok(one(None)),
+        },
+    }
+}
+
+/// What is told of a need.
+pub(crate) fn answers_of(alloc: Global, config: &Config, what: &What) -> Result<Answers, NoMemory>
+    requires unbroken { BreaksNoRule config.now }
+    requires checked { IsChecked config.now }
+    requires limits { IsWithinLimits config.now }
+    requires fit { HasNames what.now }
+    ensures { IfOk result (AreAnswers config.now what.now) }
+{
+    match what {
+        What::Deadline { process, within } => {
+            Ok(one(deadline(config, process.as_str(), *within)))
+        }
+        What::Chain {
+            processes,
+            reaction,
+            age,
+        } => chain(alloc, config, processes.as_slice(), *reaction, *age),
+        What::Budget {
+            process,
+            budget: wanted,
+        } => Ok(one(budget(config, process.as_str(), *wanted))),
+        What::Hold {
+            mutex,
+            hold: wanted,
+        } => Ok(one(hold(config, mutex.as_str(), *wanted))),
+        What::Release {
+            level,
+            release: wanted,
+        } => Ok(one(release(config, *level, *wanted))),
+        What::Growth { percent } => {
+            Ok(one(Some(Answer::Tested(growth_bound(config, *percent)))))
+        }
+        What::Spare { level, ticks } => Ok(one(spare(config, *level, *ticks))),
+        What::Always { .. } => Ok(one(Some(Answer::Open(Reason::NotTested)))),
+        What::Run { .. } => Ok(one(Some(Answer::Open(Reason::NoLedger)))),
+    }
+}

@@ -1,0 +1,71 @@
+//! What is told of needs.
+
+/// What a number measures: ticks, and of growth percent.
+#[derive(Clone, Copy)]
+pub enum Measure {
+    /// After so many ticks of each window a main has had its whole budget.
+    Done,
+    /// Within so many ticks a chain has answered each event.
+    Reaction,
+    /// So old is the data that the last process of a chain works with.
+    Age,
+    /// So great a process's budget can be.
+    Budget,
+    /// So long a mutex's hold can be.
+    Hold,
+    /// So long a level's release can be.
+    Release,
+    /// By so many percent all budgets can grow at once.
+    Growth,
+    /// So many ticks of each window of a level are left over.
+    Spare,
+}
+
+/// A number of the configuration, and what is asked of it: at most so much of `Done`, `Reaction` and `Age`, and of the
+/// others at least so much.
+#[derive(Clone, Copy)]
+pub struct Bound {
+    pub measure: Measure,
+    /// The least number of the measure, or the greatest; `None` where there is none.
+    pub number: Option<u32>,
+    pub asked: u32,
+}
+
+/// Why a need is neither met nor missed.
+#[derive(Clone, Copy)]
+pub enum Reason {
+    /// What it asks for isn't tested.
+    NotTested,
+    /// It asks of a ledger, and there is none.
+    NoLedger,
+}
+
+/// What is told of one thing that a need asks for.
+#[derive(Clone, Copy)]
+pub enum Answer {
+    Tested(Bound),
+    Open(Reason),
+}
+
+/// What is told of a need: of a chain its reaction time and the age of its data, as far as they are asked for; of any
+/// other one answer. There is none where the configuration hasn't got what is named.
+#[derive(Clone, Copy)]
+pub struct Answers {
+    pub first: Option<Answer>,
+    pub second: Option<Answer>,
+}
+
+/// An answer, with the number of its need in the order in which needs are read.
+#[derive(Clone, Copy)]
+pub struct Row {
+    pub need: usize,
+    pub answer: Answer,
+}
+
+/// The word for an answer.
+#[derive(Clone, Copy)]
+pub enum Verdict {
+    Met,
+    Missed,
+    Open,
+}

@@ -1,0 +1,210 @@
+//! The rows as a table. No field has a byte that calls for quotes, so a row is its fields with commas between them.
+ghost use Rattle.std.specs.Prelude.{◌≡◌, ◌++◌, ◌∷◌, [], All, codes, decimal, flat_map, string_bytes, IfOk, OnOk};
+ghost use Rattle.dk_needs.specs.Fit.{IsFit};
+ghost use Rattle.dk_needs_check.specs.Csv.{IsPlain, asked_of, columns, fields, joined_record, measure_field, measure_word, needs_csv, number_field, number_of, reason_field, record_text, row_record};
+
+use crate::text::{reason_words, subject_of, verdict_word};
+use crate::{Answer, Measure, Row, verdict_of};
+use dk_config::NoMemory;
+use dk_config_report::{Page, push_line};
+use dk_needs::{Need, Needs};
+use std::alloc::{AllocError, Global};
+
+fn measure_word(measure: Measure) -> &'static str
+    ensures text { result.now ≡ measure_word measure }
+    ensures plain { IsPlain result.now }
+{
+    match measure {
+        Measure::Done => "done",
+        Measure::Reaction => "reaction",
+        Measure::Age => "age",
+        Measure::Budget => "budget",
+        Measure::Hold => "hold",
+        Measure::Release => "release",
+        Measure::Growth => "growth",
+        Measure::Spare => "spare",
+    }
+}
+
+pub(crate) fn measure_field(answer: Answer) -> &'static str
+    ensures text { result.now ≡ measure_field answer }
+    ensures plain { IsPlain result.now }
+{
+    match answer {
+        Answer::Tested(bound) => measure_word(bound.measure),
+        Answer::Open(_) => "",
+    }
+}
+
+fn number_of(answer: Answer) -> Option<u32>
+    ensures { result ≡ number_of answer }
+{
+    match answer {
+        Answer::Tested(bound) => bound.number,
+        Answer::Open(_) => None,
+    }
+}
+
+fn asked_of(answer: Answer) -> Option<u32>
+    ensures { result ≡ asked_of answer }
+{
+    match answer {
+        Answer::Tested(bound) => Some(bound.asked),
+        Answer::Open(_) => None,
+    }
+}
+
+fn reason_field(answer: Answer) -> &'static str
+    ensures text { result.now ≡ reason_field answer }
+    ensures plain { IsPlain result.now }
+{
+    match answer {
+        Answer::Tested(_) => "",
+        Answer::Open(reason) => reason_words(reason),
+    }
+}
+
+fn number_text(alloc: Global, number: u32) -> Result<String, AllocError>
+    ensures text { IfOk result (λ s. string_bytes s ≡ decimal number) }
+    ensures plain { IfOk result (λ s. IsPlain (string_bytes s)) }
+{
+    format!(in alloc; "{number}")
+}
+
+/// A field that is empty where there is no number.
+fn number_field(alloc: Global, number: Option<u32>) -> Result<String, AllocError>
+    ensures text { IfOk result (λ s. string_bytes s ≡ number_field number) }
+    ensures plain { IfOk result (λ s. IsPlain (string_bytes s)) }
+{
+    match number {
+        Some(number) => number_text(alloc, number),
+        None => String::from_str(alloc, ""),
+    }
+}
+
+fn joined_numbers(
+    alloc: Global,
+    measure: &str,
+    number: &str,
+    asked: &str,
+    reason: &str,
+) -> Result<String, AllocError>
+    ensures { IfOk result (λ s. string_bytes s ≡ joined_record measure.now (number.now ∷ asked.now ∷ reason.now ∷ [])) }
+{
+    format!(in alloc; "{measure},{number},{asked},{reason}\n")
+}
+
+fn joined_words(
+    alloc: Global,
+    verdict: &str,
+    id: &str,
+    subject: &str,
+    rest: &str,
+) -> Result<String, AllocError>
+    ensures { IfOk result (λ s. string_bytes s
+        ≡ verdict.now ++ (codes "," ++ (id.now ++ (codes "," ++ (subject.now ++ (codes "," ++ rest.now)))))) }
+{
+    format!(in alloc; "{verdict},{id},{subject},{rest}")
+}
+
+fn joined_record(
+    alloc: Global,
+    verdict: &str,
+    id: &str,
+    subject: &str,
+    measure: &str,
+    number: &str,
+    asked: &str,
+    reason: &str,
+) -> Result<String, AllocError>
+    ensures { IfOk result (λ s. string_bytes s ≡ joined_record verdict.now
+        (id.now ∷ subject.now ∷ measure.now ∷ number.now ∷ asked.now ∷ reason.now ∷ [])) }
+{
+    let numbers = joined_numbers(alloc, measure, number, asked, reason)?;
+    joined_words(alloc, verdict, id, subject, numbers.as_str())
+}
+
+fn record_of(
+    alloc: Global,
+    verdict: &str,
+    id: &str,
+    subject: &str,
+    measure: &str,
+    number: &str,
+    asked: &str,
+    reason: &str,
+) -> Result<String, AllocError>
+    requires verdict { IsPlain verdict.now }
+    requires id { IsPlain id.now }
+    requires subject { IsPlain subject.now }
+    requires measure { IsPlain measure.now }
+    requires number { IsPlain number.now }
+    requires asked { IsPlain asked.now }
+    requires reason { IsPlain reason.now }
+    ensures { IfOk result (λ s. string_bytes s ≡ record_text
+        (verdict.now ∷ id.now ∷ subject.now ∷ measure.now ∷ number.now ∷ asked.now ∷ reason.now ∷ [])) }
+{
+    joined_record(alloc, verdict, id, subject, measure, number, asked, reason)
+}
+
+fn need_record(alloc: Global, need: &Need, answer: Answer) -> Result<String, AllocError>
+    requires { IsFit need.now }
+    ensures { IfOk result (λ s. string_bytes s ≡ record_text (fields need.now answer)) }
+{
+    let subject = subject_of(alloc, &need.what)?;
+    let number = number_field(alloc, number_of(answer))?;
+    let asked = number_field(alloc, asked_of(answer))?;
+    record_of(
+        alloc,
+        verdict_word(verdict_of(answer)),
+        need.id.as_str(),
+        subject.as_str(),
+        measure_field(answer),
+        number.as_str(),
+        asked.as_str(),
+        reason_field(answer),
+    )
+}
+
+fn row_record(alloc: Global, needs: &[Need], row: Row) -> Result<String, AllocError>
+    requires { All IsFit needs.now }
+    ensures { IfOk result (λ s. string_bytes s ≡ row_record needs.now row) }
+{
+    match needs.get(row.need) {
+        Some(need) => need_record(alloc, need, row.answer),
+        None => String::from_str(alloc, ""),
+    }
+}
+
+fn add_records(
+    alloc: Global,
+    text: &mut String,
+    needs: &[Need],
+    rows: &[Row],
+) -> Result<(), AllocError>
+    requires { All IsFit needs.now }
+    ensures { OnOk result (string_bytes text.new ≡ string_bytes text.old ++ flat_map (row_record needs.now) rows.now) }
+{
+    for row in rows {
+        let line = row_record(alloc, needs, *row)?;
+        push_line(text, line)?;
+    }
+    Ok(())
+}
+
+/// The names of the columns, as a row.
+fn column_names(alloc: Global) -> Result<String, AllocError>
+    ensures { IfOk result (λ s. string_bytes s ≡ record_text columns) }
+{
+    String::from_str(alloc, "verdict,id,subject,measure,number,asked,reason\n")
+}
+
+/// The same as a table: the names of the columns, and a row for each row. `Err` is want of memory.
+pub fn needs_csv(alloc: Global, needs: &Needs, rows: &[Row]) -> Result<Page, NoMemory>
+    requires fit { All IsFit needs.now.rows }
+    ensures { IfOk result (λ page. page ≡ needs_csv needs.now.rows rows.now) }
+{
+    let mut text = column_names(alloc)?;
+    add_records(alloc, &mut text, &needs.rows, rows)?;
+    Ok(Page::new(text))
+}
