@@ -1,0 +1,20 @@
+-- What is looked for in words as the program has them.
+use Rattle.std.proofs.Common.{◌≡◌, List, [], ◌∷◌, map, length, refl, inl, inr}
+use Rattle.std.specs.Prelude.{Bool, filter, find, option_map}
+use Rattle.std.proofs.lemmas.Bool.{cases_Bool}
+
+pub find-map : {A B : Type 0} (f : A → B) (p : B → Bool) (xs : List A) → find p (map f xs) ≡ option_map f (find (λ x. p (f x)) xs)
+find-map f p [] = refl
+find-map f p (x ∷ xs) =
+    elim (cases_Bool (p (f x))) [
+      | inl e ↦ simp e refl
+      | inr e ↦ simp (e, find-map f p xs) refl
+    ]
+
+pub length-filter-map : {A B : Type 0} (f : A → B) (p : B → Bool) (xs : List A) → length (filter p (map f xs)) ≡ length (filter (λ x. p (f x)) xs)
+length-filter-map f p [] = refl
+length-filter-map f p (x ∷ xs) =
+    elim (cases_Bool (p (f x))) [
+      | inl e ↦ simp (e, length-filter-map f p xs) refl
+      | inr e ↦ simp (e, length-filter-map f p xs) refl
+    ]

@@ -1,0 +1,6 @@
+pub mod Numerals
+pub mod Finding
+mod FewNames
+pub mod TrueReasons
+pub mod OneLine
+mod Rows

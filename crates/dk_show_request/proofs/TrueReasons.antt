@@ -1,0 +1,153 @@
+-- The reason that is told holds of the words.
+use Rattle.std.proofs.Common.{ℕ, ◌≡◌, ◌<◌, ◌==◌, ◌∙◌, Bool, true, false, List, [], ◌∷◌, length, refl, sym, subst, arith, inl, inr}
+use Rattle.std.specs.Prelude.{◌&&◌, ◌||◌, not, Option, Some, None, drop, find, is_some, nat_lt, if◌then◌else◌}
+use Rattle.std.specs.Option.{option_map_or}
+use Rattle.std.proofs.lemmas.Bool.{cases_Bool, and_parts}
+use Rattle.std.proofs.lemmas.Bool.Decides.{nat_tests}
+use Rattle.std.proofs.lemmas.List.Folds.{find_at}
+use Rattle.std.specs.List.{position_or_len}
+use Rattle.dk_config.specs.declared.TheConstants.{MAX_PROCESSES}
+use Rattle.dk_show_request.specs.declared.commands.Command.{Command}
+use Rattle.dk_show_request.specs.declared.commands.Command.TheVariants as command
+use Rattle.dk_show_request.specs.Forms.{Form, form_of}
+use Rattle.dk_show_request.specs.Meaning.{is_plain_word, word_at}
+use Rattle.dk_show_request.specs.Numbers.{ticks_in}
+use Rattle.dk_show_request.specs.Reasons.{Reason, arguments, count_reason, ends_bare, has_many_names, is_below, is_disordered, is_mark, is_no_ticks, is_repeated, is_unfit, mark_reason, mark_reason_by, missing_name, names_reason, no_ticks_word, order_reason, surplus_reason, surplus_word, ticks_reason, unfit_reason, unfit_word}
+use Rattle.dk_show_request.specs.TrueReasons.{AreNotBelow, HoldsOf, LeavesOut, ReasonsHold, StandsIn}
+
+or_else : {X : Type 0} (P : Reason → Type 0) (g : X → Reason) (o : Option X) (d : Reason)
+    → ((x : X) → o ≡ Some x → P (g x)) → (o ≡ None → P d) → P (option_map_or g o d)
+or_else P g None d some none = none refl
+or_else P g (Some x) d some none = some x refl
+
+if_so : (P : Reason → Type 0) (b : Bool) (r d : Reason) → (b ≡ true → P r) → (b ≡ false → P d) → P (if b then r else d)
+if_so P true r d on_true on_false = on_true refl
+if_so P false r d on_true on_false = on_false refl
+
+stands : (p : List ℕ → Bool) (ws : List (List ℕ)) (w : List ℕ) → find p ws ≡ Some w → StandsIn ws w
+stands p ws w e = (position_or_len p ws, sym (find_at p ws) ∙ e)
+
+passes : (p : List ℕ → Bool) (ws : List (List ℕ)) (w : List ℕ) → find p ws ≡ Some w → p w ≡ true
+passes p [] w h = absurd (cc)
+passes p (v ∷ ws) w h = go (p v) refl (passes p ws w) h
+  where
+    go : (t : Bool) → p v ≡ t → (find p ws ≡ Some w → p w ≡ true) → (if t then Some v else find p ws) ≡ Some w → p w ≡ true
+    go true is rest h = let same : v ≡ w = cc in subst (λ k. p k ≡ true) same is
+    go false is rest h = rest h
+
+neither : (a b : Bool) → not (a || b) ≡ true → (a ≡ false) × (b ≡ false)
+neither false false h = (refl, refl)
+neither false true h = absurd (cc)
+neither true b h = absurd (cc)
+
+none_in : (o : Option ℕ) → not (is_some o) ≡ true → o ≡ None
+none_in None h = refl
+none_in (Some n) h = absurd (cc)
+
+empty_word : (w : List ℕ) → (length w == 0) ≡ true → w ≡ []
+empty_word [] h = refl
+empty_word (b ∷ bs) h = absurd (grind (arith, nat_tests))
+
+left_out : (f : Form) (n : ℕ) (name : List ℕ) → missing_name f n ≡ Some name → LeavesOut f n name
+left_out f n name e =
+    elim (cases_Bool (nat_lt n (length f.needed))) [
+      | inl a ↦ inl (rw a at e)
+      | inr a ↦ elim (cases_Bool (n == length f.needed)) [
+        | inl b ↦ let no : None ≡ Some name = rw (a, b) at e in absurd (cc)
+        | inr b ↦ let below : length f.needed < n = grind (arith, nat_tests) in inr (below, rw (a, b) at e)
+      ]
+    ]
+
+too_many : (f : Form) (ps ws : List (List ℕ)) (w : List ℕ) → surplus_word f ps ≡ Some w → HoldsOf f ps ws (Reason.surplus w)
+too_many f ps ws w e =
+    elim (cases_Bool f.repeats) [
+      | inl a ↦ let no : None ≡ Some w = rw a at e in absurd (cc)
+      | inr a ↦ (a, rw a at e)
+    ]
+
+no_number : (f : Form) (ps ws : List (List ℕ)) (w : List ℕ) → no_ticks_word f ps ≡ Some w → HoldsOf f ps ws (Reason.no_ticks w)
+no_number f ps ws w e =
+    elim (cases_Bool f.ticks) [
+      | inl a ↦ let found : find is_no_ticks (drop 1 ps) ≡ Some w = rw a at e in
+          (a, stands is_no_ticks (drop 1 ps) w found, none_in (ticks_in w) (passes is_no_ticks (drop 1 ps) w found))
+      | inr a ↦ let no : None ≡ Some w = rw a at e in absurd (cc)
+    ]
+
+not_below : (from to : List ℕ) → find is_no_ticks (from ∷ to ∷ []) ≡ None → not (is_below (ticks_in from) (ticks_in to)) ≡ true → AreNotBelow from to
+not_below from to e h = go (ticks_in from) (ticks_in to) refl refl e h
+  where
+    go : (x y : Option ℕ) → ticks_in from ≡ x → ticks_in to ≡ y
+        → (if not (is_some x) then Some from else if not (is_some y) then Some to else None) ≡ None
+        → not (is_below x y) ≡ true → AreNotBelow from to
+    go None y is_x is_y e h = absurd (cc)
+    go (Some m) None is_x is_y e h = absurd (cc)
+    go (Some m) (Some n) is_x is_y e h = (m, n, is_x, is_y, grind (arith, nat_tests))
+
+marks : (f : Form) (ps ws : List (List ℕ)) → HoldsOf f ps ws (mark_reason f ws)
+marks f ps ws =
+    let P = λ (r : Reason). HoldsOf f ps ws r in
+    or_else P (λ mark. mark_reason_by f mark ws) f.mark Reason.other
+    (λ mark is. if_so P (is_repeated f ws) (Reason.repeated mark) (if ends_bare f ws then Reason.bare mark else Reason.other)
+    (λ twice. (is, grind (arith, nat_tests)))
+    (λ once. if_so P (ends_bare f ws) (Reason.bare mark) Reason.other (λ bare. (is, bare)) (λ _. tt)))
+    (λ _. tt)
+
+many : (c : Command) (ps : List (List ℕ)) → has_many_names c ps ≡ true → MAX_PROCESSES < length (drop 1 ps)
+many command.Chain ps h = grind (arith, nat_tests)
+many command.Picture ps h = absurd (cc)
+many (command.Draw d) ps h = absurd (cc)
+many command.Windows ps h = absurd (cc)
+many command.Faults ps h = absurd (cc)
+many (command.Tell t) ps h = absurd (cc)
+many command.Impact ps h = absurd (cc)
+many command.Repeats ps h = absurd (cc)
+many command.Check ps h = absurd (cc)
+
+names : (c : Command) (ps ws : List (List ℕ)) → HoldsOf (form_of c) ps ws (names_reason c ps ws)
+names c ps ws =
+    if_so (HoldsOf (form_of c) ps ws) (has_many_names c ps) Reason.many_names (mark_reason (form_of c) ws)
+    (many c ps) (λ _. marks (form_of c) ps ws)
+
+last_two : (ps : List (List ℕ)) → length ps ≡ 3 → drop 1 ps ≡ word_at ps 1 ∷ word_at ps 2 ∷ []
+last_two [] three = absurd (omega arith)
+last_two (a ∷ []) three = absurd (omega arith)
+last_two (a ∷ b ∷ []) three = absurd (omega arith)
+last_two (a ∷ b ∷ d ∷ []) three = refl
+last_two (a ∷ b ∷ d ∷ e ∷ more) three = absurd (omega arith)
+
+disordered : (f : Form) (ps ws : List (List ℕ)) → no_ticks_word f ps ≡ None → is_disordered f ps ≡ true
+    → HoldsOf f ps ws (Reason.disorder (word_at ps 1) (word_at ps 2))
+disordered f ps ws e h =
+    let parts = and_parts (f.ticks && (length ps == 3)) (not (is_below (ticks_in (word_at ps 1)) (ticks_in (word_at ps 2)))) h in
+    let kind = and_parts f.ticks (length ps == 3) parts.0 in
+    let same : (length ps == 3) ≡ true = kind.1 in
+    let three : length ps ≡ 3 = grind (arith, nat_tests) in
+    let none : find is_no_ticks (drop 1 ps) ≡ None = rw kind.0 at e in
+    (kind.0, last_two ps three, not_below (word_at ps 1) (word_at ps 2) (rw (last_two ps three) at none) parts.1)
+
+ordered : (c : Command) (ps ws : List (List ℕ)) → no_ticks_word (form_of c) ps ≡ None
+    → HoldsOf (form_of c) ps ws (order_reason c ps ws)
+ordered c ps ws e =
+    if_so (HoldsOf (form_of c) ps ws) (is_disordered (form_of c) ps) (Reason.disorder (word_at ps 1) (word_at ps 2)) (names_reason c ps ws)
+    (disordered (form_of c) ps ws e) (λ _. names c ps ws)
+
+counted : (c : Command) (ps ws : List (List ℕ)) → HoldsOf (form_of c) ps ws (count_reason c ps ws)
+counted c ps ws =
+    let f = form_of c in
+    let P = λ (r : Reason). HoldsOf f ps ws r in
+    or_else P Reason.missing (missing_name f (length ps)) (surplus_reason c ps ws) (left_out f (length ps))
+    (λ _. or_else P Reason.surplus (surplus_word f ps) (ticks_reason c ps ws) (too_many f ps ws)
+    (λ _. or_else P Reason.no_ticks (no_ticks_word f ps) (order_reason c ps ws) (no_number f ps ws) (ordered c ps ws)))
+
+unfit : (f : Form) (ps ws : List (List ℕ)) (w : List ℕ) → unfit_word f ws ≡ Some w → HoldsOf f ps ws (unfit_reason w)
+unfit f ps ws w e =
+    if_so (HoldsOf f ps ws) (length w == 0) Reason.empty (Reason.no_flag w)
+    (λ none. subst (StandsIn ws) (empty_word w none) (stands (is_unfit f) ws w e))
+    (λ _. let parts = neither (is_mark f w) (is_plain_word w) (passes (is_unfit f) ws w e) in
+    (stands (is_unfit f) ws w e, parts.1, parts.0))
+
+pub reasons_hold : ReasonsHold
+reasons_hold c ws =
+    let f = form_of c in
+    or_else (HoldsOf f (arguments f ws) ws) unfit_reason (unfit_word f ws) (count_reason c (arguments f ws) ws)
+    (unfit f (arguments f ws) ws) (λ _. counted c (arguments f ws) ws)

@@ -1,0 +1,10 @@
+pub mod Numbers
+pub mod Clap
+pub mod Chain
+pub mod Change
+pub mod Check
+pub mod Meaning
+pub mod Forms
+pub mod Usage
+pub mod Reasons
+pub mod TrueReasons

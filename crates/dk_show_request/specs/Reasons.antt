@@ -1,0 +1,164 @@
+-- Why words mean nothing: the first reason that is found.
+use Rattle.std.specs.Prelude.{ℕ, ◌+◌, ◌-◌, ◌==◌, ◌&&◌, ◌||◌, not, Bool, false, codes, decimal, drop, filter, find, is_some, length, nat_lt, slice_get, List, [], ◌∷◌, ◌++◌, Option, Some, None, if◌then◌else◌}
+use Rattle.std.specs.List.{list_any}
+use Rattle.std.specs.Option.{option_map_or}
+use Rattle.std.specs.Str.{bytes_eq}
+use Rattle.dk_config.specs.declared.TheConstants.{MAX_PROCESSES, MAX_RUN_TICKS}
+use Rattle.dk_show_request.specs.declared.commands.Command.{Command}
+use Rattle.dk_show_request.specs.declared.commands.Command.TheVariants as command
+use Rattle.dk_show_request.specs.Forms.{Form, form_of}
+use Rattle.dk_show_request.specs.Meaning.{command_named, is_plain_word, word_at, word_of}
+use Rattle.dk_show_request.specs.Numbers.{ticks_in}
+
+-- why the words behind a command word are no call of it
+pub data Reason : Type 0 where
+  -- a word begins with '-', and is no flag of the command
+  no_flag : List ℕ → Reason
+  -- a word is empty
+  empty : Reason
+  -- no word stands for the argument of this name
+  missing : List ℕ → Reason
+  -- no argument is left for this word
+  surplus : List ℕ → Reason
+  -- this word stands for ticks, and spells none
+  no_ticks : List ℕ → Reason
+  -- the first tick, FROM, isn't below the second, TO
+  disorder : List ℕ → List ℕ → Reason
+  -- a chain has more names than a configuration has processes
+  many_names : Reason
+  -- the flag or the option stands more than once
+  repeated : List ℕ → Reason
+  -- no word stands behind the option
+  bare : List ℕ → Reason
+  -- none of these
+  other : Reason
+
+-- the word is the flag or the option
+abbrev pub is_mark : Form → List ℕ → Bool
+is_mark f w = option_map_or (λ mark. bytes_eq w mark) f.mark false
+
+-- the word is the option
+abbrev pub is_option : Form → List ℕ → Bool
+is_option f w = is_some f.value && is_mark f w
+
+-- the words that stand for arguments: no flag or option, and not the word behind an option
+abbrev pub arguments_behind : Form → Bool → List (List ℕ) → List (List ℕ)
+arguments_behind f behind [] = []
+arguments_behind f behind (w ∷ ws) =
+    if behind || is_mark f w
+    then arguments_behind f (is_option f w) ws
+    else (w ∷ arguments_behind f (is_option f w) ws)
+
+abbrev pub arguments : Form → List (List ℕ) → List (List ℕ)
+arguments f ws = arguments_behind f false ws
+
+abbrev pub is_unfit : Form → List ℕ → Bool
+is_unfit f w = not (is_mark f w || is_plain_word w)
+
+abbrev pub unfit_word : Form → List (List ℕ) → Option (List ℕ)
+unfit_word f ws = find (is_unfit f) ws
+
+-- of so many words, the name of the first argument that has none and must have one
+abbrev pub missing_name : Form → ℕ → Option (List ℕ)
+missing_name f n =
+    if nat_lt n (length f.needed) then slice_get f.needed n
+    else if n == length f.needed then None
+    else slice_get f.optional (n - length f.needed)
+
+-- the first word for which no argument is left
+abbrev pub surplus_word : Form → List (List ℕ) → Option (List ℕ)
+surplus_word f ps = if f.repeats then None else slice_get ps (length f.needed + length f.optional)
+
+abbrev pub is_no_ticks : List ℕ → Bool
+is_no_ticks w = not (is_some (ticks_in w))
+
+abbrev pub no_ticks_word : Form → List (List ℕ) → Option (List ℕ)
+no_ticks_word f ps = if f.ticks then find is_no_ticks (drop 1 ps) else None
+
+abbrev pub is_below : Option ℕ → Option ℕ → Bool
+is_below (Some from) (Some to) = nat_lt from to
+is_below _ _ = false
+
+abbrev pub has_many_names : Command → List (List ℕ) → Bool
+has_many_names command.Chain ps = nat_lt MAX_PROCESSES (length (drop 1 ps))
+has_many_names _ ps = false
+
+-- the flag or the option stands more than once
+abbrev pub is_repeated : Form → List (List ℕ) → Bool
+is_repeated f ws = nat_lt 1 (length (filter (is_mark f) ws))
+
+-- the last word is the option
+abbrev pub ends_bare : Form → List (List ℕ) → Bool
+ends_bare f ws = option_map_or (is_option f) (slice_get ws (length ws - 1)) false
+
+abbrev pub mark_reason_by : Form → List ℕ → List (List ℕ) → Reason
+mark_reason_by f mark ws =
+    if is_repeated f ws then repeated mark
+    else if ends_bare f ws then bare mark
+    else other
+
+-- of the flag or the option
+abbrev pub mark_reason : Form → List (List ℕ) → Reason
+mark_reason f ws = option_map_or (λ mark. mark_reason_by f mark ws) f.mark other
+
+abbrev pub names_reason : Command → List (List ℕ) → List (List ℕ) → Reason
+names_reason c ps ws = if has_many_names c ps then many_names else mark_reason (form_of c) ws
+
+-- the words stand for a file, FROM and TO, and FROM isn't below TO
+abbrev pub is_disordered : Form → List (List ℕ) → Bool
+is_disordered f ps =
+    (f.ticks && (length ps == 3)) && not (is_below (ticks_in (word_at ps 1)) (ticks_in (word_at ps 2)))
+
+abbrev pub order_reason : Command → List (List ℕ) → List (List ℕ) → Reason
+order_reason c ps ws =
+    if is_disordered (form_of c) ps then disorder (word_at ps 1) (word_at ps 2) else names_reason c ps ws
+
+abbrev pub ticks_reason : Command → List (List ℕ) → List (List ℕ) → Reason
+ticks_reason c ps ws = option_map_or no_ticks (no_ticks_word (form_of c) ps) (order_reason c ps ws)
+
+abbrev pub surplus_reason : Command → List (List ℕ) → List (List ℕ) → Reason
+surplus_reason c ps ws = option_map_or surplus (surplus_word (form_of c) ps) (ticks_reason c ps ws)
+
+-- of the words that stand for arguments, and all
+abbrev pub count_reason : Command → List (List ℕ) → List (List ℕ) → Reason
+count_reason c ps ws = option_map_or missing (missing_name (form_of c) (length ps)) (surplus_reason c ps ws)
+
+abbrev pub unfit_reason : List ℕ → Reason
+unfit_reason w = if length w == 0 then empty else no_flag w
+
+-- why the words behind the command word are no call of the command
+abbrev pub reason : Command → List (List ℕ) → Reason
+reason c ws =
+    option_map_or unfit_reason (unfit_word (form_of c) ws) (count_reason c (arguments (form_of c) ws) ws)
+
+abbrev pub is_control : ℕ → Bool
+is_control b = nat_lt b 32 || b == 127
+
+-- a word that would break the line or can't be seen isn't written
+abbrev pub shown : List ℕ → List ℕ
+shown w =
+    if length w == 0 then codes "an empty word"
+    else if list_any is_control w then codes "a word with a control character"
+    else w
+
+abbrev pub reason_text : Reason → List ℕ
+reason_text (no_flag w) = shown w ++ codes " is no flag of it\n"
+reason_text empty = codes "a word is empty\n"
+reason_text (missing name) = name ++ codes " is missing\n"
+reason_text (surplus w) = shown w ++ codes " is one word too many\n"
+reason_text (no_ticks w) = shown w ++ (codes " is no number of ticks from 0 to " ++ (decimal MAX_RUN_TICKS ++ codes "\n"))
+reason_text (disorder from to) = codes "FROM " ++ (shown from ++ (codes " isn't below TO " ++ (shown to ++ codes "\n")))
+reason_text many_names = codes "more than " ++ (decimal MAX_PROCESSES ++ codes " names\n")
+reason_text (repeated mark) = mark ++ codes " stands more than once\n"
+reason_text (bare mark) = codes "a word is wanted behind " ++ (mark ++ codes "\n")
+reason_text other = codes "these words are no call of it\n"
+
+-- of a command the word, and why the words behind it are no call of it
+abbrev pub wrong_with : List ℕ → Option Command → List (List ℕ) → List ℕ
+wrong_with w None ws = shown w ++ codes " is no command\n"
+wrong_with w (Some c) ws = word_of c ++ (codes ": " ++ reason_text (reason c ws))
+
+-- a line that says why the words mean nothing; the first is the program's name
+abbrev pub wrong_text : List (List ℕ) → List ℕ
+wrong_text (program ∷ w ∷ ws) = wrong_with w (command_named w) ws
+wrong_text _ = codes "a command is wanted\n"

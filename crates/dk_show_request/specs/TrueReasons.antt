@@ -1,0 +1,48 @@
+-- What each reason says of the words.
+use Rattle.std.specs.Prelude.{ℕ, ◌≡◌, ◌<◌, ◌≤◌, ◌+◌, ◌-◌, ◌⊎◌, false, true, drop, filter, length, slice_get, List, [], ◌∷◌, ◌++◌, Some, None}
+use Rattle.std.specs.List.{list_any}
+use Rattle.dk_config.specs.declared.TheConstants.{MAX_PROCESSES}
+use Rattle.dk_show_request.specs.declared.commands.Command.{Command}
+use Rattle.dk_show_request.specs.Forms.{Form, form_of}
+use Rattle.dk_show_request.specs.Meaning.{is_plain_word}
+use Rattle.dk_show_request.specs.Numbers.{ticks_in}
+use Rattle.dk_show_request.specs.Reasons.{Reason, arguments, ends_bare, is_control, is_mark, reason, wrong_text}
+
+abbrev pub StandsIn : List (List ℕ) → List ℕ → Type 0
+StandsIn ws w = (i : ℕ) × (slice_get ws i ≡ Some w)
+
+-- so many words leave out the argument of this name, a needed one, or an optional one where others of these stand
+abbrev pub LeavesOut : Form → ℕ → List ℕ → Type 0
+LeavesOut f n name = (slice_get f.needed n ≡ Some name)
+    ⊎ ((length f.needed < n) × (slice_get f.optional (n - length f.needed) ≡ Some name))
+
+-- the words are ticks, the first not below the second
+abbrev pub AreNotBelow : List ℕ → List ℕ → Type 0
+AreNotBelow from to = (m : ℕ) × (n : ℕ) × (ticks_in from ≡ Some m) × (ticks_in to ≡ Some n) × (n ≤ m)
+
+-- of the words that stand for arguments, and all
+abbrev pub HoldsOf : Form → List (List ℕ) → List (List ℕ) → Reason → Type 0
+HoldsOf f ps ws (Reason.no_flag w) = StandsIn ws w × (is_plain_word w ≡ false) × (is_mark f w ≡ false)
+HoldsOf f ps ws Reason.empty = StandsIn ws []
+HoldsOf f ps ws (Reason.missing name) = LeavesOut f (length ps) name
+HoldsOf f ps ws (Reason.surplus w) = (f.repeats ≡ false) × (slice_get ps (length f.needed + length f.optional) ≡ Some w)
+HoldsOf f ps ws (Reason.no_ticks w) = (f.ticks ≡ true) × StandsIn (drop 1 ps) w × (ticks_in w ≡ None)
+HoldsOf f ps ws (Reason.disorder from to) = (f.ticks ≡ true) × (drop 1 ps ≡ from ∷ to ∷ []) × AreNotBelow from to
+HoldsOf f ps ws Reason.many_names = MAX_PROCESSES < length (drop 1 ps)
+HoldsOf f ps ws (Reason.repeated mark) = (f.mark ≡ Some mark) × (1 < length (filter (is_mark f) ws))
+HoldsOf f ps ws (Reason.bare mark) = (f.mark ≡ Some mark) × (ends_bare f ws ≡ true)
+HoldsOf f ps ws Reason.other = Unit {0}
+
+-- what the reason says holds of the words behind the command word
+abbrev pub Holds : Command → List (List ℕ) → Reason → Type 0
+Holds c ws r = HoldsOf (form_of c) (arguments (form_of c) ws) ws r
+
+abbrev pub ReasonsHold : Type 0
+ReasonsHold = (c : Command) (ws : List (List ℕ)) → Holds c ws (reason c ws)
+
+-- a line: the line feed at its end is its only control character
+abbrev pub IsLine : List ℕ → Type 0
+IsLine bytes = (text : List ℕ) × (bytes ≡ text ++ (10 ∷ [])) × (list_any is_control text ≡ false)
+
+abbrev pub AreLines : Type 0
+AreLines = (words : List (List ℕ)) → IsLine (wrong_text words)

@@ -1,0 +1,143 @@
+//! Which words behind a command word stand for what.
+ghost use Rattle.std.specs.Prelude.{◌≡◌, ◌+◌, ◌<◌, IfOk, filter, find, length, map, option_map, string_bytes};
+ghost use Rattle.dk_show_request.specs.Reasons.{arguments, ends_bare, is_mark, is_no_ticks, is_option, is_repeated, is_unfit, missing_name, no_ticks_word, surplus_word, unfit_word};
+
+use crate::forms::Form;
+use crate::numbers::ticks_in;
+use crate::taken::is_plain_word;
+use std::alloc::{AllocError, Global};
+
+/// The word is the flag or the option.
+fn is_mark(form: &Form, word: &String) -> bool
+    ensures { result ≡ is_mark form.now (string_bytes word.now) }
+{
+    match form.mark {
+        Some(mark) => word.as_str() == mark,
+        None => false,
+    }
+}
+
+/// The word is the option.
+fn is_option(form: &Form, word: &String) -> bool
+    ensures { result ≡ is_option form.now (string_bytes word.now) }
+{
+    form.value.is_some() && is_mark(form, word)
+}
+
+/// The words that stand for arguments: no flag or option, and not the word behind an option.
+pub fn arguments<'a>(
+    alloc: Global,
+    form: &Form,
+    words: &'a [String],
+) -> Result<Vec<&'a str>, AllocError>
+    ensures { IfOk result (λ v. map (λ w. w.now) v.items ≡ arguments form.now (map string_bytes words.entry.now)) }
+{
+    let mut given = Vec::new(alloc);
+    let mut behind = false;
+    for word in words {
+        if !(behind || is_mark(form, word)) {
+            given.push(word.as_str())?;
+        }
+        behind = is_option(form, word);
+    }
+    Ok(given)
+}
+
+fn is_unfit(form: &Form, word: &String) -> bool
+    ensures { result ≡ is_unfit form.now (string_bytes word.now) }
+{
+    !(is_mark(form, word) || is_plain_word(word))
+}
+
+fn unfit_string<'a>(form: &Form, words: &'a [String]) -> Option<&'a String>
+    ensures { option_map (λ w. w.now) result ≡ find (λ w. is_unfit form.now (string_bytes w)) words.entry.now }
+{
+    words.iter().find(|word| is_unfit(form, word))
+}
+
+/// The first word that begins with '-' or is empty, and is no flag of the command.
+pub fn unfit_word<'a>(form: &Form, words: &'a [String]) -> Option<&'a str>
+    ensures { option_map (λ w. w.now) result ≡ unfit_word form.now (map string_bytes words.entry.now) }
+{
+    match unfit_string(form, words) {
+        Some(word) => Some(word.as_str()),
+        None => None,
+    }
+}
+
+/// Of so many words, the name of the first argument that has none and must have one.
+pub fn missing_name(form: &Form, count: usize) -> Option<&'static str>
+    ensures { option_map (λ w. w.now) result ≡ missing_name form.now count }
+{
+    let needed = form.needed.len();
+    if count < needed {
+        form.needed.get(count).copied()
+    } else if count == needed {
+        None
+    } else {
+        form.optional.get(count - needed).copied()
+    }
+}
+
+/// The first word for which no argument is left.
+pub fn surplus_word<'a>(form: &Form, given: &[&'a str]) -> Option<&'a str>
+    requires { length form.now.needed + length form.now.optional < 100 }
+    ensures { option_map (λ w. w.now) result ≡ surplus_word form.now (map (λ w. w.now) given.now) }
+{
+    if form.repeats {
+        None
+    } else {
+        given.get(form.needed.len() + form.optional.len()).copied()
+    }
+}
+
+fn is_no_ticks(word: &str) -> bool
+    ensures { result ≡ is_no_ticks word.now }
+{
+    ticks_in(word).is_none()
+}
+
+fn found_no_ticks<'a>(words: &[&'a str]) -> Option<&'a str>
+    ensures { result ≡ find (λ w. is_no_ticks w.now) words.now }
+{
+    words.iter().copied().find(|word| is_no_ticks(word))
+}
+
+fn first_no_ticks<'a>(words: &[&'a str]) -> Option<&'a str>
+    ensures { option_map (λ w. w.now) result ≡ find is_no_ticks (map (λ w. w.now) words.now) }
+{
+    found_no_ticks(words)
+}
+
+/// The first word that stands for ticks and spells none.
+pub fn no_ticks_word<'a>(form: &Form, given: &[&'a str]) -> Option<&'a str>
+    ensures { option_map (λ w. w.now) result ≡ no_ticks_word form.now (map (λ w. w.now) given.now) }
+{
+    match given {
+        [_, ticks @ ..] if form.ticks => first_no_ticks(ticks),
+        _ => None,
+    }
+}
+
+fn mark_count(form: &Form, words: &[String]) -> usize
+    ensures { result ≡ length (filter (λ w. is_mark form.now (string_bytes w)) words.now) }
+{
+    words.iter().filter(|word| is_mark(form, word)).count()
+}
+
+/// Whether the flag or the option stands more than once.
+pub fn is_repeated(form: &Form, words: &[String]) -> bool
+    ensures { result ≡ is_repeated form.now (map string_bytes words.now) }
+{
+    mark_count(form, words) > 1
+}
+
+/// Whether the last word is the option.
+pub fn ends_bare(form: &Form, words: &[String]) -> bool
+    ensures { result ≡ ends_bare form.now (map string_bytes words.now) }
+{
+    match words.last() {
+        Some(last) => is_option(form, last),
+        None => false,
+    }
+}

@@ -1,0 +1,207 @@
+//! Why words mean nothing: the first reason that is found.
+ghost use Rattle.std.specs.Prelude.{◌≡◌, ◌++◌, codes, IfOk, map, string_bytes};
+ghost use Rattle.dk_show_request.specs.Forms.{form_of};
+ghost use Rattle.dk_show_request.specs.Meaning.{command_named, word_at, word_of};
+ghost use Rattle.dk_show_request.specs.Numbers.{ticks_in};
+ghost use Rattle.dk_show_request.specs.Reasons.{count_reason, has_many_names, is_below, is_disordered, mark_reason, names_reason, order_reason, reason, reason_text, surplus_reason, ticks_reason, wrong_text, wrong_with};
+ghost use Rattle.dk_show_request.specs.TrueReasons.{AreLines, ReasonsHold};
+
+use crate::arguments::{
+    arguments, ends_bare, is_repeated, missing_name, no_ticks_word, surplus_word, unfit_word,
+};
+use crate::commands::Command;
+use crate::forms::{Form, form_of};
+use crate::numbers::ticks_in;
+use crate::reason_texts::{
+    bare_text, disorder_text, many_names_text, no_ticks_text, said_of, shown, unfit_text,
+};
+use dk_config::MAX_PROCESSES;
+use std::alloc::{AllocError, Global};
+
+/// Of the flag or the option.
+fn mark_text(alloc: Global, command: Command, words: &[String]) -> Result<String, AllocError>
+    ensures { IfOk result (λ s. string_bytes s ≡ reason_text (mark_reason (form_of command) (map string_bytes words.now))) }
+{
+    let form = form_of(command);
+    match form.mark {
+        Some(mark) => {
+            if is_repeated(&form, words) {
+                said_of(alloc, mark, " stands more than once\n")
+            } else if ends_bare(&form, words) {
+                bare_text(alloc, mark)
+            } else {
+                String::from_str(alloc, "these words are no call of it\n")
+            }
+        }
+        None => String::from_str(alloc, "these words are no call of it\n"),
+    }
+}
+
+fn has_many_names(command: Command, given: &[&str]) -> bool
+    ensures { result ≡ has_many_names command (map (λ w. w.now) given.now) }
+{
+    match (command, given) {
+        (Command::Chain, [_, names @ ..]) => names.len() > MAX_PROCESSES,
+        _ => false,
+    }
+}
+
+fn names_text(
+    alloc: Global,
+    command: Command,
+    given: &[&str],
+    words: &[String],
+) -> Result<String, AllocError>
+    ensures { IfOk result (λ s. string_bytes s
+        ≡ reason_text (names_reason command (map (λ w. w.now) given.now) (map string_bytes words.now))) }
+{
+    if has_many_names(command, given) {
+        many_names_text(alloc)
+    } else {
+        mark_text(alloc, command, words)
+    }
+}
+
+/// Whether both words spell ticks, the first below the second.
+fn is_below(from: &str, to: &str) -> bool
+    ensures { result ≡ is_below (ticks_in from.now) (ticks_in to.now) }
+{
+    match (ticks_in(from), ticks_in(to)) {
+        (Some(from), Some(to)) => from < to,
+        _ => false,
+    }
+}
+
+fn word_at<'a>(given: &[&'a str], place: usize) -> &'a str
+    ensures { result.now ≡ word_at (map (λ w. w.now) given.entry.now) place }
+{
+    match given.get(place) {
+        Some(word) => word,
+        None => "",
+    }
+}
+
+/// Whether the words stand for a file, FROM and TO, and FROM isn't below TO.
+fn is_disordered(form: &Form, given: &[&str]) -> bool
+    ensures { result ≡ is_disordered form.now (map (λ w. w.now) given.now) }
+{
+    form.ticks && given.len() == 3 && !is_below(word_at(given, 1), word_at(given, 2))
+}
+
+fn order_text(
+    alloc: Global,
+    command: Command,
+    given: &[&str],
+    words: &[String],
+) -> Result<String, AllocError>
+    ensures { IfOk result (λ s. string_bytes s
+        ≡ reason_text (order_reason command (map (λ w. w.now) given.now) (map string_bytes words.now))) }
+{
+    if is_disordered(&form_of(command), given) {
+        disorder_text(alloc, word_at(given, 1), word_at(given, 2))
+    } else {
+        names_text(alloc, command, given, words)
+    }
+}
+
+fn ticks_text(
+    alloc: Global,
+    command: Command,
+    given: &[&str],
+    words: &[String],
+) -> Result<String, AllocError>
+    ensures { IfOk result (λ s. string_bytes s
+        ≡ reason_text (ticks_reason command (map (λ w. w.now) given.now) (map string_bytes words.now))) }
+{
+    match no_ticks_word(&form_of(command), given) {
+        Some(word) => no_ticks_text(alloc, word),
+        None => order_text(alloc, command, given, words),
+    }
+}
+
+fn surplus_text(
+    alloc: Global,
+    command: Command,
+    given: &[&str],
+    words: &[String],
+) -> Result<String, AllocError>
+    ensures { IfOk result (λ s. string_bytes s
+        ≡ reason_text (surplus_reason command (map (λ w. w.now) given.now) (map string_bytes words.now))) }
+{
+    match surplus_word(&form_of(command), given) {
+        Some(word) => said_of(alloc, shown(word), " is one word too many\n"),
+        None => ticks_text(alloc, command, given, words),
+    }
+}
+
+/// Of the words that stand for arguments, and all.
+fn count_text(
+    alloc: Global,
+    command: Command,
+    given: &[&str],
+    words: &[String],
+) -> Result<String, AllocError>
+    ensures { IfOk result (λ s. string_bytes s
+        ≡ reason_text (count_reason command (map (λ w. w.now) given.now) (map string_bytes words.now))) }
+{
+    match missing_name(&form_of(command), given.len()) {
+        Some(name) => said_of(alloc, name, " is missing\n"),
+        None => surplus_text(alloc, command, given, words),
+    }
+}
+
+/// Why the words behind the command word are no call of the command.
+fn reason_text(alloc: Global, command: Command, words: &[String]) -> Result<String, AllocError>
+    ensures { IfOk result (λ s. string_bytes s ≡ reason_text (reason command (map string_bytes words.now))) }
+{
+    let form = form_of(command);
+    match unfit_word(&form, words) {
+        Some(word) => unfit_text(alloc, word),
+        None => {
+            let given = arguments(alloc, &form, words)?;
+            count_text(alloc, command, &given, words)
+        }
+    }
+}
+
+fn command_line(alloc: Global, command: Command, words: &[String]) -> Result<String, AllocError>
+    ensures { IfOk result (λ s. string_bytes s
+        ≡ word_of command ++ (codes ": " ++ reason_text (reason command (map string_bytes words.now)))) }
+{
+    let word = command.word();
+    let text = reason_text(alloc, command, words)?;
+    let text = text.as_str();
+    format!(in alloc; "{word}: {text}")
+}
+
+/// The reason that is told holds of the words.
+pub fn reasons_law()
+    ensures { ReasonsHold }
+{}
+
+/// What is told is one line.
+pub fn lines_law()
+    ensures { AreLines }
+{}
+
+/// Why this command word and the words behind it mean nothing.
+fn wrong_call(alloc: Global, word: &str, behind: &[String]) -> Result<String, AllocError>
+    ensures { IfOk result (λ s. string_bytes s
+        ≡ wrong_with word.now (command_named word.now) (map string_bytes behind.now)) }
+{
+    match Command::named(word) {
+        Some(command) => command_line(alloc, command, behind),
+        None => said_of(alloc, shown(word), " is no command\n"),
+    }
+}
+
+/// A line that says why the words mean nothing: the first reason that is found. The first word is the program's name and
+/// isn't looked at. Of words that do mean something it says nothing of use.
+pub fn wrong_words(alloc: Global, words: &[String]) -> Result<String, AllocError>
+    ensures { IfOk result (λ s. string_bytes s ≡ wrong_text (map string_bytes words.now)) }
+{
+    match words {
+        [_, word, behind @ ..] => wrong_call(alloc, word.as_str(), behind),
+        _ => String::from_str(alloc, "a command is wanted\n"),
+    }
+}
