@@ -15,5 +15,6 @@ mod ticking;
 
 pub use auditing::audit;
 pub use finding::Finding;
+pub use heading::is_own_heading;
 pub use laws::one_finding;
 pub use lines::audit_bytes;

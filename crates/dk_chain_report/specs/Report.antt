@@ -12,8 +12,8 @@ abbrev pub IsWorst : Configuration → ℕ → List ℕ → ℕ → ℕ → Type
 IsWorst c first rest reaction event =
     (done : ℕ → ℕ) → AreDone c done → answered c done (first ∷ rest) event ≡ event + reaction
 
--- the whole text
-pub record IsChainText (c : Configuration) (first : ℕ) (rest : List ℕ) (text : List ℕ) : Type 0 where
+-- the whole text, in which these lines tell what was measured
+pub record IsChainText (c : Configuration) (first : ℕ) (rest measured text : List ℕ) : Type 0 where
   pub latency : Latency
   pub is : IsLatency c first rest latency
   pub event : ℕ
@@ -24,4 +24,4 @@ pub record IsChainText (c : Configuration) (first : ℕ) (rest : List ℕ) (text
   pub step_lines : AreLines (IsStepLine c first rest event) (suc (length rest)) steps
   pub earlier_lines : AreLines (IsEarlierLine c first rest latency.reaction) (length c.processes) earlier
   pub faster_lines : AreLines (IsFasterLine c first rest latency.reaction) (length c.processes) faster
-  pub whole : text ≡ steps ++ (latency_part latency ++ (earlier ++ (faster ++ codes "end\n")))
+  pub whole : text ≡ steps ++ ((latency_part latency ++ measured) ++ (earlier ++ (faster ++ codes "end\n")))

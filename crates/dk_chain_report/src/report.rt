@@ -13,20 +13,21 @@ use dk_config::{Config, NoMemory};
 use dk_config_report::{Page, push_line};
 use std::alloc::Global;
 
-/// When each process of a chain answers the event that has to wait longest, a line each; how long the chain takes; and a
-/// line for each single change of a row with which it would react sooner. The configuration is changed for each trial, and
-/// is afterwards as it was. `Err` is want of memory.
+/// When each process of a chain answers the event that has to wait longest, a line each; how long the chain takes at most,
+/// and behind that what was measured of it, as whole lines; and a line for each single change of a row with which it would
+/// react sooner. The configuration is changed for each trial, and is afterwards as it was. `Err` is want of memory.
 pub fn chain_report(
     alloc: Global,
     config: &mut Config,
     first: u32,
     rest: &[u32],
+    measured: &str,
 ) -> Result<Page, NoMemory>
     requires checked { IsChecked config.old }
     requires limits { IsWithinLimits config.old }
     requires there { AreThere config.old (first ∷ rest.now) }
     requires few { length rest.now < MAX_PROCESSES }
-    ensures text { IfOk result (λ page. IsChainText config.old first rest.now page) }
+    ensures text { IfOk result (λ page. IsChainText config.old first rest.now measured.now page) }
     ensures same { config.new ≡ config.old }
 {
     let latency = latency_of(config, first, rest);
@@ -40,6 +41,7 @@ pub fn chain_report(
         worst_event(config, first, rest),
     )?;
     push_line(&mut text, latency_part(alloc, latency)?)?;
+    text.push_str(measured)?;
     add_earlier(alloc, &mut text, config, first, rest, latency.reaction)?;
     add_faster(alloc, &mut text, config, first, rest, latency.reaction)?;
     push_line(&mut text, String::from_str(alloc, "end\n")?)?;

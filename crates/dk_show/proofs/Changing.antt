@@ -6,9 +6,9 @@ use Rattle.dk_show.specs.declared.refusal.Refusal.{Refusal}
 use Rattle.dk_show.specs.declared.status.Status.{Status}
 use Rattle.dk_show.specs.declared.status.Status.TheVariants as status
 use Rattle.dk_show.specs.Answers.{Files}
-use Rattle.dk_show.specs.Change.{ChangeAsk}
+use Rattle.dk_show_request.specs.Change.{ChangeAsk}
 use Rattle.dk_show.specs.Impacts.{EndsBy, IsOfChange, IsOfImpact, impact_end}
-use Rattle.dk_show.specs.Loading.{IsOfLoad, IsOfLoaded, loaded}
+use Rattle.dk_show.specs.Loading.{IsOf, IsOfLoaded, loaded}
 
 by-ends : (Only : Type 0) (s : Status) → EndsBy Only status.Done → EndsBy Only s → s ≡ status.Done
 by-ends Only s (inl (only, done)) (inl (also, is)) = is
@@ -16,12 +16,12 @@ by-ends Only s (inl (only, done)) (inr (not, is)) = absurd (not only)
 by-ends Only s (inr (not, refused)) two = let bad = refused in cc
 
 to-ends : (a : ChangeAsk) (r : Result Workload Refusal) (old : Workload) (x y : List ℕ) (s : Status)
-    → IsOfLoad r (IsOfChange a old) x status.Done → IsOfLoad r (IsOfChange a old) y s → s ≡ status.Done
+    → IsOf r (IsOfChange a old) x status.Done → IsOf r (IsOfChange a old) y s → s ≡ status.Done
 to-ends a (Ok new) old x y s one two = by-ends _ s one.ends two.ends
 to-ends a (Err e) old x y s one two = two.1.1 ∙ sym one.1.1
 
 from-ends : (a : ChangeAsk) (r : Result Workload Refusal) (at : Files) (x y : List ℕ) (s : Status)
-    → IsOfLoad r (λ w. IsOfLoaded at a.new (IsOfChange a w)) x status.Done → IsOfLoad r (λ w. IsOfLoaded at a.new (IsOfChange a w)) y s → s ≡ status.Done
+    → IsOf r (λ w. IsOfLoaded at a.new (IsOfChange a w)) x status.Done → IsOf r (λ w. IsOfLoaded at a.new (IsOfChange a w)) y s → s ≡ status.Done
 from-ends a (Ok old) at x y s one two = to-ends a (loaded at a.new) old x y s one two
 from-ends a (Err e) at x y s one two = two.1.1 ∙ sym one.1.1
 

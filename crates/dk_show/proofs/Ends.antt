@@ -1,6 +1,6 @@
 -- Where a text stands with the status of what is done, no other status stands.
-use Rattle.std.proofs.Common.{ℕ, ◌≡◌, ◌∙◌, ◌⊎◌, ◌<◌, inl, inr, List, [], ◌∷◌, length, reverse, sym, ap, subst, refl, arith}
-use Rattle.std.specs.Prelude.{Bool, Option, Some, None, IfSome, Result, Ok, Err}
+use Rattle.std.proofs.Common.{ℕ, ◌≡◌, ◌∙◌, ◌⊎◌, ◌<◌, inl, inr, List, length, reverse, sym, ap, subst, refl, arith}
+use Rattle.std.specs.Prelude.{Bool, true, false, MatchBool, Option, Some, None, IfSome, Result, Ok, Err}
 use Rattle.dk_config.specs.declared.TheConstants.{MAX_CONFIG_BYTES, MAX_LEDGER_BYTES}
 use Rattle.dk_config.specs.Configuration.{Configuration}
 use Rattle.dk_certify.specs.declared.certifying.Verdict.{Verdict}
@@ -13,22 +13,25 @@ use Rattle.dk_ledger.specs.Readable.{Journal}
 use Rattle.dk_ledger.proofs.Readings.{one_text}
 use Rattle.dk_picture.specs.declared.reading.TheConstants.{MAX_GROUPS}
 use Rattle.dk_window_report.specs.Text.{is_clean}
-use Rattle.dk_show.specs.declared.commands.Telling.{Telling}
-use Rattle.dk_show.specs.declared.commands.Telling.TheVariants as telling
-use Rattle.dk_show.specs.declared.request.Range.{Range}
-use Rattle.dk_show.specs.declared.request.RangeRequest.{RangeRequest}
-use Rattle.dk_show.specs.declared.request.Request.{Request}
-use Rattle.dk_show.specs.declared.request.Request.TheVariants as request
+use Rattle.dk_show_request.specs.declared.commands.Telling.{Telling}
+use Rattle.dk_show_request.specs.declared.commands.Telling.TheVariants as telling
+use Rattle.dk_show_request.specs.declared.request.Range.{Range}
+use Rattle.dk_show_request.specs.declared.request.RangeRequest.{RangeRequest}
+use Rattle.dk_show_request.specs.declared.request.Request.{Request}
+use Rattle.dk_show_request.specs.declared.request.Request.TheVariants as request
 use Rattle.dk_show.specs.declared.refusal.Refusal.{Refusal}
 use Rattle.dk_show.specs.declared.refusal.Refusal.TheVariants as why
 use Rattle.dk_show.specs.declared.status.Status.{Status}
 use Rattle.dk_show.specs.declared.status.Status.TheVariants as status
 use Rattle.dk_show.specs.Answers.{IsAnswer, IsFaulty, refusal_status}
-use Rattle.dk_chain_report.specs.Finding.{processes_named}
-use Rattle.dk_show.specs.Chain.{ChainAsk}
-use Rattle.dk_show.specs.Meaning.{IsSought, meaning}
+use Rattle.dk_audit.specs.Findings.{IsOwnHeading}
+use Rattle.dk_show.specs.Chains.{AreReactionsTold, ChainIn, IsChainTold, IsOfOther, IsOfReactions, chain_at}
+use Rattle.dk_show.specs.Loading.{IsOf}
+use Rattle.dk_show.specs.Sources.{IsOfSource, is_source_name}
+use Rattle.dk_asm.specs.declared.TheConstants.{MAX_SOURCE_BYTES}
+use Rattle.dk_show_request.specs.Meaning.{IsSought}
 use Rattle.dk_show.proofs.Changing.{impact_ends}
-use Rattle.dk_show.specs.Output.{Files, IsBehind, IsChainIn, IsChainOf, IsDrawn, IsOfBytes, IsOfChain, IsOfDocument, IsOfFaults, IsOfNamed, IsOfPicture, IsOfReading, IsOfRequest, IsOfWindows, IsOutput, IsPicture, IsToldOf, StandsInOutput, end_of, groups_asked, to_of}
+use Rattle.dk_show.specs.Output.{Files, IsBehind, IsDrawn, IsOfBytes, IsOfDocument, IsOfFaults, IsOfNamed, IsOfPicture, IsOfReading, IsOfRequest, IsOfWindows, IsPicture, IsToldOf, end_of, groups_asked, to_of}
 
 drawn_ends : (r : RangeRequest) (j k : Journal) (t u : List ℕ) (s : Status) → j ≡ k
     → IsDrawn r j t status.Done ⊎ IsBehind r j t status.Done → IsDrawn r k u s ⊎ IsBehind r k u s → s ≡ status.Done
@@ -78,20 +81,6 @@ told_ends telling.When c (verdict.Accepted rows) x y s one two = two.1
 told_ends telling.When c (verdict.Fails level needs window) x y s one two = let bad = one.1 in cc
 told_ends telling.Warnings c v x y s one two = two.1
 
-chain_ends : (c : Configuration) (v : Verdict) (chain : Option (List ℕ)) (x y : List ℕ) (s : Status) → IsChainOf c v chain x status.Done → IsChainOf c v chain y s → s ≡ status.Done
-chain_ends c v None x y s one two = let bad = one.1 in cc
-chain_ends c (verdict.Fails level needs window) (Some chain) x y s one two = let bad = one.1 in cc
-chain_ends c (verdict.Accepted rows) (Some []) x y s one two = absurd one
-chain_ends c (verdict.Accepted rows) (Some (first ∷ rest)) x y s one two = two.1
-
-chain_in_ends : (r : ChainAsk) (read : Result Configuration LoadFault) (x y : List ℕ) (s : Status) → IsChainIn r read x status.Done → IsChainIn r read y s → s ≡ status.Done
-chain_in_ends r (Ok c) x y s one two = chain_ends c (verdict_of c) (processes_named c (r.first ∷ r.rest)) x y s one two
-chain_in_ends r (Err fault.NotToml) x y s one two = let bad = one.1 in cc
-chain_in_ends r (Err (fault.Config f)) x y s one two = let bad = one.1 in cc
-chain_in_ends r (Err fault.Depot) x y s one two = absurd one
-chain_in_ends r (Err (fault.TooLong p)) x y s one two = absurd one
-chain_in_ends r (Err fault.NoMemory) x y s one two = absurd one
-
 reading_ends : (t : Telling) (r : Result Configuration LoadFault) (x y : List ℕ) (s : Status) → IsOfReading t r x status.Done → IsOfReading t r y s → s ≡ status.Done
 reading_ends t (Ok c) x y s one two = told_ends t c (verdict_of c) x y s one two
 reading_ends t (Err fault.NotToml) x y s one two = let bad = one.1 in cc
@@ -114,32 +103,61 @@ module _ (at : Files) (name : List ℕ) (most : ℕ) (long : Refusal) (IsOf : Li
   named_ends (bytes, is, inr (near, one)) (more, also, inr (close, two)) =
       ends bytes one (subst (λ (b : List ℕ). IsOf b y s) (same_file bytes more is also) two)
 
-pub request_ends : (o : Option Request) (at : Files) (x y : List ℕ) (s : Status) → (IsSought o → ⊥) → IsOfRequest o at x status.Done → IsOfRequest o at y s → s ≡ status.Done
-request_ends None at x y s known one two = let bad = one.1 in cc
-request_ends (Some (request.Draw r)) at x y s known one two =
-    named_ends at r.ledger MAX_LEDGER_BYTES why.LongLedger (IsOfBytes r) x y s (λ bad. cc) (λ bytes a b. ledger_ends r bytes x y s a b) one two
-request_ends (Some (request.Picture ledger range)) at x y s known one two =
-    named_ends at ledger MAX_LEDGER_BYTES why.LongLedger (IsOfPicture range) x y s (λ bad. cc) (λ bytes a b. pictures_ends range bytes x y s a b) one two
-request_ends (Some (request.Windows ledger strict)) at x y s known one two =
-    named_ends at ledger MAX_LEDGER_BYTES why.LongLedger (IsOfWindows strict) x y s (λ bad. cc) (λ bytes a b. windows_ends strict bytes x y s a b) one two
-request_ends (Some (request.Faults file)) at x y s known one two =
+-- where the first part is refused, so is the whole
+of_ends : {X : Type 0} (r : Result X Refusal) (Told : X → List ℕ → Status → Type 0) (x y : List ℕ) (s : Status)
+    → ((a : X) → Told a x status.Done → Told a y s → s ≡ status.Done) → IsOf r Told x status.Done → IsOf r Told y s → s ≡ status.Done
+of_ends (Ok a) Told x y s ends one two = ends a one two
+of_ends (Err e) Told x y s ends one two = two.1.1 ∙ sym one.1.1
+
+heard_ends : (chain : ChainIn) (j k : Journal) (x y : List ℕ) (s : Status) → j ≡ k → AreReactionsTold chain j x status.Done ⊎ IsOfOther chain j x status.Done
+    → AreReactionsTold chain k y s ⊎ IsOfOther chain k y s → s ≡ status.Done
+heard_ends chain j k x y s same (inl a) (inl b) = b.done
+heard_ends chain j k x y s same (inl a) (inr b) = absurd (b.other (subst (λ (l : Journal). IsOwnHeading chain.config l.heading) same a.own))
+heard_ends chain j k x y s same (inr a) other = let bad = a.says.1 in cc
+
+reactions_ends : (chain : ChainIn) (bytes x y : List ℕ) (s : Status) → IsOfReactions chain bytes x status.Done → IsOfReactions chain bytes y s → s ≡ status.Done
+reactions_ends chain bytes x y s (inl wrong) other = let bad = wrong.says.1 in cc
+reactions_ends chain bytes x y s (inr one) (inl wrong) = absurd (wrong.none one.ledger one.readable one.bytes_are)
+reactions_ends chain bytes x y s (inr one) (inr two) =
+    heard_ends chain one.ledger two.ledger x y s (one_text one.ledger two.ledger one.readable two.readable (one.bytes_are ∙ sym two.bytes_are)) one.told two.told
+
+wrong_ends : (at : Files) (file x y : List ℕ) (s : Status) (source : Bool)
+    → MatchBool source (IsOfNamed at file MAX_SOURCE_BYTES why.LongSource IsOfSource x status.Done) (IsOfNamed at file MAX_CONFIG_BYTES why.LongConfig IsOfFaults x status.Done)
+    → MatchBool source (IsOfNamed at file MAX_SOURCE_BYTES why.LongSource IsOfSource y s) (IsOfNamed at file MAX_CONFIG_BYTES why.LongConfig IsOfFaults y s) → s ≡ status.Done
+wrong_ends at file x y s true one two =
+    named_ends at file MAX_SOURCE_BYTES why.LongSource IsOfSource x y s (λ bad. cc) (λ bytes a b. b.1 ∙ sym a.1) one two
+wrong_ends at file x y s false one two =
     named_ends at file MAX_CONFIG_BYTES why.LongConfig IsOfFaults x y s (λ bad. cc) (λ bytes a b. b.1 ∙ sym a.1) one two
-request_ends (Some (request.Tell t file)) at x y s known one two =
+
+pub request_ends : (r : Request) (at : Files) (x y : List ℕ) (s : Status) → (IsSought (Some r) → ⊥) → IsOfRequest r at x status.Done → IsOfRequest r at y s → s ≡ status.Done
+request_ends (request.Draw r) at x y s known one two =
+    named_ends at r.ledger MAX_LEDGER_BYTES why.LongLedger (IsOfBytes r) x y s (λ bad. cc) (λ bytes a b. ledger_ends r bytes x y s a b) one two
+request_ends (request.Picture ledger range) at x y s known one two =
+    named_ends at ledger MAX_LEDGER_BYTES why.LongLedger (IsOfPicture range) x y s (λ bad. cc) (λ bytes a b. pictures_ends range bytes x y s a b) one two
+request_ends (request.Windows ledger strict) at x y s known one two =
+    named_ends at ledger MAX_LEDGER_BYTES why.LongLedger (IsOfWindows strict) x y s (λ bad. cc) (λ bytes a b. windows_ends strict bytes x y s a b) one two
+request_ends (request.Faults file) at x y s known one two = wrong_ends at file x y s (is_source_name file) one two
+request_ends (request.Tell t file) at x y s known one two =
     named_ends at file MAX_CONFIG_BYTES why.LongConfig (IsOfDocument t) x y s (λ bad. cc) (λ bytes a b. reading_ends t (reading bytes) x y s a b) one two
-request_ends (Some (request.Chain r)) at x y s known one two =
-    named_ends at r.file MAX_CONFIG_BYTES why.LongConfig (IsOfChain r) x y s (λ bad. cc) (λ bytes a b. chain_in_ends r (reading bytes) x y s a b) one two
-request_ends (Some (request.Impact r)) at x y s known one two = impact_ends at r x y s one two
-request_ends (Some (request.Repeats file ticks)) at x y s known one two = absurd (known tt)
+request_ends (request.Chain r) at x y s known one two =
+    of_ends (chain_at at r) IsChainTold x y s (λ chain a b. b.1) one two
+request_ends (request.Reactions r ledger) at x y s known one two =
+    of_ends (chain_at at r) (λ chain. IsOfNamed at ledger MAX_LEDGER_BYTES why.LongLedger (IsOfReactions chain)) x y s
+    (λ chain. named_ends at ledger MAX_LEDGER_BYTES why.LongLedger (IsOfReactions chain) x y s (λ bad. cc) (λ bytes a b. reactions_ends chain bytes x y s a b))
+    one two
+request_ends (request.Impact r) at x y s known one two = impact_ends at r x y s one two
+request_ends (request.Repeats file ticks) at x y s known one two = absurd (known tt)
+request_ends (request.Check r) at x y s known one two = absurd (known tt)
 
 -- a call that ends otherwise has met the outside or want of memory
-pub completes : (files : Option Files) (words : List (List ℕ)) (s : Status) → (IsAnswer s → (y : List ℕ) × StandsInOutput files words y s)
-    → IfSome files (λ at. (x : List ℕ) → (IsSought (meaning words) → ⊥) → IsOutput words at x status.Done → (s ≡ status.Done) ⊎ IsFaulty s)
-completes None words s answers = tt
-completes (Some at) words status.Done answers = λ x known one. inl refl
-completes (Some at) words status.Usage answers = λ x known one. let two = answers tt in inl (request_ends (meaning words) at x two.0 status.Usage known one two.1)
-completes (Some at) words status.Config answers = λ x known one. let two = answers tt in inl (request_ends (meaning words) at x two.0 status.Config known one two.1)
-completes (Some at) words status.Uncertified answers = λ x known one. let two = answers tt in inl (request_ends (meaning words) at x two.0 status.Uncertified known one two.1)
-completes (Some at) words status.Refused answers = λ x known one. let two = answers tt in inl (request_ends (meaning words) at x two.0 status.Refused known one two.1)
-completes (Some at) words status.DepotFault answers = λ x known one. inr (inl refl)
-completes (Some at) words status.SinkFault answers = λ x known one. inr (inr (inl refl))
-completes (Some at) words status.NoMemory answers = λ x known one. inr (inr (inr refl))
+pub completes : (files : Option Files) (r : Request) (s : Status) → (IsAnswer s → (y : List ℕ) × IfSome files (λ at. IsOfRequest r at y s))
+    → IfSome files (λ at. (x : List ℕ) → (IsSought (Some r) → ⊥) → IsOfRequest r at x status.Done → (s ≡ status.Done) ⊎ IsFaulty s)
+completes None r s answers = tt
+completes (Some at) r status.Done answers = λ x known one. inl refl
+completes (Some at) r status.Usage answers = λ x known one. let two = answers tt in inl (request_ends r at x two.0 status.Usage known one two.1)
+completes (Some at) r status.Config answers = λ x known one. let two = answers tt in inl (request_ends r at x two.0 status.Config known one two.1)
+completes (Some at) r status.Uncertified answers = λ x known one. let two = answers tt in inl (request_ends r at x two.0 status.Uncertified known one two.1)
+completes (Some at) r status.Refused answers = λ x known one. let two = answers tt in inl (request_ends r at x two.0 status.Refused known one two.1)
+completes (Some at) r status.DepotFault answers = λ x known one. inr (inl refl)
+completes (Some at) r status.SinkFault answers = λ x known one. inr (inr (inl refl))
+completes (Some at) r status.NoMemory answers = λ x known one. inr (inr (inr refl))

@@ -9,19 +9,21 @@ use Rattle.dk_show.specs.declared.status.Status.{Status}
 use Rattle.dk_show.specs.declared.status.Status.TheVariants as status
 use Rattle.dk_show.specs.Answers.{IsAnswer, is_silent, refusal_status, refusal_text}
 use Rattle.dk_show.specs.Leaves.{Leaves}
-use Rattle.dk_show.specs.Output.{Files, IsOutput, Says, StandsInOutput}
+use Rattle.dk_show.specs.Output.{Files, Says}
 use Rattle.dk_show.specs.Works.{HasText, Plans, ended_of}
 
-pub refusal_stands : (files : Option Files) (words : List (List ℕ)) (e : Refusal) → IfSome files (λ at. Plans (IsOutput words at) (Err e)) → is_silent e ≡ false
-    → (text : List ℕ) (ended : Status) → Says e text ended → StandsInOutput files words text ended
-refusal_stands None words e plans loud text ended says = tt
-refusal_stands (Some at) words e plans loud text ended says =
-    subst (λ t. IsOutput words at t ended) (sym says.0) (subst (λ s. IsOutput words at (refusal_text e) s) (sym says.1) (plans loud))
+-- what stands by the files, where they are told
+module _ (Stands : Files → List ℕ → Status → Type 0) where
+  pub refusal_stands : (files : Option Files) (e : Refusal) → IfSome files (λ at. Plans (Stands at) (Err e)) → is_silent e ≡ false
+      → (text : List ℕ) (ended : Status) → Says e text ended → IfSome files (λ at. Stands at text ended)
+  refusal_stands None e plans loud text ended says = tt
+  refusal_stands (Some at) e plans loud text ended says =
+      subst (λ t. Stands at t ended) (sym says.0) (subst (λ s. Stands at (refusal_text e) s) (sym says.1) (plans loud))
 
-pub work_stands : (files : Option Files) (words : List (List ℕ)) (w : Work) → IfSome files (λ at. Plans (IsOutput words at) (Ok w))
-    → (text : List ℕ) (ended : Status) → HasText w text × (ended ≡ ended_of w) → StandsInOutput files words text ended
-work_stands None words w plans text ended has = tt
-work_stands (Some at) words w plans text ended has = subst (λ s. IsOutput words at text s) (sym has.1) (plans text has.0)
+  pub work_stands : (files : Option Files) (w : Work) → IfSome files (λ at. Plans (Stands at) (Ok w))
+      → (text : List ℕ) (ended : Status) → HasText w text × (ended ≡ ended_of w) → IfSome files (λ at. Stands at text ended)
+  work_stands None w plans text ended has = tt
+  work_stands (Some at) w plans text ended has = subst (λ s. Stands at text s) (sym has.1) (plans text has.0)
 
 -- what a refusal leaves that isn't silent
 pub loud : (e : Refusal) (s : Status) → (is_silent e ≡ true → s ≡ refusal_status e) → IsAnswer s ⊎ (s ≡ status.SinkFault) → is_silent e ≡ false
@@ -29,9 +31,12 @@ loud why.Depot s silent (inl answer) = absurd (subst IsAnswer (silent refl) answ
 loud why.Depot s silent (inr sink) = let quiet = silent refl in cc
 loud why.NoMemory s silent (inl answer) = absurd (subst IsAnswer (silent refl) answer)
 loud why.NoMemory s silent (inr sink) = let quiet = silent refl in cc
-loud why.Usage s silent other = refl
 loud why.LongConfig s silent other = refl
 loud why.NotToml s silent other = refl
+loud why.LongSource s silent other = refl
+loud why.LongNeeds s silent other = refl
+loud why.NeedsNotToml s silent other = refl
+loud why.OtherLedger s silent other = refl
 loud (why.Rule f) s silent other = refl
 loud why.NoProcess s silent other = refl
 loud (why.LongProgram p) s silent other = refl

@@ -6,7 +6,7 @@ use Rattle.dk_ledger.specs.Readable.{Journal}
 use Rattle.dk_groups.specs.Groups.{groups}
 use Rattle.dk_picture.specs.declared.reading.TheConstants.{MAX_GROUPS}
 use Rattle.dk_picture.specs.Pictures.{IsTooMany, svg_text}
-use Rattle.dk_show.specs.declared.request.Range.{Range}
+use Rattle.dk_show_request.specs.declared.request.Range.{Range}
 use Rattle.dk_show.specs.declared.refusal.Refusal.TheVariants as why
 use Rattle.dk_show.specs.declared.status.Status.TheVariants as status
 use Rattle.dk_show.specs.Answers.{refusal_text}

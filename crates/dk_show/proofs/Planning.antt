@@ -3,13 +3,14 @@ use Rattle.std.proofs.Common.{ℕ, ◌≡◌, ◌∙◌, ◌≤◌, List, length
 use Rattle.std.specs.Prelude.{Option, Some, None, IfSome, Result, Ok, Err}
 use Rattle.dk_ledger.specs.Readable.{Journal, IsReadable, text_of}
 use Rattle.dk_ledger.proofs.Readings.{one_text}
-use Rattle.dk_show.specs.declared.request.RangeRequest.{RangeRequest}
+use Rattle.dk_show_request.specs.declared.request.RangeRequest.{RangeRequest}
 use Rattle.dk_show.specs.declared.work.Work.{Work}
 use Rattle.dk_show.specs.declared.refusal.Refusal.{Refusal}
 use Rattle.dk_show.specs.declared.status.Status.{Status}
 use Rattle.dk_show.specs.declared.status.Status.TheVariants as status
 use Rattle.dk_show.specs.Answers.{refusal_status, refusal_text}
 use Rattle.dk_show.specs.Output.{Files, IsDrawn, IsOfNamed, drawn_text, from_of, to_of}
+use Rattle.dk_show.specs.Loading.{IsOf}
 use Rattle.dk_show.specs.Works.{Plans, ended_of}
 
 pub is_drawn : (r : RangeRequest) (j k : Journal) (bytes text : List ℕ) (from to ticks : ℕ) → IsReadable j → text_of j ≡ bytes → IsReadable k → text_of k ≡ bytes
@@ -34,3 +35,14 @@ pub named_by : (files : Option Files) (name : List ℕ) (most : ℕ) (long : Ref
 named_by None name most long IsOf bytes result held short plans = tt
 named_by (Some at) name most long IsOf bytes result held short plans =
     plans_wider (IsOf bytes) (IsOfNamed at name most long IsOf) (λ text ended is. (bytes, held, inr (short, is))) result plans
+
+-- what is told of something stands for what it comes to
+pub of_something : {X : Type 0} (files : Option Files) (plan : Files → Result X Refusal) (Told : Files → X → List ℕ → Status → Type 0) (x : X)
+    (result : Result Work Refusal) → IfSome files (λ at. plan at ≡ Ok x) → IfSome files (λ at. Plans (Told at x) result)
+    → IfSome files (λ at. Plans (IsOf (plan at) (Told at)) result)
+of_something None plan Told x result is plans = tt
+of_something (Some at) plan Told x result is plans = subst (λ r. Plans (IsOf r (Told at)) result) (sym is) plans
+
+pub in_any : {P : Type 0} (files : Option Files) → P → IfSome files (λ at. P)
+in_any None p = tt
+in_any (Some at) p = p

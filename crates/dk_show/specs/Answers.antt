@@ -1,14 +1,15 @@
 -- What is written where a command is refused, and the status.
-use Rattle.std.specs.Prelude.{ℕ, Bool, true, false, codes, decimal, List, [], ◌++◌, ◌≡◌, ◌⊎◌, Option}
+use Rattle.std.specs.Prelude.{ℕ, Bool, true, false, codes, decimal, length, List, [], ◌++◌, ◌≡◌, ◌<◌, ◌≤◌, ◌⊎◌, Option, Some}
 use Rattle.dk_config.specs.declared.TheConstants.{MAX_CONFIG_BYTES, MAX_LEDGER_BYTES, MAX_PROGRAM_BYTES}
+use Rattle.dk_asm.specs.declared.TheConstants.{MAX_SOURCE_BYTES}
 use Rattle.dk_fault_words.specs.FaultWords.{fault_text}
 use Rattle.dk_certify_report.specs.Certificate.{failing_text}
+use Rattle.dk_ledger.specs.Readable.{IsNoText, IsWrongLine}
 use Rattle.dk_picture.specs.declared.reading.TheConstants.{MAX_GROUPS}
 use Rattle.dk_show.specs.declared.refusal.Refusal.{Refusal}
 use Rattle.dk_show.specs.declared.refusal.Refusal.TheVariants as why
 use Rattle.dk_show.specs.declared.status.Status.{Status}
 use Rattle.dk_show.specs.declared.status.Status.TheVariants as status
-use Rattle.dk_show.specs.Usage.{usage_text}
 
 -- the end of the line of what has more bytes than may be read
 abbrev pub longer_than : ℕ → List ℕ
@@ -16,15 +17,18 @@ longer_than most = codes " longer than " ++ (decimal most ++ codes " bytes\n")
 
 -- one line, or nothing where a read failed or memory ran out
 abbrev pub refusal_text : Refusal → List ℕ
-refusal_text why.Usage = usage_text
 refusal_text why.Depot = []
 refusal_text why.LongConfig = codes "config:" ++ longer_than MAX_CONFIG_BYTES
+refusal_text why.LongSource = codes "asm:" ++ longer_than MAX_SOURCE_BYTES
 refusal_text why.NotToml = codes "config: not TOML\n"
 refusal_text (why.Rule f) = fault_text f
 refusal_text (why.Uncertified level needs window) = failing_text level needs window
 refusal_text (why.LongProgram process) = codes "program: process " ++ (decimal process ++ longer_than MAX_PROGRAM_BYTES)
+refusal_text why.LongNeeds = codes "needs:" ++ longer_than MAX_CONFIG_BYTES
+refusal_text why.NeedsNotToml = codes "needs: not TOML\n"
 refusal_text why.NoProcess = codes "chain: no such process\n"
 refusal_text why.LongLedger = codes "ledger:" ++ longer_than MAX_LEDGER_BYTES
+refusal_text why.OtherLedger = codes "ledger: of another configuration\n"
 refusal_text (why.LedgerLine line) = codes "ledger: line " ++ (decimal line ++ codes "\n")
 refusal_text (why.RangeEnds ticks) = codes "range: ledger ends at " ++ (decimal ticks ++ codes "\n")
 refusal_text (why.TooManyGroups tick) =
@@ -32,15 +36,18 @@ refusal_text (why.TooManyGroups tick) =
 refusal_text why.NoMemory = []
 
 abbrev pub refusal_status : Refusal → Status
-refusal_status why.Usage = status.Usage
 refusal_status why.Depot = status.DepotFault
 refusal_status why.LongConfig = status.Config
+refusal_status why.LongSource = status.Refused
 refusal_status why.NotToml = status.Config
 refusal_status (why.Rule f) = status.Config
 refusal_status (why.Uncertified level needs window) = status.Uncertified
 refusal_status (why.LongProgram process) = status.Refused
+refusal_status why.LongNeeds = status.Config
+refusal_status why.NeedsNotToml = status.Config
 refusal_status why.NoProcess = status.Refused
 refusal_status why.LongLedger = status.Refused
+refusal_status why.OtherLedger = status.Refused
 refusal_status (why.LedgerLine line) = status.Refused
 refusal_status (why.RangeEnds ticks) = status.Refused
 refusal_status (why.TooManyGroups tick) = status.Refused
@@ -92,3 +99,15 @@ Says e text ended = (text ≡ refusal_text e) × (ended ≡ refusal_status e)
 -- the names of files and what they hold
 abbrev pub Files : Type 0
 Files = List ℕ → Option (List ℕ)
+
+-- What the file of this name comes to: the refusal of one of more than so many bytes, and else what its bytes do.
+abbrev pub IsOfNamed : Files → List ℕ → ℕ → Refusal → (List ℕ → List ℕ → Status → Type 0) → List ℕ → Status → Type 0
+IsOfNamed at name most long IsOf text ended = (bytes : List ℕ) × (at name ≡ Some bytes)
+    × (((most < length bytes) × Says long text ended) ⊎ ((length bytes ≤ most) × IsOf bytes text ended))
+
+-- the first wrong line
+pub record IsWrong (bytes : List ℕ) (text : List ℕ) (ended : Status) : Type 0 where
+  pub line : ℕ
+  pub wrong : IsWrongLine line bytes
+  pub none : IsNoText bytes
+  pub says : Says (why.LedgerLine line) text ended

@@ -4,47 +4,49 @@ use Rattle.dk_config.specs.declared.TheConstants.{MAX_CONFIG_BYTES, MAX_LEDGER_B
 use Rattle.dk_config.specs.Configuration.{Configuration}
 use Rattle.dk_outside.specs.Views.{DepotView}
 use Rattle.dk_loader.specs.Programs.{bytes_read}
-use Rattle.dk_loader.specs.Workload.{Workload}
-use Rattle.dk_show.specs.declared.request.Request.{Request}
-use Rattle.dk_show.specs.declared.request.Request.TheVariants as request
+use Rattle.dk_show_request.specs.declared.request.Request.{Request}
+use Rattle.dk_show_request.specs.declared.request.Request.TheVariants as request
 use Rattle.dk_show.specs.declared.refusal.Refusal.{Refusal}
 use Rattle.dk_show.specs.declared.refusal.Refusal.TheVariants as why
 use Rattle.dk_show.specs.Answers.{Files, is_silent}
+use Rattle.dk_show.specs.Chains.{chain_at}
 use Rattle.dk_show.specs.Loading.{certified_at, loaded}
+use Rattle.dk_show.specs.Sources.{most_of}
 
 -- how many bytes a read hands out: all of a file, or one more than the most
 abbrev pub handed_out : ℕ → Option (List ℕ) → ℕ
 handed_out most None = 0
 handed_out most (Some file) = min (most + 1) (length file)
 
--- those of the programs of a configuration, up to the first that isn't there or is too long
-abbrev pub handed_with : Files → Result Configuration Refusal → ℕ
-handed_with at (Ok c) = bytes_read at c.processes
-handed_with at (Err e) = 0
+-- those of the second part of a command, where the first comes to something
+abbrev pub handed_after : {X : Type 0} → (X → ℕ) → Result X Refusal → ℕ
+handed_after more (Ok x) = more x
+handed_after more (Err e) = 0
 
--- those of a configuration with its programs
+-- Those of a configuration, and then of its programs, up to the first that isn't there or is too long.
 abbrev pub handed_load : Files → List ℕ → ℕ
-handed_load at name = handed_out MAX_CONFIG_BYTES (at name) + handed_with at (certified_at (at name))
-
--- the new configuration is asked for where the old one is there with its programs
-abbrev pub handed_after : Files → List ℕ → Result Workload Refusal → ℕ
-handed_after at new (Ok w) = handed_load at new
-handed_after at new (Err e) = 0
+handed_load at name =
+    handed_out MAX_CONFIG_BYTES (at name) + handed_after (λ (c : Configuration). bytes_read at c.processes) (certified_at (at name))
 
 -- how many bytes the reads of a command hand out
 abbrev pub handed_for : Request → Files → ℕ
 handed_for (request.Draw r) at = handed_out MAX_LEDGER_BYTES (at r.ledger)
 handed_for (request.Picture ledger range) at = handed_out MAX_LEDGER_BYTES (at ledger)
 handed_for (request.Windows ledger strict) at = handed_out MAX_LEDGER_BYTES (at ledger)
-handed_for (request.Faults file) at = handed_out MAX_CONFIG_BYTES (at file)
+handed_for (request.Faults file) at = handed_out (most_of file) (at file)
 handed_for (request.Tell t file) at = handed_out MAX_CONFIG_BYTES (at file)
 handed_for (request.Chain r) at = handed_out MAX_CONFIG_BYTES (at r.file)
-handed_for (request.Impact r) at = handed_load at r.old + handed_after at r.new (loaded at r.old)
+handed_for (request.Reactions r ledger) at =
+    handed_out MAX_CONFIG_BYTES (at r.file) + handed_after (λ _. handed_out MAX_LEDGER_BYTES (at ledger)) (chain_at at r)
+handed_for (request.Impact r) at = handed_load at r.old + handed_after (λ _. handed_load at r.new) (loaded at r.old)
 handed_for (request.Repeats file ticks) at = handed_load at file
+handed_for (request.Check r) at =
+    handed_out MAX_CONFIG_BYTES (at r.file) + handed_after (λ _. handed_out MAX_CONFIG_BYTES (at r.needs)) (certified_at (at r.file))
 
-abbrev pub misses_after : Files → List ℕ → Result Workload Refusal → Type 0
-misses_after at new (Ok w) = loaded at new ≡ Err why.Depot
-misses_after at new (Err e) = e ≡ why.Depot
+-- a file of the first part isn't there, or one of the second, where the first comes to something
+abbrev pub MissesAfter : {X : Type 0} → (X → Type 0) → Result X Refusal → Type 0
+MissesAfter Missing (Ok x) = Missing x
+MissesAfter Missing (Err e) = e ≡ why.Depot
 
 -- a file that the command asks for isn't there
 abbrev pub Misses : Request → Files → Type 0
@@ -54,8 +56,10 @@ Misses (request.Windows ledger strict) at = at ledger ≡ None
 Misses (request.Faults file) at = at file ≡ None
 Misses (request.Tell t file) at = at file ≡ None
 Misses (request.Chain r) at = at r.file ≡ None
-Misses (request.Impact r) at = misses_after at r.new (loaded at r.old)
+Misses (request.Reactions r ledger) at = MissesAfter (λ _. at ledger ≡ None) (chain_at at r)
+Misses (request.Impact r) at = MissesAfter (λ _. loaded at r.new ≡ Err why.Depot) (loaded at r.old)
 Misses (request.Repeats file ticks) at = loaded at file ≡ Err why.Depot
+Misses (request.Check r) at = MissesAfter (λ _. at r.needs ≡ None) (certified_at (at r.file))
 
 abbrev pub IsLoud : {A : Type 0} → Result A Refusal → Type 0
 IsLoud (Ok x) = Unit {0}

@@ -8,7 +8,7 @@ use Rattle.dk_impact_report.specs.ImpactText.{impact_csv, impact_page}
 use Rattle.dk_show.specs.declared.status.Status.{Status}
 use Rattle.dk_show.specs.declared.status.Status.TheVariants as status
 use Rattle.dk_show.specs.Answers.{Files}
-use Rattle.dk_show.specs.Change.{ChangeAsk}
+use Rattle.dk_show_request.specs.Change.{ChangeAsk}
 use Rattle.dk_show.specs.Loading.{IsOfLoaded}
 
 -- where a process that isn't named is touched, the call ends as refused

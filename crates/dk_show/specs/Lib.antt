@@ -1,14 +1,11 @@
-pub mod Numbers
-pub mod Clap
-pub mod Chain
-pub mod Change
-pub mod Meaning
-pub mod Usage
 pub mod Answers
 pub mod Output
 pub mod Leaves
 pub mod Works
 pub mod Loading
+pub mod Chains
+pub mod Sources
 pub mod Impacts
 pub mod Repeats
+pub mod Needed
 pub mod Asking

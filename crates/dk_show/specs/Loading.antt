@@ -63,10 +63,11 @@ pub record IsCertifiedLoad (w : Workload) : Type 0 where
   pub programs : length w.programs ≡ length w.config.processes
   pub sizes : All (λ program. length program ≤ MAX_PROGRAM_BYTES) w.programs
 
--- What the certified configuration in the file of this name comes to, with its programs: its refusal, and else what these do.
-abbrev pub IsOfLoad : Result Workload Refusal → (Workload → List ℕ → Status → Type 0) → List ℕ → Status → Type 0
-IsOfLoad (Ok w) IsOf text ended = IsOf w text ended
-IsOfLoad (Err e) IsOf text ended = (is_silent e ≡ false) × Says e text ended
+-- What is told of something, or the refusal in its place.
+abbrev pub IsOf : {X : Type 0} → Result X Refusal → (X → List ℕ → Status → Type 0) → List ℕ → Status → Type 0
+IsOf (Ok x) Told text ended = Told x text ended
+IsOf (Err e) Told text ended = (is_silent e ≡ false) × Says e text ended
 
+-- what the certified configuration in the file of this name comes to, with its programs
 abbrev pub IsOfLoaded : Files → List ℕ → (Workload → List ℕ → Status → Type 0) → List ℕ → Status → Type 0
-IsOfLoaded at name IsOf text ended = IsOfLoad (loaded at name) IsOf text ended
+IsOfLoaded at name Told text ended = IsOf (loaded at name) Told text ended

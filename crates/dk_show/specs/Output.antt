@@ -1,5 +1,5 @@
 -- What is written for the words and the files, and how the call ends.
-use Rattle.std.specs.Prelude.{ℕ, ◌≡◌, ◌≤◌, ◌<◌, ◌⊎◌, Bool, true, false, length, reverse, List, [], ◌∷◌, Option, Some, None, IfSome, Result, Ok, Err}
+use Rattle.std.specs.Prelude.{ℕ, ◌≡◌, ◌≤◌, ◌<◌, ◌⊎◌, ◌++◌, Bool, true, false, length, reverse, List, [], ◌∷◌, Option, Some, None, IfSome, MatchBool, Result, Ok, Err}
 use Rattle.dk_config.specs.declared.TheConstants.{MAX_CONFIG_BYTES, MAX_LEDGER_BYTES}
 use Rattle.dk_config.specs.Configuration.{Configuration}
 use Rattle.dk_certify.specs.declared.certifying.Verdict.{Verdict}
@@ -9,14 +9,12 @@ use Rattle.dk_document_report.specs.Telling.{Tells}
 use Rattle.dk_certify_report.specs.Certificate.{certificate_text}
 use Rattle.dk_config_report.specs.Reaches.{AreMargins}
 use Rattle.dk_config_report.specs.When.{IsWhen}
-use Rattle.dk_chain_report.specs.Finding.{processes_named}
-use Rattle.dk_chain_report.specs.Report.{IsChainText}
 use Rattle.dk_warning_report.specs.WarningLines.{warnings_text}
 use Rattle.dk_loader.specs.declared.fault.LoadFault.{LoadFault}
 use Rattle.dk_loader.specs.declared.fault.LoadFault.TheVariants as fault
 use Rattle.dk_loader.specs.Reading.{reading}
 use Rattle.dk_ledger.specs.declared.line.LedgerLine.{LedgerLine}
-use Rattle.dk_ledger.specs.Readable.{Journal, IsReadable, IsNoText, IsWrongLine, text_of}
+use Rattle.dk_ledger.specs.Readable.{Journal, IsReadable, text_of}
 use Rattle.dk_window_report.specs.Text.{is_clean, windows_text}
 use Rattle.dk_groups.specs.Groups.{groups}
 use Rattle.dk_picture.specs.declared.reading.TheConstants.{MAX_GROUPS}
@@ -24,24 +22,29 @@ use Rattle.dk_picture.specs.Pictures.{IsTooMany, svg_text}
 use Rattle.dk_csv.specs.Rows.{csv_text}
 use Rattle.dk_trace_events.specs.Traces.{trace_text}
 use Rattle.dk_vcd.specs.Dumps.{vcd_text}
-use Rattle.dk_show.specs.declared.commands.Drawing.{Drawing}
-use Rattle.dk_show.specs.declared.commands.Drawing.TheVariants as drawing
-use Rattle.dk_show.specs.declared.commands.Telling.{Telling}
-use Rattle.dk_show.specs.declared.commands.Telling.TheVariants as telling
-use Rattle.dk_show.specs.Chain.{ChainAsk}
-use Rattle.dk_show.specs.declared.request.Range.{Range}
-use Rattle.dk_show.specs.declared.request.RangeRequest.{RangeRequest}
-use Rattle.dk_show.specs.declared.request.Request.{Request}
-use Rattle.dk_show.specs.declared.request.Request.TheVariants as request
+use Rattle.dk_show_request.specs.declared.commands.Drawing.{Drawing}
+use Rattle.dk_show_request.specs.declared.commands.Drawing.TheVariants as drawing
+use Rattle.dk_show_request.specs.declared.commands.Telling.{Telling}
+use Rattle.dk_show_request.specs.declared.commands.Telling.TheVariants as telling
+use Rattle.dk_show_request.specs.declared.request.Range.{Range}
+use Rattle.dk_show_request.specs.declared.request.RangeRequest.{RangeRequest}
+use Rattle.dk_show_request.specs.declared.request.Request.{Request}
+use Rattle.dk_show_request.specs.declared.request.Request.TheVariants as request
 use Rattle.dk_show.specs.declared.refusal.Refusal.{Refusal}
 use Rattle.dk_show.specs.declared.refusal.Refusal.TheVariants as why
 use Rattle.dk_show.specs.declared.status.Status.{Status}
 use Rattle.dk_show.specs.declared.status.Status.TheVariants as status
-pub use Rattle.dk_show.specs.Answers.{Files, Says}
+pub use Rattle.dk_show.specs.Answers.{Files, IsOfNamed, IsWrong, Says}
+use Rattle.dk_show.specs.Chains.{IsChainTold, IsOfReactions, chain_at}
 use Rattle.dk_show.specs.Impacts.{IsOfImpact}
-use Rattle.dk_show.specs.Loading.{IsOfLoaded}
-use Rattle.dk_show.specs.Meaning.{meaning}
+use Rattle.dk_show.specs.Loading.{IsOf, IsOfLoaded, certified_at}
+use Rattle.dk_show.specs.Needed.{IsOfNeeds}
+use Rattle.dk_show_request.specs.Meaning.{meaning}
+use Rattle.dk_show_request.specs.Reasons.{wrong_text}
+use Rattle.dk_show_request.specs.Usage.{usage_text}
 use Rattle.dk_show.specs.Repeats.{IsOfRepeats}
+use Rattle.dk_show.specs.Sources.{IsOfSource, is_source_name}
+use Rattle.dk_asm.specs.declared.TheConstants.{MAX_SOURCE_BYTES}
 
 -- the text of a ledger's ticks from `from` up to before `to`
 abbrev pub drawn_text : Drawing → ℕ → ℕ → Journal → List ℕ
@@ -68,13 +71,6 @@ pub record IsDrawn (r : RangeRequest) (j : Journal) (text : List ℕ) (ended : S
 pub record IsBehind (r : RangeRequest) (j : Journal) (text : List ℕ) (ended : Status) : Type 0 where
   pub behind : length j.entries < to_of r.range (length j.entries)
   pub says : Says (why.RangeEnds (length j.entries)) text ended
-
--- the first wrong line
-pub record IsWrong (bytes : List ℕ) (text : List ℕ) (ended : Status) : Type 0 where
-  pub line : ℕ
-  pub wrong : IsWrongLine line bytes
-  pub none : IsNoText bytes
-  pub says : Says (why.LedgerLine line) text ended
 
 -- the ledger in these bytes, and what is drawn of it
 pub record IsOfLedger (r : RangeRequest) (bytes : List ℕ) (text : List ℕ) (ended : Status) : Type 0 where
@@ -167,26 +163,6 @@ IsOfReading t (Err _) text ended = ⊥
 abbrev pub IsOfDocument : Telling → List ℕ → List ℕ → Status → Type 0
 IsOfDocument t bytes text ended = IsOfReading t (reading bytes) text ended
 
--- what is said of the chain of these processes, where there are such and the configuration is certified
-abbrev pub IsChainOf : Configuration → Verdict → Option (List ℕ) → List ℕ → Status → Type 0
-IsChainOf c v None text ended = Says why.NoProcess text ended
-IsChainOf c (verdict.Fails level needs window) (Some chain) text ended =
-    Says (why.Uncertified level needs window) text ended
-IsChainOf c (verdict.Accepted rows) (Some []) text ended = ⊥
-IsChainOf c (verdict.Accepted rows) (Some (first ∷ rest)) text ended =
-    IsChainText c first rest text × (ended ≡ status.Done)
-
--- what is said of the chain of these names in what a document was read as
-abbrev pub IsChainIn : ChainAsk → Result Configuration LoadFault → List ℕ → Status → Type 0
-IsChainIn r (Ok c) text ended = IsChainOf c (verdict_of c) (processes_named c (r.first ∷ r.rest)) text ended
-IsChainIn r (Err fault.NotToml) text ended = Says why.NotToml text ended
-IsChainIn r (Err (fault.Config f)) text ended = Says (why.Rule f) text ended
-IsChainIn r (Err _) text ended = ⊥
-
--- what the bytes of a configuration come to
-abbrev pub IsOfChain : ChainAsk → List ℕ → List ℕ → Status → Type 0
-IsOfChain r bytes text ended = IsChainIn r (reading bytes) text ended
-
 -- the status tells whether the document is that of a configuration
 abbrev pub read_end : Result Configuration LoadFault → Status
 read_end (Ok c) = status.Done
@@ -196,31 +172,42 @@ read_end (Err e) = status.Config
 abbrev pub IsOfFaults : List ℕ → List ℕ → Status → Type 0
 IsOfFaults bytes text ended = Tells bytes text × (ended ≡ read_end (reading bytes))
 
--- What the file of this name comes to: the refusal of one of more than so many bytes, and else what its bytes do.
-abbrev pub IsOfNamed : Files → List ℕ → ℕ → Refusal → (List ℕ → List ℕ → Status → Type 0) → List ℕ → Status → Type 0
-IsOfNamed at name most long IsOf text ended = (bytes : List ℕ) × (at name ≡ Some bytes)
-    × (((most < length bytes) × Says long text ended) ⊎ ((length bytes ≤ most) × IsOf bytes text ended))
+-- all that is wrong with the file of this name, a source of the assembler or a document
+abbrev pub IsAllWrong : Files → List ℕ → List ℕ → Status → Type 0
+IsAllWrong at file text ended = MatchBool (is_source_name file)
+    (IsOfNamed at file MAX_SOURCE_BYTES why.LongSource IsOfSource text ended)
+    (IsOfNamed at file MAX_CONFIG_BYTES why.LongConfig IsOfFaults text ended)
 
-abbrev pub IsOfRequest : Option Request → Files → List ℕ → Status → Type 0
-IsOfRequest None at text ended = Says why.Usage text ended
-IsOfRequest (Some (request.Draw r)) at text ended =
+abbrev pub IsOfRequest : Request → Files → List ℕ → Status → Type 0
+IsOfRequest (request.Draw r) at text ended =
     IsOfNamed at r.ledger MAX_LEDGER_BYTES why.LongLedger (IsOfBytes r) text ended
-IsOfRequest (Some (request.Picture ledger range)) at text ended =
+IsOfRequest (request.Picture ledger range) at text ended =
     IsOfNamed at ledger MAX_LEDGER_BYTES why.LongLedger (IsOfPicture range) text ended
-IsOfRequest (Some (request.Windows ledger strict)) at text ended =
+IsOfRequest (request.Windows ledger strict) at text ended =
     IsOfNamed at ledger MAX_LEDGER_BYTES why.LongLedger (IsOfWindows strict) text ended
-IsOfRequest (Some (request.Faults file)) at text ended =
-    IsOfNamed at file MAX_CONFIG_BYTES why.LongConfig IsOfFaults text ended
-IsOfRequest (Some (request.Tell t file)) at text ended =
+IsOfRequest (request.Faults file) at text ended = IsAllWrong at file text ended
+IsOfRequest (request.Tell t file) at text ended =
     IsOfNamed at file MAX_CONFIG_BYTES why.LongConfig (IsOfDocument t) text ended
-IsOfRequest (Some (request.Chain r)) at text ended =
-    IsOfNamed at r.file MAX_CONFIG_BYTES why.LongConfig (IsOfChain r) text ended
-IsOfRequest (Some (request.Impact r)) at text ended = IsOfImpact at r text ended
-IsOfRequest (Some (request.Repeats file ticks)) at text ended = IsOfLoaded at file (IsOfRepeats ticks) text ended
+IsOfRequest (request.Chain r) at text ended = IsOf (chain_at at r) IsChainTold text ended
+IsOfRequest (request.Reactions r ledger) at text ended =
+    IsOf (chain_at at r) (λ chain. IsOfNamed at ledger MAX_LEDGER_BYTES why.LongLedger (IsOfReactions chain)) text ended
+IsOfRequest (request.Impact r) at text ended = IsOfImpact at r text ended
+IsOfRequest (request.Repeats file ticks) at text ended = IsOfLoaded at file (IsOfRepeats ticks) text ended
+IsOfRequest (request.Check r) at text ended =
+    IsOf (certified_at (at r.file)) (λ c. IsOfNamed at r.needs MAX_CONFIG_BYTES why.LongNeeds (IsOfNeeds r.as_csv c)) text ended
+
+-- the usage line, and why the words mean nothing
+abbrev pub IsUsage : List (List ℕ) → List ℕ → Status → Type 0
+IsUsage words text ended = (text ≡ usage_text ++ wrong_text words) × (ended ≡ status.Usage)
+
+-- what words of this meaning come to
+abbrev pub IsOfMeaning : List (List ℕ) → Option Request → Files → List ℕ → Status → Type 0
+IsOfMeaning words None at text ended = IsUsage words text ended
+IsOfMeaning words (Some r) at text ended = IsOfRequest r at text ended
 
 -- the text and the status are the output of the words and the files
 abbrev pub IsOutput : List (List ℕ) → Files → List ℕ → Status → Type 0
-IsOutput words at text ended = IsOfRequest (meaning words) at text ended
+IsOutput words at text ended = IsOfMeaning words (meaning words) at text ended
 
 -- where the files are told
 abbrev pub StandsInOutput : Option Files → List (List ℕ) → List ℕ → Status → Type 0

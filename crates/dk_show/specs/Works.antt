@@ -46,15 +46,10 @@ abbrev pub Plans : (List ℕ → Status → Type 0) → Result Work Refusal → 
 Plans Stands (Ok w) = (text : List ℕ) → HasText w text → Stands text (ended_of w)
 Plans Stands (Err e) = is_silent e ≡ false → Stands (refusal_text e) (refusal_status e)
 
--- What is made of bytes that were read: a work of this kind, or a refusal by neither the words nor a read.
+-- What is made of bytes that were read: a work of this kind, or a refusal by no read.
 pub record IsMade (IsOf : Work → Type 0) (result : Result Work Refusal) : Type 0 where
   pub ready : IfOk result IsOf
-  pub late : IfErr result (λ e. e ≢ why.Usage)
   pub read : IfErr result (λ e. e ≢ why.Depot)
-
--- nothing but the usage line, or want of memory
-abbrev pub IsUsageOrNoMemory : Refusal → Type 0
-IsUsageOrNoMemory e = (e ≡ why.Usage) ⊎ (e ≡ why.NoMemory)
 
 -- a refusal that isn't silent is this one, of a file of more than so many bytes
 abbrev pub IsOfLong : Files → List ℕ → ℕ → Refusal → Refusal → Type 0

@@ -1,88 +1,91 @@
 //! When a chain of processes answers an event.
-ghost use Rattle.std.specs.Prelude.{◌≡◌, ◌≢◌, ◌∷◌, ◌^◌, ◌<◌, ◌≤◌, IfOk, IfErr, IfSome, Some, length, None};
-ghost use Rattle.dk_config.specs.Checked.{IsChecked, IsWithinLimits};
-ghost use Rattle.dk_config.specs.declared.TheConstants.{MAX_PROCESSES};
-ghost use Rattle.dk_certify.specs.Verdicts.{verdict_of};
-ghost use Rattle.dk_chain.specs.Chain.{AreThere};
-ghost use Rattle.dk_chain_report.specs.Finding.{processes_named};
+ghost use Rattle.std.specs.Prelude.{◌≡◌, ◌≢◌, ◌^◌, ◌+◌, ◌<◌, ◌≤◌, IfOk, IfErr, IfSome, None};
+ghost use Rattle.dk_config.specs.Checked.{IsAccepted, IsChecked, IsWithinLimits};
+ghost use Rattle.dk_config.specs.declared.TheConstants.{MAX_CONFIG_BYTES, MAX_PROCESSES};
+ghost use Rattle.std.specs.Prelude.{length};
 ghost use Rattle.dk_show.specs.Asking.{Asks, handed_out};
+ghost use Rattle.dk_show.specs.Chains.{IsCertifiedChain, IsChainTold, chain_at, chain_named};
 ghost use Rattle.dk_show.specs.Leaves.{Reads};
-ghost use Rattle.dk_show.specs.Output.{IsChainOf, IsOfChain, IsOfNamed};
+ghost use Rattle.dk_show.specs.Loading.{IsOf, Loads};
 ghost use Rattle.dk_show.specs.Works.{IsMade, IsWhole, Plans};
+ghost use Rattle.std.specs.Prelude.{Ok};
 
-use crate::chain_words::ChainRequest;
-use crate::files::file_at;
+use crate::loading::certified_at;
 use crate::work::Work;
 use crate::{Refusal, Status};
-use dk_certify::{Verdict, certify};
 use dk_chain_report::{Chain, chain_report, find_chain};
-use dk_config::{Config, MAX_CONFIG_BYTES};
-use dk_loader::{LoadFault, read_config};
+use dk_config::Config;
 use dk_outside::Depot;
+use dk_show_request::ChainRequest;
 use std::alloc::Global;
+use std::marker::Model;
 
-/// When the chain answers, where the configuration is certified.
-fn of_chain(alloc: Global, config: &mut Config, chain: &Chain) -> Result<Work, Refusal>
-    requires checked { IsChecked config.old }
-    requires limits { IsWithinLimits config.old }
-    requires there { AreThere config.old (chain.now.first ∷ chain.now.rest.items) }
-    requires few { length chain.now.rest.items < MAX_PROCESSES }
-    ensures plans { Plans (IsChainOf config.old (verdict_of config.old) (Some (chain.now.first ∷ chain.now.rest.items))) result }
-    ensures made { IsMade IsWhole result }
-{
-    match certify(config) {
-        Verdict::Accepted(_) => {
-            let page = chain_report(alloc, config, chain.first, chain.rest.as_slice())?;
-            Ok(Work::Page(page, Status::Done))
-        }
-        Verdict::Fails {
-            level,
-            needs,
-            window,
-        } => Err(Refusal::Uncertified {
-            level,
-            needs,
-            window,
-        }),
-    }
+/// A certified configuration, and the processes of a chain in it. It is seen with a list in place of the `Vec`.
+#[derive(Drop)]
+pub(crate) struct FoundChain {
+    pub(crate) config: Config,
+    pub(crate) chain: Chain,
 }
 
-/// When the chain of these names answers.
-fn of_names(alloc: Global, request: &ChainRequest, config: &mut Config) -> Result<Work, Refusal>
+impl Model for FoundChain {
+    ghost use Rattle.dk_show.specs.Chains.{ChainIn};
+
+    ghost Value = { ChainIn };
+
+    ghost view = { λ f. record { config = f.config; first = f.chain.first; rest = f.chain.rest.items } };
+}
+
+/// The chain of these names in a certified configuration.
+fn chain_named(alloc: Global, request: &ChainRequest, config: Config) -> Result<FoundChain, Refusal>
     requires few { length request.now.rest < MAX_PROCESSES }
-    requires checked { IsChecked config.old }
-    requires limits { IsWithinLimits config.old }
-    ensures plans { Plans (IsChainOf config.old (verdict_of config.old)
-        (processes_named config.old (request.now.first ∷ request.now.rest))) result }
-    ensures made { IsMade IsWhole result }
+    requires checked { IsChecked config }
+    requires accepted { IsAccepted config }
+    requires limits { IsWithinLimits config }
+    ensures loads { Loads result (chain_named request.now (Ok config)) }
+    ensures certified { IfOk result IsCertifiedChain }
+    ensures read { IfErr result (λ e. e ≢ Refusal.Depot) }
 {
-    match find_chain(
+    let found = find_chain(
         alloc,
-        config,
+        &config,
         request.first.as_str(),
         request.rest.as_slice(),
-    )? {
-        Some(chain) => of_chain(alloc, config, &chain),
+    )?;
+    match found {
+        Some(chain) => Ok(FoundChain { config, chain }),
         None => Err(Refusal::NoProcess),
     }
 }
 
-/// When the chain answers under the configuration in these bytes.
-fn of_document(alloc: Global, request: &ChainRequest, bytes: &[u8]) -> Result<Work, Refusal>
+/// The chain of these names under the configuration in the file of this name.
+#[tactic(auto, using(crate::proofs::Asks::asks_on, crate::proofs::Asks::asks_fails))]
+pub(crate) fn chain_at<D: Depot>(
+    alloc: Global,
+    request: &ChainRequest,
+    depot: &mut D,
+) -> Result<FoundChain, Refusal>
+    requires given { (D.seen depot.old).given < 2 ^ 62 }
     requires few { length request.now.rest < MAX_PROCESSES }
-    requires short { length bytes.now ≤ MAX_CONFIG_BYTES }
-    ensures plans { Plans (IsOfChain request.now bytes.now) result }
+    ensures loads { IfSome (D.seen depot.old).files (λ at. Loads result (chain_at at request.now)) }
+    ensures certified { IfOk result IsCertifiedChain }
+    ensures given { (D.seen depot.new).given ≤ (D.seen depot.old).given + (MAX_CONFIG_BYTES + 1) }
+    ensures asks { Asks (D.seen depot.old).files (λ at. handed_out MAX_CONFIG_BYTES (at request.now.file)) (λ at. at request.now.file ≡ None)
+        (D.seen depot.old) (D.seen depot.new) result }
+    ensures reads { Reads (D.seen depot.old) (D.seen depot.new) result }
+{
+    let config = certified_at(alloc, request.file.as_str(), depot)?;
+    chain_named(alloc, request, config)
+}
+
+/// When the chain answers.
+fn of_chain(alloc: Global, found: FoundChain) -> Result<Work, Refusal>
+    requires { IsCertifiedChain found }
+    ensures plans { Plans (IsChainTold found) result }
     ensures made { IsMade IsWhole result }
 {
-    match read_config(alloc, bytes) {
-        Ok(config) => {
-            let mut config = config;
-            of_names(alloc, request, &mut config)
-        }
-        Err(LoadFault::NotToml) => Err(Refusal::NotToml),
-        Err(LoadFault::Config(fault)) => Err(Refusal::Rule(fault)),
-        Err(_) => Err(Refusal::NoMemory),
-    }
+    let FoundChain { mut config, chain } = found;
+    let page = chain_report(alloc, &mut config, chain.first, chain.rest.as_slice(), "")?;
+    Ok(Work::Page(page, Status::Done))
 }
 
 /// When the chain answers under the configuration in the file of this name.
@@ -94,15 +97,12 @@ pub(crate) fn chain_plan<D: Depot>(
 ) -> Result<Work, Refusal>
     requires given { (D.seen depot.old).given < 2 ^ 62 }
     requires few { length request.now.rest < MAX_PROCESSES }
-    ensures plans { IfSome (D.seen depot.old).files
-        (λ at. Plans (IsOfNamed at request.now.file MAX_CONFIG_BYTES Refusal.LongConfig (IsOfChain request.now)) result) }
+    ensures plans { IfSome (D.seen depot.old).files (λ at. Plans (IsOf (chain_at at request.now) IsChainTold) result) }
     ensures whole { IfOk result IsWhole }
     ensures asks { Asks (D.seen depot.old).files (λ at. handed_out MAX_CONFIG_BYTES (at request.now.file)) (λ at. at request.now.file ≡ None)
         (D.seen depot.old) (D.seen depot.new) result }
-    ensures late { IfErr result (λ e. e ≢ Refusal.Usage) }
     ensures reads { Reads (D.seen depot.old) (D.seen depot.new) result }
 {
-    let file = request.file.as_str();
-    let bytes = file_at(alloc, depot, file, MAX_CONFIG_BYTES, Refusal::LongConfig)?;
-    of_document(alloc, request, bytes.as_slice())
+    let found = chain_at(alloc, request, depot)?;
+    of_chain(alloc, found)
 }

@@ -19,12 +19,10 @@ pub(crate) fn file_at<D: Depot>(
 ) -> Result<Vec<u8>, Refusal>
     requires given { (D.seen depot.old).given < 2 ^ 63 }
     requires told { is_silent long ≡ false }
-    requires later { long ≢ Refusal.Usage }
     ensures held { IfSome (D.seen depot.old).files (λ at. IfOk result (λ v. at name.now ≡ Some v.items)) }
     ensures long { IfSome (D.seen depot.old).files (λ at. IfErr result (IsOfLong at name.now most long)) }
     ensures short { IfOk result (λ v. length v.items ≤ most) }
     ensures given { (D.seen depot.new).given ≤ (D.seen depot.old).given + (most + 1) }
-    ensures late { IfErr result (λ e. e ≢ Refusal.Usage) }
     ensures asks { Asks (D.seen depot.old).files (λ at. handed_out most (at name.now)) (λ at. at name.now ≡ None)
         (D.seen depot.old) (D.seen depot.new) result }
     ensures reads { Reads (D.seen depot.old) (D.seen depot.new) result }

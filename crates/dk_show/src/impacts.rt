@@ -3,12 +3,11 @@ ghost use Rattle.std.specs.Prelude.{◌≡◌, ◌≢◌, ◌+◌, ◌^◌, ◌<
 ghost use Rattle.dk_config.specs.Checked.{IsWithinLimits};
 ghost use Rattle.dk_show.specs.Answers.{IsEnd};
 ghost use Rattle.dk_show.specs.Impacts.{IsOfChange, IsOfImpact, impact_end, impact_told};
-ghost use Rattle.dk_show.specs.Asking.{Asks, handed_after, handed_load, misses_after};
+ghost use Rattle.dk_show.specs.Asking.{Asks, MissesAfter, handed_after, handed_load};
 ghost use Rattle.dk_show.specs.Leaves.{Reads};
 ghost use Rattle.dk_show.specs.Loading.{IsCertifiedLoad, IsOfLoaded, loaded};
 ghost use Rattle.dk_show.specs.Works.{IsMade, IsWhole, Plans};
 
-use crate::impact_words::ChangeRequest;
 use crate::loading::loaded_at;
 use crate::work::Work;
 use crate::{Refusal, Status};
@@ -17,6 +16,7 @@ use dk_config_report::Page;
 use dk_impact_report::{Row, impact_csv, impact_page, impacts, touches_only};
 use dk_loader::Loaded;
 use dk_outside::Depot;
+use dk_show_request::ChangeRequest;
 use std::alloc::Global;
 
 /// How the call ends.
@@ -84,7 +84,6 @@ fn change_to<D: Depot>(
     ensures whole { IfOk result IsWhole }
     ensures asks { Asks (D.seen depot.old).files (λ at. handed_load at request.now.new) (λ at. loaded at request.now.new ≡ Err Refusal.Depot)
         (D.seen depot.old) (D.seen depot.new) result }
-    ensures late { IfErr result (λ e. e ≢ Refusal.Usage) }
     ensures reads { Reads (D.seen depot.old) (D.seen depot.new) result }
 {
     let new = loaded_at(alloc, request.new.as_str(), depot)?;
@@ -100,9 +99,9 @@ pub(crate) fn impact_plan<D: Depot>(
     requires { (D.seen depot.old).given < 2 ^ 62 }
     ensures plans { IfSome (D.seen depot.old).files (λ at. Plans (IsOfImpact at request.now) result) }
     ensures whole { IfOk result IsWhole }
-    ensures asks { Asks (D.seen depot.old).files (λ at. handed_load at request.now.old + handed_after at request.now.new (loaded at request.now.old))
-        (λ at. misses_after at request.now.new (loaded at request.now.old)) (D.seen depot.old) (D.seen depot.new) result }
-    ensures late { IfErr result (λ e. e ≢ Refusal.Usage) }
+    ensures asks { Asks (D.seen depot.old).files (λ at. handed_load at request.now.old
+        + handed_after (λ _. handed_load at request.now.new) (loaded at request.now.old))
+        (λ at. MissesAfter (λ _. loaded at request.now.new ≡ Err Refusal.Depot) (loaded at request.now.old)) (D.seen depot.old) (D.seen depot.new) result }
     ensures reads { Reads (D.seen depot.old) (D.seen depot.new) result }
 {
     let old = loaded_at(alloc, request.old.as_str(), depot)?;

@@ -1,13 +1,14 @@
 //! A certified configuration with its programs, read from a depot.
-ghost use Rattle.std.specs.Prelude.{◌≡◌, ◌≢◌, ◌+◌, ◌^◌, ◌<◌, ◌≤◌, IfOk, IfErr, IfSome, length, Err};
+ghost use Rattle.std.specs.Prelude.{◌≡◌, ◌≢◌, ◌+◌, ◌^◌, ◌<◌, ◌≤◌, IfOk, IfErr, IfSome, length, Err, None};
+ghost use Rattle.dk_config.specs.declared.TheConstants.{MAX_CONFIG_BYTES};
 ghost use Rattle.dk_config.specs.Checked.{BreaksNoRule, IsAccepted, IsChecked, IsWithinLimits};
 ghost use Rattle.dk_certify.specs.Verdicts.{verdict_of};
 ghost use Rattle.dk_loader.specs.declared.fault.LoadFault.TheVariants as fault;
 ghost use Rattle.dk_loader.specs.Programs.{bytes_read, loading};
 ghost use Rattle.dk_loader.specs.Reading.{reading};
-ghost use Rattle.dk_show.specs.Asking.{Asks, handed_load};
+ghost use Rattle.dk_show.specs.Asking.{Asks, handed_load, handed_out};
 ghost use Rattle.dk_show.specs.Leaves.{Reads};
-ghost use Rattle.dk_show.specs.Loading.{IsCertifiedLoad, Loads, certified, certified_in, loaded, programs_of};
+ghost use Rattle.dk_show.specs.Loading.{IsCertifiedLoad, Loads, certified, certified_at, certified_in, loaded, programs_of};
 
 use crate::Refusal;
 use crate::files::file_at;
@@ -46,7 +47,6 @@ fn certified_in(alloc: Global, bytes: &[u8]) -> Result<Config, Refusal>
     ensures checked { IfOk result IsChecked }
     ensures accepted { IfOk result IsAccepted }
     ensures limits { IfOk result IsWithinLimits }
-    ensures late { IfErr result (λ e. e ≢ Refusal.Usage) }
     ensures read { IfErr result (λ e. e ≢ Refusal.Depot) }
 {
     match read_config(alloc, bytes) {
@@ -55,6 +55,27 @@ fn certified_in(alloc: Global, bytes: &[u8]) -> Result<Config, Refusal>
         Err(LoadFault::Config(fault)) => Err(Refusal::Rule(fault)),
         Err(_) => Err(Refusal::NoMemory),
     }
+}
+
+/// The certified configuration in the file of this name.
+pub(crate) fn certified_at<D: Depot>(
+    alloc: Global,
+    name: &str,
+    depot: &mut D,
+) -> Result<Config, Refusal>
+    requires { (D.seen depot.old).given < 2 ^ 62 + 2 ^ 30 }
+    ensures loads { IfSome (D.seen depot.old).files (λ at. Loads result (certified_at (at name.now))) }
+    ensures unbroken { IfOk result BreaksNoRule }
+    ensures checked { IfOk result IsChecked }
+    ensures accepted { IfOk result IsAccepted }
+    ensures limits { IfOk result IsWithinLimits }
+    ensures given { (D.seen depot.new).given ≤ (D.seen depot.old).given + (MAX_CONFIG_BYTES + 1) }
+    ensures asks { Asks (D.seen depot.old).files (λ at. handed_out MAX_CONFIG_BYTES (at name.now)) (λ at. at name.now ≡ None)
+        (D.seen depot.old) (D.seen depot.new) result }
+    ensures reads { Reads (D.seen depot.old) (D.seen depot.new) result }
+{
+    let bytes = file_at(alloc, depot, name, MAX_CONFIG_BYTES, Refusal::LongConfig)?;
+    certified_in(alloc, bytes.as_slice())
 }
 
 /// The configuration with the programs of its processes.
@@ -66,7 +87,6 @@ fn with_programs<D: Depot>(alloc: Global, config: Config, depot: &mut D) -> Resu
     requires given { (D.seen depot.old).given < 2 ^ 63 }
     ensures loads { IfSome (D.seen depot.old).files (λ at. Loads result (programs_of (loading at config))) }
     ensures certified { IfOk result IsCertifiedLoad }
-    ensures late { IfErr result (λ e. e ≢ Refusal.Usage) }
     ensures given { (D.seen depot.new).given ≤ (D.seen depot.old).given + 2 ^ 29 }
     ensures asks { Asks (D.seen depot.old).files (λ at. bytes_read at config.processes) (λ at. loading at config ≡ Err fault.Depot)
         (D.seen depot.old) (D.seen depot.new) result }
@@ -89,13 +109,11 @@ pub(crate) fn loaded_at<D: Depot>(
     requires { (D.seen depot.old).given < 2 ^ 62 + 2 ^ 30 }
     ensures loads { IfSome (D.seen depot.old).files (λ at. Loads result (loaded at name.now)) }
     ensures certified { IfOk result IsCertifiedLoad }
-    ensures late { IfErr result (λ e. e ≢ Refusal.Usage) }
     ensures given { (D.seen depot.new).given ≤ (D.seen depot.old).given + 2 ^ 30 }
     ensures asks { Asks (D.seen depot.old).files (λ at. handed_load at name.now) (λ at. loaded at name.now ≡ Err Refusal.Depot)
         (D.seen depot.old) (D.seen depot.new) result }
     ensures reads { Reads (D.seen depot.old) (D.seen depot.new) result }
 {
-    let bytes = file_at(alloc, depot, name, MAX_CONFIG_BYTES, Refusal::LongConfig)?;
-    let config = certified_in(alloc, bytes.as_slice())?;
+    let config = certified_at(alloc, name, depot)?;
     with_programs(alloc, config, depot)
 }

@@ -9,7 +9,6 @@ ghost use Rattle.dk_show.specs.Works.{IsMade, IsWhole, Plans};
 
 use crate::files::file_at;
 use crate::plans::range_within;
-use crate::request::Range;
 use crate::work::Work;
 use crate::{Refusal, Status};
 use dk_config::MAX_LEDGER_BYTES;
@@ -18,6 +17,7 @@ use dk_groups::survey_ledger;
 use dk_ledger::{Header, LedgerFault};
 use dk_outside::Depot;
 use dk_picture::{PictureFault, picture};
+use dk_show_request::Range;
 use std::alloc::Global;
 
 /// The picture of the range, of so many ticks, which are those of the ledger in these bytes.
@@ -69,7 +69,6 @@ pub(crate) fn picture_plan<D: Depot>(
     ensures whole { IfOk result IsWhole }
     ensures asks { Asks (D.seen depot.old).files (λ at. handed_out MAX_LEDGER_BYTES (at ledger.now)) (λ at. at ledger.now ≡ None)
         (D.seen depot.old) (D.seen depot.new) result }
-    ensures late { IfErr result (λ e. e ≢ Refusal.Usage) }
     ensures reads { Reads (D.seen depot.old) (D.seen depot.new) result }
 {
     let bytes = file_at(alloc, depot, ledger, MAX_LEDGER_BYTES, Refusal::LongLedger)?;

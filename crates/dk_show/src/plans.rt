@@ -1,21 +1,22 @@
-//! What the words come to over a depot.
+//! What a request comes to over a depot.
 ghost use Rattle.std.specs.Prelude.{◌≡◌, ◌≢◌, ◌⊎◌, ◌^◌, ◌<◌, ◌≤◌, IfOk, IfErr, IfSome, IsErrOf, Some, length, map, string_bytes, None};
 ghost use Rattle.std.specs.Result.{IsErrAnd};
 ghost use Rattle.dk_ledger.specs.Readable.{Journal, IsReadable, text_of};
 ghost use Rattle.dk_show.specs.Asking.{Asks, Misses, WordsMiss, handed_for, handed_for_words, handed_out};
 ghost use Rattle.dk_show.specs.Leaves.{Reads};
-ghost use Rattle.dk_show.specs.Meaning.{DrawsNothing, HasFewNames, MeansNothing, meaning};
+ghost use Rattle.dk_show_request.specs.Meaning.{DrawsNothing, HasFewNames, MeansNothing, meaning};
 ghost use Rattle.dk_show.specs.Output.{from_of, to_of, IsBehind, IsDrawn, IsOfBytes, IsOfNamed, IsOfRequest, IsOutput};
-ghost use Rattle.dk_show.specs.Works.{IsMade, IsReady, IsUsageOrNoMemory, IsWhole, Plans};
+ghost use Rattle.dk_show.specs.Works.{IsMade, IsReady, IsWhole, Plans};
 
 use crate::Refusal;
 use crate::chains::chain_plan;
 use crate::faults::faults_plan;
 use crate::files::file_at;
 use crate::impacts::impact_plan;
+use crate::needed::check_plan;
 use crate::pictures::picture_plan;
+use crate::reactions::reactions_plan;
 use crate::repeats::repeats_plan;
-use crate::request::{Range, RangeRequest, Request, meaning};
 use crate::telling::telling_plan;
 use crate::windows::windows_plan;
 use crate::work::{RangeWork, Work};
@@ -23,6 +24,7 @@ use dk_config::MAX_LEDGER_BYTES;
 use dk_groups::survey_ledger;
 use dk_ledger::LedgerFault;
 use dk_outside::Depot;
+use dk_show_request::{Range, RangeRequest, Request};
 use std::alloc::Global;
 
 /// The range that is asked for, and without one all of so many ticks.
@@ -81,7 +83,6 @@ fn drawing_plan<D: Depot>(
     ensures ready { IfOk result IsReady }
     ensures asks { Asks (D.seen depot.old).files (λ at. handed_out MAX_LEDGER_BYTES (at request.now.ledger)) (λ at. at request.now.ledger ≡ None)
         (D.seen depot.old) (D.seen depot.new) result }
-    ensures late { IfErr result (λ e. e ≢ Refusal.Usage) }
     ensures reads { Reads (D.seen depot.old) (D.seen depot.new) result }
 {
     let name = request.ledger.as_str();
@@ -89,17 +90,20 @@ fn drawing_plan<D: Depot>(
     of_bytes(alloc, request, bytes)
 }
 
-/// What a request comes to.
+/// What a request comes to over a depot.
 #[tactic(auto, using(crate::proofs::Wholes::whole_ready))]
-fn of_request<D: Depot>(alloc: Global, request: &Request, depot: &mut D) -> Result<Work, Refusal>
+pub(crate) fn plan<D: Depot>(
+    alloc: Global,
+    request: &Request,
+    depot: &mut D,
+) -> Result<Work, Refusal>
     requires given { (D.seen depot.old).given < 2 ^ 62 }
     requires few { HasFewNames request.now }
-    ensures plans { IfSome (D.seen depot.old).files (λ at. Plans (IsOfRequest (Some request.now) at) result) }
+    ensures plans { IfSome (D.seen depot.old).files (λ at. Plans (IsOfRequest request.now at) result) }
     ensures ready { IfOk result IsReady }
     ensures whole { DrawsNothing request.now → IfOk result IsWhole }
     ensures asks { Asks (D.seen depot.old).files (handed_for request.now) (Misses request.now)
         (D.seen depot.old) (D.seen depot.new) result }
-    ensures late { IfErr result (λ e. e ≢ Refusal.Usage) }
     ensures reads { Reads (D.seen depot.old) (D.seen depot.new) result }
 {
     match request {
@@ -109,29 +113,11 @@ fn of_request<D: Depot>(alloc: Global, request: &Request, depot: &mut D) -> Resu
         Request::Faults(file) => faults_plan(alloc, file.as_str(), depot),
         Request::Tell(telling, file) => telling_plan(alloc, *telling, file.as_str(), depot),
         Request::Chain(request) => chain_plan(alloc, request, depot),
+        Request::Reactions { chain, ledger } => {
+            reactions_plan(alloc, chain, ledger.as_str(), depot)
+        }
         Request::Impact(request) => impact_plan(alloc, request, depot),
         Request::Repeats { file, ticks } => repeats_plan(alloc, file.as_str(), *ticks, depot),
-    }
-}
-
-/// What the words come to.
-pub(crate) fn plan<D: Depot>(
-    alloc: Global,
-    words: &[String],
-    depot: &mut D,
-) -> Result<Work, Refusal>
-    requires { (D.seen depot.old).given < 2 ^ 62 }
-    ensures plans { IfSome (D.seen depot.old).files (λ at. Plans (IsOutput (map string_bytes words.now) at) result) }
-    ensures ready { IfOk result IsReady }
-    ensures whole { IfSome (meaning (map string_bytes words.now)) DrawsNothing → IfOk result IsWhole }
-    ensures asks { Asks (D.seen depot.old).files (handed_for_words (meaning (map string_bytes words.now)))
-        (WordsMiss (meaning (map string_bytes words.now))) (D.seen depot.old) (D.seen depot.new) result }
-    ensures usage { MeansNothing (map string_bytes words.now) → IsErrAnd result IsUsageOrNoMemory }
-    ensures usage_only { IsErrOf result Refusal.Usage → MeansNothing (map string_bytes words.now) }
-    ensures reads { Reads (D.seen depot.old) (D.seen depot.new) result }
-{
-    match meaning(alloc, words)? {
-        Some(request) => of_request(alloc, &request, depot),
-        None => Err(Refusal::Usage),
+        Request::Check(request) => check_plan(alloc, request, depot),
     }
 }

@@ -3,6 +3,7 @@ ghost use Rattle.dk_show.specs.Answers.{longer_than, refusal_status, refusal_tex
 ghost use Rattle.dk_show.specs.declared.refusal.Refusal.TheVariants as why;
 
 use crate::Status;
+use dk_asm::MAX_SOURCE_BYTES;
 use dk_config::{ConfigFault, MAX_CONFIG_BYTES, MAX_LEDGER_BYTES, MAX_PROGRAM_BYTES, NoMemory};
 use dk_fault_words::fault_text;
 use dk_picture::MAX_GROUPS;
@@ -11,24 +12,30 @@ use std::alloc::{AllocError, Global};
 /// Why a command is refused, in the order in which the reasons are looked for.
 #[derive(Clone, Copy, Debug, PartialEq, Eq)]
 pub enum Refusal {
-    /// The words are no command.
-    Usage,
     /// A read failed.
     Depot,
     /// The configuration has more than 65,536 bytes.
     LongConfig,
+    /// The source has more than 1,048,576 bytes.
+    LongSource,
     /// The bytes of the configuration are no TOML document.
     NotToml,
     /// The configuration breaks this rule first.
     Rule(ConfigFault),
-    /// A name of a chain is that of no process.
-    NoProcess,
     /// The first level that may miss its window, with the ticks that it needs and those of its window.
     Uncertified { level: u8, needs: u64, window: u32 },
+    /// A name of a chain is that of no process.
+    NoProcess,
+    /// The needs have more than 65,536 bytes.
+    LongNeeds,
+    /// The bytes of the needs are no TOML document.
+    NeedsNotToml,
     /// The program of the process with this number has more than 65,536 bytes.
     LongProgram(u32),
     /// The ledger is too long.
     LongLedger,
+    /// The ledger's header is not that of the configuration.
+    OtherLedger,
     /// The first line, counted from 1, by which a ledger is none.
     LedgerLine(u32),
     /// The range ends behind the last tick; the number is that of the ledger's ticks.
@@ -44,15 +51,18 @@ impl Refusal {
         ensures { result ≡ refusal_status self.now }
     {
         match self {
-            Refusal::Usage => Status::Usage,
             Refusal::Depot => Status::DepotFault,
             Refusal::LongConfig => Status::Config,
+            Refusal::LongSource => Status::Refused,
             Refusal::NotToml => Status::Config,
             Refusal::Rule(_) => Status::Config,
             Refusal::NoProcess => Status::Refused,
+            Refusal::LongNeeds => Status::Config,
+            Refusal::NeedsNotToml => Status::Config,
             Refusal::Uncertified { .. } => Status::Uncertified,
             Refusal::LongProgram(_) => Status::Refused,
             Refusal::LongLedger => Status::Refused,
+            Refusal::OtherLedger => Status::Refused,
             Refusal::LedgerLine(_) => Status::Refused,
             Refusal::RangeEnds(_) => Status::Refused,
             Refusal::TooManyGroups(_) => Status::Refused,
@@ -65,8 +75,8 @@ impl Refusal {
         ensures { IfOk result (λ s. string_bytes s ≡ refusal_text self.now) }
     {
         match self {
-            Refusal::Usage => String::from_str(alloc, USAGE),
             Refusal::LongConfig => too_long(alloc, "config:", MAX_CONFIG_BYTES),
+            Refusal::LongSource => too_long(alloc, "asm:", MAX_SOURCE_BYTES),
             Refusal::NotToml => String::from_str(alloc, "config: not TOML\n"),
             Refusal::Rule(fault) => fault_text(alloc, *fault),
             Refusal::NoProcess => String::from_str(alloc, "chain: no such process\n"),
@@ -75,8 +85,13 @@ impl Refusal {
                 needs,
                 window,
             } => uncertified_text(alloc, *level, *needs, *window),
+            Refusal::LongNeeds => too_long(alloc, "needs:", MAX_CONFIG_BYTES),
+            Refusal::NeedsNotToml => String::from_str(alloc, "needs: not TOML\n"),
             Refusal::LongProgram(process) => long_program_text(alloc, *process),
             Refusal::LongLedger => too_long(alloc, "ledger:", MAX_LEDGER_BYTES),
+            Refusal::OtherLedger => {
+                String::from_str(alloc, "ledger: of another configuration\n")
+            }
             Refusal::LedgerLine(line) => ledger_line_text(alloc, *line),
             Refusal::RangeEnds(ticks) => range_ends_text(alloc, *ticks),
             Refusal::TooManyGroups(tick) => too_many_text(alloc, *tick),
@@ -93,10 +108,6 @@ impl From<NoMemory> for Refusal {
         Refusal::NoMemory
     }
 }
-
-/// The usage line. It lists the commands that stand.
-const USAGE: &str =
-    "usage: deosk-show svg LEDGER [FROM TO] | trace LEDGER [FROM TO] | vcd LEDGER [FROM TO] | csv LEDGER [FROM TO] | windows LEDGER [--strict] | faults FILE | certify FILE | margins FILE | when FILE | warnings FILE | chain FILE NAME... | impact OLD NEW [NAME...] [--csv] | repeats FILE TICKS\n";
 
 fn uncertified_text(alloc: Global, level: u8, needs: u64, window: u32) -> Result<String, AllocError>
     ensures { IfOk result (λ s. string_bytes s ≡ refusal_text (Refusal.Uncertified level needs window)) }

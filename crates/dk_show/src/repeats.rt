@@ -46,7 +46,6 @@ pub(crate) fn repeats_plan<D: Depot>(
     ensures whole { IfOk result IsWhole }
     ensures asks { Asks (D.seen depot.old).files (λ at. handed_load at file.now) (λ at. loaded at file.now ≡ Err Refusal.Depot)
         (D.seen depot.old) (D.seen depot.new) result }
-    ensures late { IfErr result (λ e. e ≢ Refusal.Usage) }
     ensures reads { Reads (D.seen depot.old) (D.seen depot.new) result }
 {
     let certified = loaded_at(alloc, file, depot)?;

@@ -1,13 +1,15 @@
 //! The top call.
-ghost use Rattle.std.specs.Prelude.{ℕ, List, ◌≡◌, ◌≢◌, ◌⊎◌, ◌^◌, ◌<◌, ◌≤◌, IfSome, map, string_bytes, true, ◌+◌};
+ghost use Rattle.std.specs.Prelude.{ℕ, List, ◌≡◌, ◌≢◌, ◌⊎◌, ◌^◌, ◌<◌, ◌≤◌, IfSome, map, string_bytes, true, ◌+◌, ◌++◌, IfOk, Some};
 ghost use Rattle.dk_outside.specs.Counts.{Rises};
 ghost use Rattle.dk_ledger.specs.Heading.{IsPrintable};
 ghost use Rattle.dk_window_report.specs.Report.{kept_text};
 ghost use Rattle.dk_show.specs.Answers.{IsAnswer, IsEnd, IsFault, IsFaulty, is_silent, refusal_status};
-ghost use Rattle.dk_show.specs.Asking.{WordsMiss, handed_for_words};
+ghost use Rattle.dk_show.specs.Asking.{Misses, WordsMiss, handed_for, handed_for_words};
 ghost use Rattle.dk_show.specs.Leaves.{Leaves};
-ghost use Rattle.dk_show.specs.Meaning.{DrawsNothing, IsSought, MeansNothing, meaning};
-ghost use Rattle.dk_show.specs.Output.{IsOutput, Says, StandsInOutput};
+ghost use Rattle.dk_show_request.specs.Meaning.{DrawsNothing, HasFewNames, IsSought, MeansNothing, meaning};
+ghost use Rattle.dk_show_request.specs.Reasons.{wrong_text};
+ghost use Rattle.dk_show_request.specs.Usage.{usage_text};
+ghost use Rattle.dk_show.specs.Output.{IsOfRequest, IsOutput, IsUsage, Says, StandsInOutput};
 ghost use Rattle.dk_show.specs.Works.{HasText, IsRangeReady, IsReady, IsWhole, ended_of};
 
 use crate::plans::plan;
@@ -16,8 +18,9 @@ use crate::{Refusal, Status};
 use dk_config_report::Page;
 use dk_groups::WriteFault;
 use dk_outside::{Depot, Sink, write_all_to};
+use dk_show_request::{Request, meaning, usage, wrong_words};
 use dk_window_report::WindowReport;
-use std::alloc::Global;
+use std::alloc::{AllocError, Global};
 
 /// Writes a line.
 fn write_line<S: Sink>(line: &str, ended: Status, sink: &mut S) -> Status
@@ -39,7 +42,7 @@ fn say<S: Sink>(alloc: Global, sink: &mut S, refusal: &Refusal) -> Status
     ensures only { (result ≡ refusal_status refusal.now) ⊎ IsFault result }
     ensures depot { result ≡ Status.DepotFault → refusal.now ≡ Refusal.Depot }
     ensures read { refusal.now ≡ Refusal.Depot → result ≡ Status.DepotFault }
-    ensures usage { result ≡ Status.Usage → refusal.now ≡ Refusal.Usage }
+    ensures usage { result ≢ Status.Usage }
     ensures untouched { result ≡ Status.NoMemory → sink.new ≡ sink.old }
 {
     match refusal {
@@ -109,6 +112,61 @@ fn put<S: Sink>(alloc: Global, work: &Work, sink: &mut S) -> Status
     }
 }
 
+/// The usage line, and behind it why the words mean nothing.
+fn usage_of(alloc: Global, words: &[String]) -> Result<String, AllocError>
+    ensures { IfOk result (λ s. string_bytes s ≡ usage_text ++ wrong_text (map string_bytes words.now)) }
+{
+    let mut text = String::from_str(alloc, usage())?;
+    let why = wrong_words(alloc, words)?;
+    text.push_str(why.as_str())?;
+    Ok(text)
+}
+
+/// Writes the usage line, and why the words mean nothing.
+fn say_usage<S: Sink>(alloc: Global, words: &[String], sink: &mut S) -> Status
+    ensures left { Leaves S.seen (IsUsage (map string_bytes words.now)) sink.old sink.new result }
+    ensures only { (result ≡ Status.Usage) ⊎ IsFault result }
+    ensures depot { result ≢ Status.DepotFault }
+    ensures untouched { result ≡ Status.NoMemory → sink.new ≡ sink.old }
+{
+    match usage_of(alloc, words) {
+        Ok(text) => write_line(text.as_str(), Status::Usage, sink),
+        Err(_) => Status::NoMemory,
+    }
+}
+
+/// Does what is asked for.
+fn perform<D: Depot, S: Sink>(
+    alloc: Global,
+    request: &Request,
+    depot: &mut D,
+    sink: &mut S,
+) -> Status
+    requires given { (D.seen depot.old).given < 2 ^ 62 }
+    requires few { HasFewNames request.now }
+    ensures output { Leaves S.seen (λ text s. IfSome (D.seen depot.old).files (λ at. IsOfRequest request.now at text s))
+        sink.old sink.new result }
+    ensures complete { IfSome (D.seen depot.old).files (λ at. (text : List ℕ) → ¬ IsSought (Some request.now)
+        → IsOfRequest request.now at text Status.Done → (result ≡ Status.Done) ⊎ IsFaulty result) }
+    ensures untouched { DrawsNothing request.now → result ≡ Status.NoMemory → sink.new ≡ sink.old }
+    ensures usage { result ≢ Status.Usage }
+    ensures depot_fault { result ≡ Status.DepotFault → Rises (D.seen depot.old).faults (D.seen depot.new).faults }
+    ensures sink_fault { result ≡ Status.SinkFault → Rises (S.seen sink.old).faults (S.seen sink.new).faults }
+    ensures no_read_failed { result ≢ Status.DepotFault → (D.seen depot.new).faults ≡ (D.seen depot.old).faults }
+    ensures no_write_failed { result ≢ Status.SinkFault → (S.seen sink.new).faults ≡ (S.seen sink.old).faults }
+    ensures faults { (D.seen depot.old).faults ≤ (D.seen depot.new).faults }
+    ensures given { IfSome (D.seen depot.old).files (λ at. result ≢ Status.DepotFault → result ≢ Status.NoMemory
+        → (D.seen depot.new).given ≡ (D.seen depot.old).given + handed_for request.now at) }
+    ensures strays { IfSome (D.seen depot.old).files (λ at. ¬ Misses request.now at
+        → (D.seen depot.new).strays ≡ (D.seen depot.old).strays) }
+    ensures same { (D.seen depot.new).files ≡ (D.seen depot.old).files }
+{
+    match plan(alloc, request, depot) {
+        Ok(work) => put(alloc, &work, sink),
+        Err(refusal) => say(alloc, sink, &refusal),
+    }
+}
+
 /// Does what the words say. The first word is the program's name and isn't looked at.
 pub fn deosk_show<D: Depot, S: Sink>(
     alloc: Global,
@@ -146,8 +204,9 @@ pub fn deosk_show<D: Depot, S: Sink>(
         → (D.seen depot.new).strays ≡ (D.seen depot.old).strays) }
     ensures same { (D.seen depot.new).files ≡ (D.seen depot.old).files }
 {
-    match plan(alloc, words, depot) {
-        Ok(work) => put(alloc, &work, sink),
-        Err(refusal) => say(alloc, sink, &refusal),
+    match meaning(alloc, words) {
+        Ok(Some(request)) => perform(alloc, &request, depot, sink),
+        Ok(None) => say_usage(alloc, words, sink),
+        Err(_) => Status::NoMemory,
     }
 }

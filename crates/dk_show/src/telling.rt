@@ -8,7 +8,6 @@ ghost use Rattle.dk_show.specs.Leaves.{Reads};
 ghost use Rattle.dk_show.specs.Output.{IsOfDocument, IsOfNamed, IsToldOf, certified_end};
 ghost use Rattle.dk_show.specs.Works.{IsMade, IsWhole, Plans};
 
-use crate::commands::Telling;
 use crate::files::file_at;
 use crate::work::Work;
 use crate::{Refusal, Status};
@@ -18,6 +17,7 @@ use dk_config::{Config, MAX_CONFIG_BYTES};
 use dk_config_report::{margins, when};
 use dk_loader::{LoadFault, read_config};
 use dk_outside::Depot;
+use dk_show_request::Telling;
 use dk_warning_report::warnings;
 use std::alloc::Global;
 
@@ -130,7 +130,6 @@ pub(crate) fn telling_plan<D: Depot>(
     ensures whole { IfOk result IsWhole }
     ensures asks { Asks (D.seen depot.old).files (λ at. handed_out MAX_CONFIG_BYTES (at file.now)) (λ at. at file.now ≡ None)
         (D.seen depot.old) (D.seen depot.new) result }
-    ensures late { IfErr result (λ e. e ≢ Refusal.Usage) }
     ensures reads { Reads (D.seen depot.old) (D.seen depot.new) result }
 {
     let bytes = file_at(alloc, depot, file, MAX_CONFIG_BYTES, Refusal::LongConfig)?;

@@ -6,11 +6,11 @@ ghost use Rattle.dk_show.specs.Works.{IsRangeReady};
 ghost use Rattle.dk_show.specs.Output.{drawn_text};
 
 use crate::Status;
-use crate::commands::Drawing;
 use dk_config_report::Page;
 use dk_csv::CsvTable;
 use dk_groups::WriteFault;
 use dk_outside::Sink;
+use dk_show_request::Drawing;
 use dk_trace_events::Trace;
 use dk_vcd::Dump;
 use dk_window_report::WindowReport;

@@ -6,7 +6,7 @@ use Rattle.dk_outside.specs.Written.{Appends}
 use Rattle.dk_show.specs.Answers.{IsAnswer, IsFault, IsFaulty}
 use Rattle.dk_show.specs.Asking.{WordsMiss, handed_for_words}
 use Rattle.dk_show.specs.Leaves.{Cuts}
-use Rattle.dk_show.specs.Meaning.{DrawsNothing, IsSought, MeansNothing, meaning}
+use Rattle.dk_show_request.specs.Meaning.{DrawsNothing, IsSought, MeansNothing, meaning}
 use Rattle.dk_show.specs.Output.{IsOutput, StandsInOutput}
 use Rattle.dk_show.specs.declared.status.Status.{Status}
 use Rattle.dk_show.specs.declared.status.Status.TheVariants as status

@@ -1,4 +1,4 @@
-use Rattle.std.proofs.Common.{◌∙◌, ◌++◌, ap, subst}
+use Rattle.std.proofs.Common.{◌∙◌, ◌++◌, ap, append_assoc, subst}
 use Rattle.std.specs.Prelude.{string_bytes, length}
 use Rattle.dk_config.specs.Configuration.{Configuration}
 use Rattle.dk_config_report.specs.Pages.{AddsLines}
@@ -15,7 +15,8 @@ returns-clause-text c =
     let faster =
     subst (λ (k : Configuration). AddsLines (IsFasterLine k c.args.first c.args.rest.now latency.reaction) (length k.processes) (string_bytes c.add_earlier.new.text) (string_bytes c.add_faster.new.text))
     same c.in_ok-add_faster.ensures.lines in
-    let part = c.in_ok-push_line.ensures ∙ ap (λ t. string_bytes c.add_steps.new.text ++ t) c.in_ok-latency_part.ensures in
+    let bound = c.in_ok-push_line.ensures ∙ ap (λ t. string_bytes c.add_steps.new.text ++ t) c.in_ok-latency_part.ensures in
+    let part = c.in_ok-push_str.ensures.bytes ∙ ap (λ t. t ++ c.args.measured.now) bound ∙ append_assoc (string_bytes c.add_steps.new.text) (latency_part latency) c.args.measured.now in
     let last = c.in_ok-push_line-2.ensures ∙ ap (λ t. string_bytes c.add_faster.new.text ++ t) c.in_ok-from_str.ensures.ok in
     record {
       latency = latency;
@@ -28,5 +29,5 @@ returns-clause-text c =
       step_lines = steps.are;
       earlier_lines = earlier.are;
       faster_lines = faster.are;
-      whole = c.new.ensures ∙ five_added steps.lines (latency_part latency) earlier.lines faster.lines _ _ _ _ _ _ _ c.new-text.ensures.bytes steps.added part earlier.added faster.added last;
+      whole = c.new.ensures ∙ five_added steps.lines (latency_part latency ++ c.args.measured.now) earlier.lines faster.lines _ _ _ _ _ _ _ c.new-text.ensures.bytes steps.added part earlier.added faster.added last;
     }

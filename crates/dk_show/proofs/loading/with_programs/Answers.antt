@@ -39,7 +39,6 @@ pub returns-in-Err : goal.returns-in-Err
 returns-in-Err g c = record {
   loads = silent_loads (g.D.Depot.seen c.args.depot.now).files _;
   certified = tt;
-  late = search rules;
   given = takes_few (λ (l : Loaded). l.programs) (length c.args.config.processes) c.load.result _ _ c.requires.limits.few_processes c.load.ensures.given;
   asks =
       asks_programs (g.D.Depot.seen c.args.depot.now).files c.args.config (g.D.Depot.seen c.args.depot.now) (g.D.Depot.seen c.load.new.depot)

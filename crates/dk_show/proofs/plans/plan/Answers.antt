@@ -1,22 +1,54 @@
-use Rattle.std.proofs.Common.{◌∙◌, subst, sym}
-use Rattle.std.specs.Prelude.{Option, IfOk, IfSome}
-use Rattle.dk_show.specs.declared.request.Request.{Request}
-use Rattle.dk_show.specs.Output.{IsOfRequest}
-use Rattle.dk_show.specs.Works.{IsWhole, Plans}
-use Rattle.dk_show.proofs.FewNames.{meant_few}
-use Rattle.dk_show.specs.Meaning.{DrawsNothing, HasFewNames}
+use Rattle.std.proofs.Common.{ℕ, List, sym, subst}
+use Rattle.std.specs.Prelude.{IfSome}
+use Rattle.dk_config.specs.declared.TheConstants.{MAX_CONFIG_BYTES, MAX_LEDGER_BYTES}
+use Rattle.dk_show.specs.declared.refusal.Refusal.TheVariants as why
+use Rattle.dk_show_request.specs.declared.request.Request.{Request}
+use Rattle.dk_show.specs.Output.{IsAllWrong, IsOfDocument, IsOfNamed, IsOfPicture, IsOfRequest, IsOfWindows}
+use Rattle.dk_show.specs.Loading.{IsOfLoaded}
+use Rattle.dk_show.specs.Repeats.{IsOfRepeats}
+use Rattle.dk_show.specs.Works.{Plans}
 use Rattle.dk_show.proofs.plans.plan.Goals as goal
 
-pub of_request-requires-clause-few : goal.of_request-requires-clause-few
-of_request-requires-clause-few g c =
-    subst (λ (meant : Option Request). IfSome meant HasFewNames) (sym (sym c.in-Some.is ∙ c.in_ok-request.ensures)) (meant_few _)
+pub returns-in-Picture-clause-plans : goal.returns-in-Picture-clause-plans
+returns-in-Picture-clause-plans g c =
+    let files = (g.D.Depot.seen c.args.depot.now).files in
+    let result = c.picture_plan.result in
+    let range = c.in-Picture.range in
+    let named = subst (λ (name : List ℕ). IfSome files (λ at. Plans (IsOfNamed at name MAX_LEDGER_BYTES why.LongLedger (IsOfPicture range)) result)) c.as_str.ensures c.picture_plan.ensures.plans in
+    subst (λ (r : Request). IfSome files (λ at. Plans (IsOfRequest r at) result)) (sym c.in-Picture.is) named
 
-pub returns-in-Some-clause-plans : goal.returns-in-Some-clause-plans
-returns-in-Some-clause-plans g c =
-    subst (λ (meant : Option Request). IfSome (g.D.Depot.seen c.args.depot.now).files (λ at. Plans (IsOfRequest meant at) c.of_request.result))
-    (sym c.in-Some.is ∙ c.in_ok-request.ensures) c.of_request.ensures.plans
+pub returns-in-Windows-clause-plans : goal.returns-in-Windows-clause-plans
+returns-in-Windows-clause-plans g c =
+    let files = (g.D.Depot.seen c.args.depot.now).files in
+    let result = c.windows_plan.result in
+    let strict = c.in-Windows.strict in
+    let named = subst (λ (name : List ℕ). IfSome files (λ at. Plans (IsOfNamed at name MAX_LEDGER_BYTES why.LongLedger (IsOfWindows strict)) result)) c.as_str-in-Windows.ensures c.windows_plan.ensures.plans in
+    subst (λ (r : Request). IfSome files (λ at. Plans (IsOfRequest r at) result)) (sym c.in-Windows.is) named
 
-pub returns-in-Some-clause-whole : goal.returns-in-Some-clause-whole
-returns-in-Some-clause-whole g c =
-    subst (λ (meant : Option Request). IfSome meant DrawsNothing → IfOk c.of_request.result IsWhole)
-    (sym c.in-Some.is ∙ c.in_ok-request.ensures) c.of_request.ensures.whole
+pub returns-in-Chain-clause-plans : goal.returns-in-Chain-clause-plans
+returns-in-Chain-clause-plans g c =
+    let files = (g.D.Depot.seen c.args.depot.now).files in
+    subst (λ (r : Request). IfSome files (λ at. Plans (IsOfRequest r at) c.chain_plan.result)) (sym c.in-Chain.is) c.chain_plan.ensures.plans
+
+pub returns-in-Repeats-clause-plans : goal.returns-in-Repeats-clause-plans
+returns-in-Repeats-clause-plans g c =
+    let files = (g.D.Depot.seen c.args.depot.now).files in
+    let result = c.repeats_plan.result in
+    let ticks = c.in-Repeats.ticks in
+    let named = subst (λ (name : List ℕ). IfSome files (λ at. Plans (IsOfLoaded at name (IsOfRepeats ticks)) result)) c.as_str-in-Repeats.ensures c.repeats_plan.ensures.plans in
+    subst (λ (r : Request). IfSome files (λ at. Plans (IsOfRequest r at) result)) (sym c.in-Repeats.is) named
+
+pub returns-in-Faults-clause-plans : goal.returns-in-Faults-clause-plans
+returns-in-Faults-clause-plans g c =
+    let files = (g.D.Depot.seen c.args.depot.now).files in
+    let result = c.faults_plan.result in
+    let named = subst (λ (name : List ℕ). IfSome files (λ at. Plans (IsAllWrong at name) result)) c.as_str-in-Faults.ensures c.faults_plan.ensures.plans in
+    subst (λ (r : Request). IfSome files (λ at. Plans (IsOfRequest r at) result)) (sym c.in-Faults.is) named
+
+pub returns-in-Tell-clause-plans : goal.returns-in-Tell-clause-plans
+returns-in-Tell-clause-plans g c =
+    let files = (g.D.Depot.seen c.args.depot.now).files in
+    let result = c.telling_plan.result in
+    let telling = c.in-Tell.telling in
+    let named = subst (λ (name : List ℕ). IfSome files (λ at. Plans (IsOfNamed at name MAX_CONFIG_BYTES why.LongConfig (IsOfDocument telling)) result)) c.as_str-in-Tell.ensures c.telling_plan.ensures.plans in
+    subst (λ (r : Request). IfSome files (λ at. Plans (IsOfRequest r at) result)) (sym c.in-Tell.is) named

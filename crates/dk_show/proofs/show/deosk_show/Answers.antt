@@ -1,27 +1,34 @@
-use Rattle.std.proofs.Common.{map, string_bytes}
-use Rattle.dk_show.proofs.Leaving.{leaves_said, leaves_wider, loud, refusal_stands, work_stands}
-use Rattle.dk_show.proofs.Ends.{completes}
+use Rattle.std.proofs.Common.{ℕ, ◌≡◌, ◌∙◌, ◌⊎◌, List, map, string_bytes, subst, sym}
+use Rattle.std.specs.Prelude.{IfSome, Option}
+use Rattle.dk_show_request.specs.Meaning.{IsSought}
+use Rattle.dk_show_request.specs.declared.request.Request.{Request}
+use Rattle.dk_show.specs.declared.status.Status.TheVariants as status
+use Rattle.dk_show.specs.Answers.{IsFaulty}
+use Rattle.dk_show.specs.Asking.{WordsMiss}
+use Rattle.dk_show.specs.Leaves.{Leaves}
+use Rattle.dk_show.specs.Output.{IsOfMeaning}
 use Rattle.dk_show.proofs.show.deosk_show.Goals as goal
 
-pub returns-in-Ok-clause-output : goal.returns-in-Ok-clause-output
-returns-in-Ok-clause-output g c =
-    leaves_wider g.S.Sink.seen _ _ c.args.sink.now c.put.new.sink c.put.result
-    (work_stands (g.D.Depot.seen c.args.depot.now).files (map string_bytes c.args.words.now) c.in-Ok.work c.in-Ok.ensures.plans)
-    c.put.ensures.left
+pub returns-in-Ok-Some-clause-output : goal.returns-in-Ok-Some-clause-output
+returns-in-Ok-Some-clause-output g c =
+    let meant = sym c.in-Ok-Some.field-0-is ∙ c.in-Ok-Some.ensures.is in
+    let files = (g.D.Depot.seen c.args.depot.now).files in
+    let words = map string_bytes c.args.words.now in
+    subst (λ (o : Option Request). Leaves g.S.Sink.seen (λ text s. IfSome files (λ at. IsOfMeaning words o at text s)) c.args.sink.now c.perform.new.sink c.perform.result)
+    meant c.perform.ensures.output
 
-pub returns-in-Err-clause-output : goal.returns-in-Err-clause-output
-returns-in-Err-clause-output g c =
-    leaves_said g.S.Sink.seen _ _ c.args.sink.now c.say.new.sink c.say.result
-    (λ speaks. refusal_stands (g.D.Depot.seen c.args.depot.now).files (map string_bytes c.args.words.now) c.in-Err.refusal c.in-Err.ensures.plans
-    (loud c.in-Err.refusal c.say.result c.say.ensures.silent speaks))
-    c.say.ensures.untouched c.say.ensures.left
+pub returns-in-Ok-Some-clause-complete : goal.returns-in-Ok-Some-clause-complete
+returns-in-Ok-Some-clause-complete g c =
+    let meant = sym c.in-Ok-Some.field-0-is ∙ c.in-Ok-Some.ensures.is in
+    let files = (g.D.Depot.seen c.args.depot.now).files in
+    let words = map string_bytes c.args.words.now in
+    subst (λ (o : Option Request). IfSome files (λ at. (text : List ℕ) → (IsSought o → ⊥) → IsOfMeaning words o at text status.Done
+    → (c.perform.result ≡ status.Done) ⊎ IsFaulty c.perform.result))
+    meant c.perform.ensures.complete
 
-pub returns-in-Ok-clause-complete : goal.returns-in-Ok-clause-complete
-returns-in-Ok-clause-complete g c =
-    completes (g.D.Depot.seen c.args.depot.now).files (map string_bytes c.args.words.now) c.put.result
-    (λ answer. let w = (returns-in-Ok-clause-output g c).whole answer in (w.0, w.2))
-
-pub returns-in-Err-clause-complete : goal.returns-in-Err-clause-complete
-returns-in-Err-clause-complete g c =
-    completes (g.D.Depot.seen c.args.depot.now).files (map string_bytes c.args.words.now) c.say.result
-    (λ answer. let w = (returns-in-Err-clause-output g c).whole answer in (w.0, w.2))
+pub returns-in-Ok-Some-clause-strays : goal.returns-in-Ok-Some-clause-strays
+returns-in-Ok-Some-clause-strays g c =
+    let meant = sym c.in-Ok-Some.field-0-is ∙ c.in-Ok-Some.ensures.is in
+    let files = (g.D.Depot.seen c.args.depot.now).files in
+    subst (λ (o : Option Request). IfSome files (λ at. (WordsMiss o at → ⊥) → (g.D.Depot.seen c.perform.new.depot).strays ≡ (g.D.Depot.seen c.args.depot.now).strays))
+    meant c.perform.ensures.strays
