@@ -1,15 +1,6 @@
 -- Lists with an item for each level, changed one level at a time.
-use Rattle.std.proofs.Common.{◌≡◌, ◌<◌, ◌≤◌, ◌+◌, ◌-◌, ◌∙◌, inl, inr, true, false, eqb, ltb, ℕ, suc, List, [], ◌∷◌, length, get_or, arith, refl, ap, sym}
-use Rattle.std.proofs.lemmas.Bool.{cases_Bool}
-use Rattle.std.proofs.lemmas.List.{get_or_past}
-use Rattle.std.proofs.lemmas.Bool.Decides.{nat_tests}
-use Rattle.dk_trace.specs.declared.ThreadId.{ThreadId}
-use Rattle.dk_mutex.specs.declared.row.Lockable.{Lockable}
-use Rattle.dk_mutex.specs.Rows.{left_up_to}
-use Rattle.dk_demand.specs.Levels.{by_level, at_level, less}
-use Rattle.dk_demand.proofs.Changing.{length-by_level, get_or-by_level}
+use Rattle.dk_recount.proofs.Names.{◌≡◌, ◌<◌, ◌≤◌, ◌+◌, ◌-◌, ◌∙◌, inl, inr, true, false, eqb, ltb, ℕ, suc, List, [], ◌∷◌, length, get_or, arith, refl, ap, sym, cases_Bool, get_or_past, nat_tests, ThreadId, Lockable, left_up_to, by_level, at_level, less, length-by_level, get_or-by_level, unblocked}
 pub use Rattle.dk_demand.proofs.EachLevel.{by-twice}
-use Rattle.dk_recount.specs.Stopping.{unblocked}
 
 pub by-same : (f g : ℕ → ℕ → ℕ) (ns : List ℕ) → ((j n : ℕ) → j < length ns → f j n ≡ g j n) → by_level f ns ≡ by_level g ns
 by-same f g [] same = refl

@@ -1,26 +1,5 @@
 -- Ticks that all go to one choice, through tables that are each those of one tick more.
-use Rattle.std.proofs.Common.{◌≡◌, ◌<◌, ◌≤◌, ◌+◌, ◌∙◌, ◌∷◌, ◌++◌, ℕ, zero, suc, false, List, length, Some, inl, refl, ap, sym, subst, arith}
-use Rattle.std.specs.Prelude.{replicate}
-use Rattle.dk_config.specs.declared.TheConstants.{MAX_TICKS}
-use Rattle.dk_config.specs.Configuration.{Configuration}
-use Rattle.dk_trace.specs.declared.ThreadId.{ThreadId}
-use Rattle.dk_trace.specs.declared.Choice.{Choice}
-use Rattle.dk_trace.specs.declared.Work.{Work}
-use Rattle.dk_trace.specs.declared.Entry.{Entry}
-use Rattle.dk_trace.specs.Entries.{quiet, thread_of}
-use Rattle.dk_trace.specs.Choices.{chosen}
-use Rattle.dk_trace.specs.Holds.{held_by, innermost_left}
-use Rattle.dk_trace.specs.Audit.{label_of}
-use Rattle.dk_trace.proofs.Charged.{quiet-follows}
-use Rattle.dk_windows.specs.Clock.{begins_at}
-use Rattle.dk_mutex.specs.Table.{hold_left}
-use Rattle.dk_recount.specs.Tables.{HasFamilies, IsSound, Tables}
-use Rattle.dk_recount.specs.Recount.{IsReady}
-use Rattle.dk_recount.specs.Charging.{MayCharge, charged}
-use Rattle.dk_recount.specs.Choosing.{choice_of}
-use Rattle.dk_recount.specs.Closing.{moved_on}
-use Rattle.dk_recount.specs.Questions.{TellsOf, ready as tells-ready}
-use Rattle.dk_recount.specs.Stretching.{IsPassed, Passes}
+use Rattle.dk_recount.proofs.Names.{◌≡◌, ◌<◌, ◌≤◌, ◌+◌, ◌∙◌, ◌∷◌, ◌++◌, ℕ, zero, suc, false, List, length, Some, inl, refl, ap, sym, subst, arith, replicate, MAX_TICKS, Configuration, ThreadId, Choice, Work, Entry, quiet, thread_of, chosen, held_by, innermost_left, label_of, quiet-follows, begins_at, hold_left, HasFamilies, IsSound, Tables, IsReady, MayCharge, charged, choice_of, moved_on, TellsOf, tells-ready, IsPassed, Passes}
 use Rattle.dk_recount.proofs.Stretching.{StretchLaws, passed-tick}
 
 abbrev pub HoldsAreThePasts : Type 0

@@ -1,43 +1,7 @@
 -- Tables that are the recount of a past choose as the past does.
-use Rattle.std.proofs.Common.{◌≡◌, ◌<◌, ◌∙◌, ◌&&◌, Bool, true, false, cond, eqb, ltb, ℕ, List, length, get_or, Option, Some, None, option_map, refl, ap, sym, subst, arith}
-use Rattle.std.specs.Prelude.{slice_get, find, filter, Contains, is_none, unwrap_or}
-use Rattle.std.specs.Option.{option_or}
-use Rattle.std.proofs.lemmas.Bool.{and_parts, ltb-true, eqb-true}
-use Rattle.std.proofs.lemmas.Bool.Decides.{nat_tests}
-use Rattle.dk_config.specs.Configuration.{Configuration}
-use Rattle.dk_config.specs.Sums.{below, first_of}
-use Rattle.dk_config.proofs.CheckedConfig.{user-mutex}
-use Rattle.dk_config.proofs.Counting.{length-map-numbers, at_index}
-use Rattle.dk_config.proofs.Lists.{front-found}
-use Rattle.dk_config.proofs.FirstOf.{first-same}
-use Rattle.dk_trace.specs.declared.ThreadId.{ThreadId}
-use Rattle.dk_trace.specs.declared.Phase.{Phase}
-use Rattle.dk_trace.specs.declared.Choice.{Choice}
-use Rattle.dk_trace.specs.declared.Entry.{Entry}
-use Rattle.dk_trace.specs.Members.{Has}
-use Rattle.dk_trace.specs.Threads.{Thread, threads}
-use Rattle.dk_trace.specs.Jobs.{job, thread_rem, kernel_rem}
-use Rattle.dk_trace.specs.Holds.{held_by, is_holding, effective_level}
-use Rattle.dk_trace.specs.Demand.{fits, is_tight_at}
-use Rattle.dk_trace.specs.Slack.{want, is_wishing, oldest, source as past_source}
-use Rattle.dk_trace.specs.Choices.{on_budget, on_slack, holder_at as past_holder_at, ready_at, work_at, wish_at, slack_at, choice_at, chosen, claims_slack_at, denied}
-use Rattle.dk_trace.proofs.Members.{find-has, filter-has, find-none, contains-has, has-contains}
-use Rattle.dk_trace.proofs.Holds.{holding-some}
-use Rattle.dk_threads.specs.Table.{AreFamilies}
-use Rattle.dk_threads.specs.Recount.{has_row}
-use Rattle.dk_threads.proofs.NamedRows.{HasRow, row-there}
-use Rattle.dk_mutex.specs.Recount.{HoldersFit}
-use Rattle.dk_demand.specs.Cells.{first_unfit}
-use Rattle.dk_rail.specs.Queues.{queue_at}
-use Rattle.dk_slack.specs.Wishes.{first_node, is_entering}
-use Rattle.dk_slack.specs.Unclaimed.{source}
-use Rattle.dk_slack.specs.Recount.{asking, HaveOwnNodes}
-use Rattle.dk_ready.specs.declared.seat.Seat.{Seat}
-use Rattle.dk_ready.specs.Roster.{new_job, seat_at, told_phase}
-use Rattle.dk_ready.proofs.Moving.{filter-same}
-use Rattle.dk_recount.specs.Tables.{Tables, node_in}
-use Rattle.dk_recount.specs.Recount.{IsReady, kernel_part, is_ready}
-use Rattle.dk_recount.specs.Choosing.{kernel_left, first_worker, budget_of, work_in, loan_of, slack_in, choice_in, fits_in, choice_of, claims_in, claims_slack, denial_of}
+use Rattle.dk_recount.proofs.Names.{◌≡◌, ◌<◌, ◌∙◌, ◌&&◌, Bool, true, false, cond, eqb, ltb, ℕ, List, length, get_or, Option, Some, None, option_map, refl, ap, sym, subst, arith, slice_get, find, filter, Contains, unwrap_or, option_or, and_parts, ltb-true, eqb-true, nat_tests, Configuration, below, first_of, user-mutex, length-map-numbers, at_index, front-found, first-same, ThreadId, Phase, Choice, Entry, Has, Thread, threads, job, thread_rem, kernel_rem, held_by, is_holding, fits, is_tight_at, want, is_wishing, oldest, past_source, on_budget, on_slack, past_holder_at, ready_at, work_at, wish_at, slack_at, choice_at, chosen, claims_slack_at, denied, find-has, filter-has, find-none, contains-has, has-contains, holding-some, AreFamilies, has_row, HasRow, row-there, HoldersFit, first_unfit, queue_at, first_node, is_entering, source, asking, HaveOwnNodes, Seat, new_job, seat_at, told_phase, filter-same, Tables, node_in, IsReady, kernel_part, is_ready, kernel_left, first_worker, budget_of, work_in, loan_of, slack_in, choice_in, fits_in, choice_of, claims_in, claims_slack, denial_of}
+use Rattle.std.specs.Prelude.{is_none}
+use Rattle.dk_trace.specs.Holds.{effective_level}
 use Rattle.dk_recount.specs.Needed.{ChoosingLaws as Laws}
 use Rattle.dk_recount.proofs.Stop.Present.{there-row, worker-has-row}
 use Rattle.dk_recount.proofs.Rows.{nodes-differ}

@@ -1,11 +1,5 @@
 -- Tables of a tick whose entry stands whole are those of the closed one once the clock moves on.
-use Rattle.std.proofs.Common.{ℕ, List, ◌∷◌, length, refl, subst, arith}
-use Rattle.dk_config.specs.Configuration.{Configuration}
-use Rattle.dk_trace.specs.declared.Entry.{Entry}
-use Rattle.dk_demand.specs.Recount.{IsRecount as AreCells}
-use Rattle.dk_recount.specs.Tables.{Tables}
-use Rattle.dk_recount.specs.Recount.{IsBooked, IsRecount, IsClosed, clocked}
-use Rattle.dk_recount.specs.Closing.{moved_on}
+use Rattle.dk_recount.proofs.Names.{ℕ, List, ◌∷◌, length, refl, subst, arith, Configuration, Entry, AreCells, Tables, IsBooked, IsRecount, IsClosed, clocked, moved_on}
 
 pub set-back : (c : Configuration) (n : ℕ) (after : List Entry) (d : Tables) → IsRecount c n after d → IsRecount c n after (clocked n (moved_on d))
 set-back c n after d r = record {

@@ -1,34 +1,7 @@
 -- Ticks one after the other of a thread that computes and holds nothing.
-use Rattle.std.proofs.Common.{◌≡◌, ◌<◌, ◌≤◌, ◌+◌, ◌-◌, ◌∙◌, ◌∷◌, ℕ, zero, suc, Bool, true, false, eqb, leb, List, [], length, take, get_or, Some, refl, ap, sym, subst, arith}
-use Rattle.std.specs.Prelude.{◌^◌, All, cond}
-use Rattle.std.proofs.lemmas.List.{length-map, length-set}
-use Rattle.std.proofs.lemmas.Bool.Decides.{nat_tests}
-use Rattle.dk_config.specs.declared.TheConstants.{MAX_TICKS}
-use Rattle.dk_config.specs.Configuration.{Configuration}
-use Rattle.dk_config.specs.declared.rows.LevelRow.{LevelRow}
-use Rattle.dk_config.proofs.Counting.{length-map-numbers}
-use Rattle.dk_trace.specs.declared.ThreadId.{ThreadId}
-use Rattle.dk_trace.specs.declared.Phase.{Phase}
-use Rattle.dk_trace.specs.declared.Choice.{Choice}
-use Rattle.dk_trace.specs.declared.Entry.{Entry}
-use Rattle.dk_windows.specs.Clock.{Clock, end_at, passed}
-use Rattle.dk_trace.proofs.Orders.{body-less}
-use Rattle.dk_mutex.specs.declared.row.Lockable.{Lockable}
-use Rattle.dk_mutex.specs.Table.{effective_level, hold_left}
-use Rattle.dk_demand.specs.Cells.{Cells, dropped_cells, held_cells}
-use Rattle.dk_demand.specs.Levels.{adjusted, at_level, by_level, from_level, less}
-use Rattle.dk_demand.proofs.Changing.{between-start, get_or-by_level}
-use Rattle.dk_demand.proofs.EachLevel.{by-twice}
-use Rattle.dk_slack.specs.Slack.{Slack}
-use Rattle.dk_slack.specs.Unclaimed.{counted, counted_for}
-use Rattle.dk_ready.specs.declared.seat.Seat.{Seat}
-use Rattle.dk_ready.specs.Roster.{Roster, seat_at}
-use Rattle.dk_ready.proofs.Moving.{seat-then, jobs-none, jobs-more}
-use Rattle.dk_recount.specs.Tables.{HasFamilies, IsSound, Tables, node_in}
-use Rattle.dk_recount.specs.Recount.{IsReady, IsRecount}
-use Rattle.dk_recount.specs.Charging.{HasWork, MayBudget, MayCount, charged, counts, first_in, level_in}
-use Rattle.dk_recount.specs.Closing.{moved_on}
-use Rattle.dk_recount.specs.Stretching.{Computes, EndsAfter, MayComputeFor, Passes, computed}
+use Rattle.dk_recount.proofs.Names.{◌≡◌, ◌<◌, ◌≤◌, ◌+◌, ◌-◌, ◌∙◌, ◌∷◌, ℕ, zero, suc, Bool, true, false, eqb, leb, List, [], length, take, get_or, Some, refl, ap, sym, subst, arith, All, length-map, nat_tests, MAX_TICKS, Configuration, LevelRow, length-map-numbers, ThreadId, Phase, Choice, Entry, Clock, end_at, passed, body-less, Lockable, effective_level, hold_left, Cells, dropped_cells, held_cells, adjusted, at_level, by_level, from_level, less, between-start, get_or-by_level, by-twice, Slack, counted, counted_for, Seat, Roster, seat_at, seat-then, jobs-none, jobs-more, HasFamilies, IsSound, Tables, node_in, IsReady, IsRecount, HasWork, MayBudget, MayCount, charged, counts, first_in, level_in, moved_on, Computes, EndsAfter, MayComputeFor, Passes, computed}
+use Rattle.std.specs.Prelude.{◌^◌, cond}
+use Rattle.std.proofs.lemmas.List.{length-set}
 use Rattle.dk_recount.proofs.Stretching.{StretchLaws, begins-not}
 use Rattle.dk_recount.proofs.Chains.{Chain, HoldsAreThePasts, chain-may, chain-passes}
 use Rattle.dk_recount.proofs.Cells.{by-nothing}

@@ -1,28 +1,5 @@
 -- What the kernel above needs of the calls.
-use Rattle.std.proofs.Common.{◌≡◌, ◌⊎◌, inl, inr, ◌<◌, true, ℕ, List, length, Option, Some, None, option_map, refl, ap, sym, subst}
-use Rattle.std.specs.Prelude.{IfSome}
-use Rattle.dk_config.specs.Configuration.{Configuration}
-use Rattle.dk_trace.specs.declared.ThreadId.{ThreadId}
-use Rattle.dk_trace.specs.declared.Label.{Label}
-use Rattle.dk_trace.specs.declared.Work.{Work}
-use Rattle.dk_trace.specs.declared.Entry.{Entry}
-use Rattle.dk_trace.specs.Entries.{thread_of}
-use Rattle.dk_trace.specs.Members.{Has}
-use Rattle.dk_trace.specs.Threads.{Thread, threads}
-use Rattle.dk_trace.specs.Jobs.{thread_rem}
-use Rattle.dk_trace.specs.Slack.{want}
-use Rattle.dk_trace.specs.Choices.{chosen}
-use Rattle.dk_trace.specs.Audit.{HasChosenLabel, work_of}
-use Rattle.dk_threads.specs.declared.row.ThreadRow.{ThreadRow}
-use Rattle.dk_threads.specs.Table.{Table, AreFamilies, find_row}
-use Rattle.dk_threads.specs.Recount.{has_row}
-use Rattle.dk_threads.proofs.NamedRows.{same-owner, HasRow, row-there}
-use Rattle.dk_bound.proofs.TickMoves.{threads-charged}
-use Rattle.dk_recount.specs.Tables.{Tables}
-use Rattle.dk_recount.specs.Recount.{IsReady, IsRuled}
-use Rattle.dk_recount.specs.Events.{IsCalling}
-use Rattle.dk_recount.specs.Facing.{CallerIsThere, HasOwn, slots}
-use Rattle.dk_recount.specs.Needed.{CallerLaws}
+use Rattle.dk_recount.proofs.Names.{◌≡◌, ◌⊎◌, inl, inr, ◌<◌, true, ℕ, List, length, Option, Some, None, option_map, refl, ap, sym, subst, IfSome, Configuration, ThreadId, Label, Work, Entry, thread_of, Has, Thread, threads, thread_rem, want, chosen, HasChosenLabel, work_of, ThreadRow, Table, AreFamilies, find_row, has_row, same-owner, HasRow, row-there, threads-charged, Tables, IsReady, IsRuled, IsCalling, CallerIsThere, HasOwn, slots, CallerLaws}
 use Rattle.dk_recount.proofs.Stop.Present.{there-row, worker-has-row}
 
 -- A thread that has something left, or asks for slack, has a row.

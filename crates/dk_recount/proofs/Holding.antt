@@ -1,10 +1,5 @@
 -- The holds of a thread nest, also in a tick whose event is open: the one that was locked last may last the shortest.
-use Rattle.std.proofs.Common.{ℕ, suc, List, [], ◌∷◌, arith}
-use Rattle.dk_config.specs.Configuration.{Configuration}
-use Rattle.dk_trace.specs.Holds.{Hold, hold_left as past_left}
-use Rattle.dk_bound.specs.Callers.{AreNested}
-use Rattle.dk_bound.proofs.Nesting.{nested-above}
-use Rattle.dk_mutex.specs.Recount.{LastIsLeast}
+use Rattle.dk_recount.proofs.Names.{ℕ, suc, List, [], ◌∷◌, arith, Configuration, Hold, past_left, AreNested, nested-above, LastIsLeast}
 
 pub last-least : (c : Configuration) (low : ℕ) (held : List Hold) → AreNested c low held → LastIsLeast c held
 last-least c low [] r = tt

@@ -1,26 +1,5 @@
 -- Ticks one after the other of a thread that has slack and holds nothing.
-use Rattle.std.proofs.Common.{◌≡◌, ◌<◌, ◌≤◌, ◌+◌, ◌-◌, ◌∙◌, ℕ, suc, List, length, map, Some, None, refl, ap, sym, subst, arith}
-use Rattle.std.proofs.lemmas.List.{length-map}
-use Rattle.dk_config.specs.declared.TheConstants.{MAX_TICKS}
-use Rattle.dk_config.specs.Configuration.{Configuration}
-use Rattle.dk_trace.specs.declared.ThreadId.{ThreadId}
-use Rattle.dk_trace.specs.declared.Phase.{Phase}
-use Rattle.dk_trace.specs.declared.Source.{Source}
-use Rattle.dk_trace.specs.declared.Choice.{Choice}
-use Rattle.dk_trace.specs.declared.Entry.{Entry}
-use Rattle.dk_windows.specs.Clock.{end_at}
-use Rattle.dk_mutex.specs.declared.row.Lockable.{Lockable}
-use Rattle.dk_mutex.specs.Rows.{spent as spent_row}
-use Rattle.dk_mutex.specs.Table.{hold_left}
-use Rattle.dk_slack.specs.Wishes.{Wish, lowered_for, spent as spent_wish, spent_for}
-use Rattle.dk_slack.specs.Unclaimed.{counted, counted_for}
-use Rattle.dk_slack.proofs.Lasting.{counted-more, counted-none}
-use Rattle.dk_slack.proofs.Lent.{spent-more, spent-none}
-use Rattle.dk_recount.specs.Tables.{HasFamilies, IsSound, Tables, node_in}
-use Rattle.dk_recount.specs.Recount.{IsReady}
-use Rattle.dk_recount.specs.Charging.{MaySlack, charged}
-use Rattle.dk_recount.specs.Closing.{moved_on}
-use Rattle.dk_recount.specs.Stretching.{EndsAfter, Lends, MayCountFor, Passes, lent}
+use Rattle.dk_recount.proofs.Names.{◌≡◌, ◌<◌, ◌≤◌, ◌+◌, ◌-◌, ◌∙◌, ℕ, suc, List, length, map, Some, None, refl, ap, sym, subst, arith, length-map, MAX_TICKS, Configuration, ThreadId, Phase, Source, Choice, Entry, end_at, Lockable, spent_row, hold_left, Wish, lowered_for, spent_wish, spent_for, counted, counted_for, counted-more, counted-none, spent-more, spent-none, HasFamilies, IsSound, Tables, node_in, IsReady, MaySlack, charged, moved_on, EndsAfter, Lends, MayCountFor, Passes, lent}
 use Rattle.dk_recount.proofs.Stretching.{StretchLaws, all-more, begins-not}
 use Rattle.dk_recount.proofs.Chains.{Chain, HoldsAreThePasts, chain-may, chain-passes}
 

@@ -1,17 +1,5 @@
 -- The first wish of a level is that of the thread that has asked for longest.
-use Rattle.std.proofs.Common.{◌≡◌, ◌<◌, ◌⊎◌, inl, inr, true, false, leb, ℕ, List, [], ◌∷◌, map, Option, Some, None, option_map, refl, ap, sym, subst, arith}
-use Rattle.std.specs.Prelude.{slice_get, Contains, ◌↔◌}
-use Rattle.std.proofs.lemmas.Bool.{cases_Bool}
-use Rattle.std.proofs.lemmas.Bool.Decides.{nat_tests}
-use Rattle.dk_config.specs.Configuration.{Configuration}
-use Rattle.dk_trace.specs.declared.ThreadId.{ThreadId}
-use Rattle.dk_trace.specs.declared.Entry.{Entry}
-use Rattle.dk_trace.specs.Members.{Has}
-use Rattle.dk_trace.specs.Threads.{Thread}
-use Rattle.dk_trace.specs.Slack.{request, older, oldest}
-use Rattle.dk_trace.proofs.Members.{contains-has, has-contains}
-use Rattle.dk_slack.specs.Wishes.{Wish}
-use Rattle.dk_slack.specs.Recount.{AreCounted, AreOldestFirst, asking, counted_wish}
+use Rattle.dk_recount.proofs.Names.{◌≡◌, ◌<◌, ◌⊎◌, inl, inr, true, false, leb, ℕ, List, [], ◌∷◌, map, Option, Some, None, option_map, refl, ap, sym, subst, arith, slice_get, Contains, ◌↔◌, cases_Bool, nat_tests, Configuration, ThreadId, Entry, Has, Thread, request, older, oldest, contains-has, has-contains, Wish, AreCounted, AreOldestFirst, asking, counted_wish}
 
 module _ (c : Configuration) (now : ℕ) (past : List Entry) where
   age : Thread → ℕ

@@ -1,25 +1,6 @@
 -- What the tables tell of their rows and holds.
-use Rattle.std.proofs.Common.{◌≡◌, ◌∙◌, true, ℕ, List, ◌∷◌, ap, sym}
-use Rattle.dk_config.specs.Configuration.{Configuration}
-use Rattle.dk_trace.specs.declared.ThreadId.{ThreadId}
-use Rattle.dk_trace.specs.declared.Entry.{Entry}
-use Rattle.dk_trace.specs.Members.{Has}
-use Rattle.dk_trace.specs.Threads.{Thread, threads}
-use Rattle.dk_trace.specs.Jobs.{job, body_left, thread_body_left}
-use Rattle.dk_trace.specs.Holds.{held_by, innermost_left}
-use Rattle.dk_bound.specs.Laws.{Always}
-use Rattle.dk_bound.specs.Callers.{HoldsNest}
-use Rattle.dk_bound.proofs.Nesting.{nested-quiet}
-use Rattle.dk_threads.specs.Recount.{has_row}
-use Rattle.dk_mutex.specs.declared.row.Lockable.{Lockable}
-use Rattle.dk_mutex.specs.Table.{hold_left, innermost}
-use Rattle.dk_mutex.specs.Recount.{LastIsLeast, last_locked}
-use Rattle.dk_mutex.specs.Recount.{IsRecount as AreHolders}
-use Rattle.dk_ready.specs.declared.seat.Seat.{Seat}
-use Rattle.dk_recount.specs.Tables.{Tables}
-use Rattle.dk_recount.specs.Recount.{IsRecount}
-use Rattle.dk_recount.specs.Events.{body_in}
-use Rattle.dk_recount.specs.Questions.{TellsOf, ready, charged, booked}
+use Rattle.dk_recount.proofs.Names.{◌≡◌, ◌∙◌, true, ℕ, List, ◌∷◌, ap, sym, Configuration, ThreadId, Entry, Has, Thread, threads, job, body_left, thread_body_left, held_by, innermost_left, Always, HoldsNest, nested-quiet, has_row, Lockable, hold_left, innermost, LastIsLeast, last_locked, AreHolders, Seat, Tables, IsRecount, body_in, TellsOf, ready, booked}
+use Rattle.dk_recount.specs.Questions.{charged}
 use Rattle.dk_recount.proofs.Holding.{last-least}
 
 -- Rows.

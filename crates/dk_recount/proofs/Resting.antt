@@ -1,20 +1,5 @@
 -- Ticks one after the other of nobody.
-use Rattle.std.proofs.Common.{◌≡◌, ◌<◌, ◌≤◌, ◌+◌, ◌∙◌, ◌∷◌, ℕ, zero, suc, List, [], length, map, Some, None, inl, refl, ap, sym, subst, arith}
-use Rattle.std.proofs.lemmas.List.{length-map}
-use Rattle.dk_config.specs.declared.TheConstants.{MAX_TICKS}
-use Rattle.dk_config.specs.Configuration.{Configuration}
-use Rattle.dk_trace.specs.declared.ThreadId.{ThreadId}
-use Rattle.dk_trace.specs.declared.Choice.{Choice}
-use Rattle.dk_trace.specs.declared.Work.{Work}
-use Rattle.dk_trace.specs.declared.Label.{Label}
-use Rattle.dk_trace.specs.declared.Entry.{Entry}
-use Rattle.dk_trace.specs.Choices.{chosen}
-use Rattle.dk_trace.specs.Audit.{label_of}
-use Rattle.dk_windows.specs.Clock.{end_at}
-use Rattle.dk_recount.specs.Tables.{HasFamilies, IsSound, Tables}
-use Rattle.dk_recount.specs.Recount.{IsReady}
-use Rattle.dk_recount.specs.Charging.{MayCharge, MayCount}
-use Rattle.dk_recount.specs.Stretching.{EndsAfter, MayCountFor, Passes, Rests, rested}
+use Rattle.dk_recount.proofs.Names.{◌≡◌, ◌<◌, ◌≤◌, ◌+◌, ◌∙◌, ◌∷◌, ℕ, zero, suc, List, [], length, map, Some, None, inl, refl, ap, sym, subst, arith, length-map, MAX_TICKS, Configuration, ThreadId, Choice, Work, Label, Entry, chosen, label_of, end_at, HasFamilies, IsSound, Tables, IsReady, MayCharge, MayCount, EndsAfter, MayCountFor, Passes, Rests, rested}
 use Rattle.dk_recount.proofs.Stretching.{StretchLaws, all-more, begins-not, nobody-chosen}
 use Rattle.dk_recount.proofs.Chains.{Chain, HoldsAreThePasts, chain-may, chain-passes}
 

@@ -1,13 +1,5 @@
 -- The row, the slot and the node of a thread.
-use Rattle.std.proofs.Common.{◌≡◌, ◌+◌, ◌*◌, ◌∙◌, ap, sym, subst, arith}
-use Rattle.std.specs.Option.{option_map_or}
-use Rattle.dk_config.specs.declared.TheConstants.{MAX_THREADS}
-use Rattle.dk_trace.specs.declared.ThreadId.{ThreadId}
-use Rattle.dk_trace.specs.Members.{Has}
-use Rattle.dk_threads.specs.declared.row.ThreadRow.{ThreadRow}
-use Rattle.dk_threads.specs.Table.{Table, rows_of, AreFamilies}
-use Rattle.dk_threads.proofs.NamedRows.{slots-differ, row-slot, HasRow}
-use Rattle.dk_recount.specs.Tables.{slot_in, node_in}
+use Rattle.dk_recount.proofs.Names.{◌≡◌, ◌+◌, ◌*◌, ◌∙◌, ap, sym, subst, arith, option_map_or, MAX_THREADS, ThreadId, Has, ThreadRow, Table, rows_of, AreFamilies, slots-differ, row-slot, HasRow, slot_in, node_in}
 
 pub slot-is : (table : Table) (x : ThreadId) (h : HasRow table x) → slot_in table x ≡ h.row.slot
 slot-is table x h = ap (λ o. option_map_or (λ (row : ThreadRow). row.slot) o 0) h.found

@@ -1,17 +1,5 @@
 -- A thread that has a row in two tables keeps its node from one to the other.
-use Rattle.std.proofs.Common.{◌≡◌, ◌+◌, ◌*◌, ◌∙◌, true, ℕ, Option, Some, None, option_map, refl, ap, sym, subst}
-use Rattle.dk_config.specs.declared.TheConstants.{MAX_THREADS}
-use Rattle.dk_trace.specs.declared.ThreadId.{ThreadId}
-use Rattle.dk_trace.specs.Entries.{is_same}
-use Rattle.dk_trace.proofs.Same.{same-id}
-use Rattle.dk_trace.proofs.Members.{find-has, find-some}
-use Rattle.dk_threads.specs.declared.row.ThreadRow.{ThreadRow}
-use Rattle.dk_threads.specs.Rows.{is_row_of}
-use Rattle.dk_threads.specs.Table.{Table, rows_of, find_row, AreFamilies}
-use Rattle.dk_threads.proofs.Descent.{Descend}
-use Rattle.dk_threads.proofs.NamedRows.{one-row, HasRow}
-use Rattle.dk_recount.specs.Tables.{Tables, node_in}
-use Rattle.dk_recount.specs.Facing.{Keeps, slots}
+use Rattle.dk_recount.proofs.Names.{◌≡◌, ◌+◌, ◌*◌, ◌∙◌, true, ℕ, Option, Some, None, option_map, refl, ap, sym, subst, MAX_THREADS, ThreadId, is_same, same-id, find-has, find-some, ThreadRow, is_row_of, Table, rows_of, find_row, AreFamilies, Descend, one-row, HasRow, Tables, node_in, Keeps, slots}
 use Rattle.dk_recount.proofs.Rows.{slot-is}
 
 pub node-kept : (table table' : Table) (x : ThreadId) → AreFamilies table.levels table.families → Descend table table' x.process

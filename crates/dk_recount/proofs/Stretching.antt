@@ -1,31 +1,7 @@
 -- Ticks one after the other that all go to one choice.
-use Rattle.std.proofs.Common.{◌≡◌, ◌<◌, ◌≤◌, ◌+◌, ◌-◌, ◌%◌, ◌^◌, ◌∙◌, ◌∷◌, ℕ, zero, suc, true, false, List, [], length, map, All, Option, None, inl, inr, ap, sym, subst, arith}
-use Rattle.std.specs.Prelude.{if◌then◌else◌, ◌==◌, option_map, unwrap_or}
-use Rattle.std.specs.Option.{option_or}
-use Rattle.std.proofs.lemmas.Bool.{cases_Bool}
-use Rattle.std.proofs.lemmas.Bool.Decides.{nat_tests}
-use Rattle.std.proofs.Math.Nat.{mod-add-mod, mod-eq_of_lt, mod-le, mod-lt}
-use Rattle.dk_config.specs.declared.TheConstants.{MAX_TICKS}
-use Rattle.dk_config.specs.Configuration.{Configuration}
-use Rattle.dk_config.proofs.FirstOf.{first-none}
-use Rattle.dk_trace.specs.declared.Choice.{Choice}
-use Rattle.dk_trace.specs.declared.Work.{Work}
-use Rattle.dk_trace.specs.declared.Label.{Label}
-use Rattle.dk_trace.specs.declared.Event.{Event}
-use Rattle.dk_trace.specs.declared.Entry.{Entry}
-use Rattle.dk_trace.specs.Entries.{quiet}
-use Rattle.dk_trace.specs.Choices.{chosen}
-use Rattle.dk_trace.specs.Audit.{Audited, HasChosenLabel, label_of}
-use Rattle.dk_windows.specs.Clock.{Clock, begins_at, end_at, passed, period_at}
-use Rattle.dk_slack.specs.Wishes.{first_node}
-use Rattle.dk_recount.specs.Tables.{HasFamilies, IsSound, Tables}
-use Rattle.dk_recount.specs.Recount.{IsBooked, IsCharged, IsClosed, IsReady}
-use Rattle.dk_recount.specs.Charging.{MayCharge, charged}
-use Rattle.dk_recount.specs.Choosing.{HasNoWish, HasNoWork, choice_in, choice_of, fits_in, loan_of, slack_in, work_in}
-use Rattle.dk_recount.specs.Closing.{moved_on}
-use Rattle.dk_recount.specs.Events.{IsUntold, entry_of}
-use Rattle.dk_recount.specs.Opening.{begun, due, opened}
-use Rattle.dk_recount.specs.Premises.{WhereClosed, WhereReady}
+use Rattle.dk_recount.proofs.Names.{◌≡◌, ◌<◌, ◌≤◌, ◌+◌, ◌-◌, ◌%◌, ◌^◌, ◌∙◌, ◌∷◌, ℕ, zero, suc, true, false, List, [], length, map, Option, None, inl, inr, ap, sym, subst, arith, if◌then◌else◌, ◌==◌, unwrap_or, option_or, cases_Bool, nat_tests, mod-add-mod, mod-eq_of_lt, mod-le, mod-lt, MAX_TICKS, Configuration, first-none, Choice, Work, Label, Event, Entry, quiet, chosen, Audited, HasChosenLabel, label_of, Clock, begins_at, end_at, passed, period_at, first_node, HasFamilies, IsSound, Tables, IsBooked, IsCharged, IsClosed, IsReady, MayCharge, charged, HasNoWish, HasNoWork, choice_in, choice_of, fits_in, loan_of, slack_in, work_in, moved_on, IsUntold, entry_of, begun, due, opened, WhereClosed, WhereReady}
+use Rattle.std.proofs.Common.{All}
+use Rattle.std.specs.Prelude.{option_map}
 use Rattle.dk_recount.proofs.Closing.{booked-closed}
 
 -- the laws of one tick

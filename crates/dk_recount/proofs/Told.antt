@@ -1,28 +1,6 @@
 -- What the tables tell of their jobs, ready queues, holders and wishes.
-use Rattle.std.proofs.Common.{◌≡◌, ◌≢◌, ◌<◌, ◌∙◌, inl, inr, ◌&&◌, true, eqb, ltb, ℕ, zero, suc, List, [], ◌∷◌, length, map, Some, option_map, refl, ap, sym, arith}
-use Rattle.std.specs.Prelude.{slice_get, filter, Contains}
-use Rattle.std.proofs.lemmas.Bool.{and_parts, eq-eqb}
-use Rattle.std.proofs.lemmas.Bool.Decides.{nat_tests}
-use Rattle.dk_config.specs.Configuration.{Configuration}
-use Rattle.dk_trace.specs.declared.ThreadId.{ThreadId}
-use Rattle.dk_trace.specs.declared.Entry.{Entry}
-use Rattle.dk_trace.specs.Members.{Has}
-use Rattle.dk_trace.specs.Threads.{Thread, threads}
-use Rattle.dk_trace.specs.Jobs.{job, rem, thread_rem}
-use Rattle.dk_trace.specs.Slack.{want as past_want, is_entering as is_past_entering}
-use Rattle.dk_trace.specs.Choices.{holder_at as past_holder_at}
-use Rattle.dk_trace.proofs.Members.{filter-has, has-contains, has-filter}
-use Rattle.dk_threads.specs.Recount.{has_row}
-use Rattle.dk_mutex.specs.Table.{holder_at}
-use Rattle.dk_slack.specs.Slack.{Slack}
-use Rattle.dk_slack.specs.Wishes.{want, is_entering}
-use Rattle.dk_slack.specs.Recount.{asking, HaveOwnNodes}
-use Rattle.dk_slack.specs.Recount.{IsRecount as AreWishes}
-use Rattle.dk_ready.specs.declared.seat.Seat.{Seat}
-use Rattle.dk_ready.specs.Roster.{seat_at, told_phase}
-use Rattle.dk_recount.specs.Tables.{Tables, HasFamilies, node_in}
-use Rattle.dk_recount.specs.Recount.{IsReady, IsRecount, is_ready}
-use Rattle.dk_recount.specs.Questions.{phase_in, ready_in, ready_thread, rem_in}
+use Rattle.dk_recount.proofs.Names.{◌≡◌, ◌≢◌, ◌<◌, ◌∙◌, inl, inr, ◌&&◌, true, eqb, ltb, ℕ, zero, suc, List, [], ◌∷◌, length, map, Some, option_map, refl, ap, sym, arith, slice_get, filter, Contains, and_parts, eq-eqb, nat_tests, Configuration, ThreadId, Entry, Has, Thread, threads, job, rem, thread_rem, past_want, is_past_entering, past_holder_at, filter-has, has-contains, has-filter, has_row, holder_at, Slack, is_entering, asking, HaveOwnNodes, AreWishes, Seat, seat_at, told_phase, Tables, HasFamilies, node_in, IsReady, IsRecount, is_ready, phase_in, ready_in, ready_thread, rem_in}
+use Rattle.dk_slack.specs.Wishes.{want}
 use Rattle.dk_recount.specs.Needed.{ChoosingLaws as Laws}
 use Rattle.dk_recount.proofs.Rows.{nodes-differ}
 use Rattle.dk_recount.proofs.Choosing.{holders-fit, worker-there, asker-there, row-of, asker, own-nodes}

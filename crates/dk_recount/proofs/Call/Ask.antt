@@ -1,42 +1,8 @@
 -- A call for slack of the tables is one of the past.
-use Rattle.std.proofs.Common.{◌≡◌, ◌<◌, ◌*◌, ◌∙◌, ◌||◌, ◌&&◌, inl, inr, true, false, eqb, ltb, ℕ, List, [], ◌∷◌, length, Option, Some, None, option_map, refl, ap, sym, subst, arith, length-set}
-use Rattle.std.specs.Prelude.{slice_get, filter, Contains, not}
-use Rattle.std.specs.Option.{option_map_or}
-use Rattle.std.proofs.lemmas.Bool.{cases_Bool, and_parts, ltb-true}
-use Rattle.std.proofs.lemmas.Bool.Decides.{nat_tests}
-use Rattle.std.proofs.lemmas.List.{length-map}
-use Rattle.std.proofs.lemmas.Option.{slice_get-map}
-use Rattle.dk_config.specs.declared.TheConstants.{MAX_SPAN}
-use Rattle.dk_config.specs.Configuration.{Configuration}
-use Rattle.dk_config.specs.declared.rows.ProcessRow.{ProcessRow}
-use Rattle.dk_config.specs.Windows.{may_ask}
-use Rattle.dk_trace.specs.declared.ThreadId.{ThreadId}
-use Rattle.dk_trace.specs.declared.Label.{Label}
-use Rattle.dk_trace.specs.declared.Event.{Event}
-use Rattle.dk_trace.specs.declared.Refusal.{Refusal}
-use Rattle.dk_trace.specs.declared.Entry.{Entry}
-use Rattle.dk_trace.specs.Members.{Has}
-use Rattle.dk_trace.specs.Entries.{is_same, is_of}
-use Rattle.dk_trace.specs.Threads.{Thread, threads}
-use Rattle.dk_trace.specs.Slack.{want}
-use Rattle.dk_trace.specs.Refusals.{first_refusal}
-use Rattle.dk_trace.proofs.Same.{same-id}
-use Rattle.dk_trace.proofs.Members.{filter-has, contains-has, has-contains}
-use Rattle.dk_trace.proofs.Events.{none-of-two}
-use Rattle.dk_trace.proofs.Requests.{quiet-want}
-use Rattle.dk_threads.specs.Table.{AreFamilies}
-use Rattle.dk_threads.specs.Recount.{has_row}
-use Rattle.dk_slack.specs.Wishes.{Wish, wishes_at, is_of as is_wish_of, asked as asked_wish, dropped}
-use Rattle.dk_slack.specs.Recount.{AreCounted, HaveOwnNodes, asking}
-use Rattle.dk_slack.specs.Laws.{AskingAddsWish}
-use Rattle.dk_recount.specs.Tables.{Tables, IsSound, node_in}
-use Rattle.dk_recount.specs.Recount.{IsBooked}
-use Rattle.dk_recount.specs.Charging.{level_in}
-use Rattle.dk_recount.specs.Events.{IsCalling, CallIsRight, MayAsk, asked, has_right, refusal_of, slack_refusal_in, with_event}
+use Rattle.dk_recount.proofs.Names.{◌≡◌, ◌<◌, ◌*◌, ◌∙◌, ◌||◌, ◌&&◌, inl, inr, true, false, eqb, ltb, ℕ, List, [], ◌∷◌, length, Option, Some, None, option_map, refl, ap, sym, subst, arith, length-set, slice_get, filter, Contains, not, option_map_or, cases_Bool, and_parts, ltb-true, nat_tests, length-map, slice_get-map, MAX_SPAN, Configuration, ProcessRow, may_ask, ThreadId, Label, Event, Refusal, Entry, Has, is_same, is_of, Thread, threads, want, first_refusal, same-id, filter-has, contains-has, has-contains, none-of-two, quiet-want, AreFamilies, has_row, Wish, wishes_at, is_wish_of, asked_wish, dropped, AreCounted, HaveOwnNodes, asking, AskingAddsWish, Tables, IsSound, node_in, IsBooked, level_in, IsCalling, CallIsRight, MayAsk, asked, has_right, refusal_of, slack_refusal_in, with_event, CallerLaws}
 use Rattle.dk_recount.proofs.Call.Unchanged.{want-as, holders-as}
 use Rattle.dk_recount.proofs.Call.Booking.{books, levels-as, seats-as, queues-as, cells-as, blocks-as}
 use Rattle.dk_recount.proofs.Call.Caller as calls
-use Rattle.dk_recount.specs.Needed.{CallerLaws}
 
 pub record AskLaws : Type 0 where
   pub caller : CallerLaws

@@ -1,36 +1,6 @@
 -- The tables once an event is booked.
-use Rattle.std.proofs.Common.{◌≡◌, ◌<◌, ◌∙◌, true, ℕ, List, ◌∷◌, length, map, Option, Some, None, refl, sym, subst}
-use Rattle.std.specs.List.{list_any}
-use Rattle.dk_config.specs.Configuration.{Configuration}
-use Rattle.dk_config.specs.Sums.{below}
-use Rattle.dk_trace.specs.declared.ThreadId.{ThreadId}
-use Rattle.dk_trace.specs.declared.Label.{Label}
-use Rattle.dk_trace.specs.declared.Event.{Event}
-use Rattle.dk_trace.specs.declared.Entry.{Entry}
-use Rattle.dk_trace.specs.Members.{Has}
-use Rattle.dk_trace.specs.Entries.{does, is_wait, quiet}
-use Rattle.dk_trace.specs.Threads.{Thread, threads, family}
-use Rattle.dk_trace.specs.Holds.{held_by, blocking}
-use Rattle.dk_trace.specs.Demand.{own_demand, remaining_demand}
-use Rattle.dk_trace.specs.Slack.{last_request}
-use Rattle.dk_rail.specs.Queues.{queue_at}
-use Rattle.dk_threads.specs.Recount.{has_row}
-use Rattle.dk_budget.specs.Recount.{recount}
-use Rattle.dk_mutex.specs.declared.row.Lockable.{Lockable}
-use Rattle.dk_mutex.specs.Recount.{HasLevels}
-use Rattle.dk_mutex.specs.Recount.{IsRecount as AreHolders}
-use Rattle.dk_demand.specs.Cells.{Cells}
-use Rattle.dk_demand.specs.Recount.{IsRecount as AreCells}
-use Rattle.dk_slack.specs.Wishes.{Wish, wishes_at}
-use Rattle.dk_slack.specs.Recount.{AreCounted}
-use Rattle.dk_ready.specs.Roster.{Roster, seat_at}
-use Rattle.dk_recount.specs.Tables.{Tables, node_in}
-use Rattle.dk_recount.specs.Recount.{IsCharged, IsBooked, seat_of, ready_nodes}
-use Rattle.dk_recount.specs.Events.{IsUntold, entry_of}
+use Rattle.dk_recount.proofs.Names.{◌≡◌, ◌<◌, ◌∙◌, true, ℕ, List, ◌∷◌, length, map, Option, Some, None, refl, sym, subst, list_any, Configuration, below, ThreadId, Label, Event, Entry, Has, does, is_wait, quiet, Thread, threads, family, held_by, blocking, own_demand, remaining_demand, last_request, queue_at, has_row, recount, Lockable, HasLevels, AreHolders, Cells, AreCells, Wish, wishes_at, AreCounted, Roster, seat_at, Tables, node_in, IsCharged, IsBooked, seat_of, ready_nodes, IsUntold, entry_of, jobs-keep, map-same, AreJobs}
 use Rattle.dk_recount.proofs.Call.Unchanged.{rows-as, holders-as, own-as, remaining-as, blocking-as, unclaimed-as, parts-as, counted-as, job-as}
-use Rattle.dk_ready.proofs.Moving.{jobs-keep}
-use Rattle.dk_ready.proofs.Numbers.{map-same}
-use Rattle.dk_ready.specs.Recount.{IsRecount as AreJobs}
 
 module _ (c : Configuration) (label : Label) (event : Option Event) (past : List Entry)
     (fam : (p : ℕ) → family c p (entry_of label event ∷ past) ≡ family c p (quiet label ∷ past))

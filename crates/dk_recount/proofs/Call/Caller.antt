@@ -1,39 +1,7 @@
 -- What is known of the tables while a thread is in a call.
-use Rattle.std.proofs.Common.{◌≡◌, ◌<◌, ◌*◌, ◌∙◌, inl, inr, true, false, ℕ, List, ◌∷◌, length, Some, None, ap, sym, subst, arith}
-use Rattle.std.specs.Prelude.{MatchOption}
-use Rattle.std.specs.Option.{option_map_or}
-use Rattle.dk_config.specs.declared.TheConstants.{MAX_THREADS}
-use Rattle.dk_config.specs.Configuration.{Configuration}
-use Rattle.dk_trace.specs.declared.ThreadId.{ThreadId}
-use Rattle.dk_trace.specs.declared.Label.{Label}
-use Rattle.dk_trace.specs.declared.Work.{Work}
-use Rattle.dk_trace.specs.declared.Event.{Event}
-use Rattle.dk_trace.specs.declared.Entry.{Entry}
-use Rattle.dk_trace.specs.Entries.{is_same, is_of, quiet}
-use Rattle.dk_trace.specs.Members.{Has}
-use Rattle.dk_trace.specs.Threads.{Thread, threads}
-use Rattle.dk_trace.specs.Jobs.{thread_rem}
-use Rattle.dk_trace.specs.Slack.{want}
-use Rattle.dk_isa.specs.declared.FaultKind.{FaultKind}
-use Rattle.dk_trace.specs.Holds.{held_by, innermost_left, ends_hold}
-use Rattle.dk_trace.specs.Audit.{row_of, done_refusal, MayHave, HasNextSerial, ThreadFollows, Audited}
-use Rattle.dk_trace.proofs.Same.{same-self}
-use Rattle.dk_trace.proofs.Charged.{family-charged}
-use Rattle.dk_bound.specs.Standing.{IsPlaced}
-use Rattle.dk_bound.specs.Callers.{CallerStands}
-use Rattle.dk_bound.proofs.TickMoves.{threads-charged}
-use Rattle.std.proofs.lemmas.List.{length-map}
-use Rattle.dk_threads.specs.Table.{AreFamilies}
-use Rattle.dk_threads.specs.Recount.{has_row}
-use Rattle.dk_threads.proofs.NamedRows.{HasRow, row-there, row-slot}
-use Rattle.dk_ready.specs.Roster.{seat_at}
-use Rattle.dk_recount.specs.Tables.{Tables, IsSound, node_in}
-use Rattle.dk_recount.specs.Recount.{seat_of}
-use Rattle.dk_recount.specs.Charging.{level_in}
-use Rattle.dk_recount.specs.Events.{IsCalling, refusal_of, with_event}
+use Rattle.dk_recount.proofs.Names.{◌≡◌, ◌<◌, ◌*◌, ◌∙◌, inl, inr, true, false, ℕ, List, ◌∷◌, length, Some, None, ap, sym, subst, arith, MatchOption, option_map_or, MAX_THREADS, Configuration, ThreadId, Label, Work, Event, Entry, is_same, is_of, quiet, Has, Thread, threads, thread_rem, want, FaultKind, held_by, innermost_left, ends_hold, row_of, done_refusal, MayHave, HasNextSerial, ThreadFollows, Audited, same-self, family-charged, IsPlaced, CallerStands, threads-charged, length-map, AreFamilies, has_row, HasRow, row-there, row-slot, seat_at, Tables, IsSound, node_in, seat_of, level_in, IsCalling, refusal_of, with_event, CallerLaws}
 use Rattle.dk_recount.proofs.Stop.Present.{there-row, worker-has-row}
 use Rattle.dk_recount.proofs.Rows.{nodes-differ, slot-is}
-use Rattle.dk_recount.specs.Needed.{CallerLaws}
 
 module _ (laws : CallerLaws) (x : ThreadId) (c : Configuration) (label : Label) (past : List Entry) (d : Tables) (calling : IsCalling x c label past d) (sound : IsSound d) (families : AreFamilies d.threads.levels d.threads.families) where
   abbrev pub now : ℕ

@@ -1,51 +1,9 @@
 -- A lock and an unlock of the tables are those of the past.
-use Rattle.std.proofs.Common.{◌≡◌, ◌<◌, ◌≤◌, ◌+◌, ◌-◌, ◌∙◌, ◌⊎◌, ◌||◌, ◌&&◌, inl, inr, Bool, true, false, cond, eqb, leb, ltb, ℕ, zero, suc, List, [], ◌∷◌, length, map, set, get_or, Option, Some, None, refl, ap, sym, subst, arith}
-use Rattle.std.specs.Prelude.{slice_get, slice_index, not}
-use Rattle.std.specs.Option.{option_map_or}
-use Rattle.std.proofs.lemmas.Bool.{not-false}
-use Rattle.std.proofs.lemmas.Bool.Decides.{nat_tests}
-use Rattle.dk_config.specs.declared.TheConstants.{MAX_PROCESSES, MAX_SPAN}
-use Rattle.dk_config.specs.Configuration.{Configuration}
-use Rattle.dk_config.specs.Windows.{ceiling, longest_hold}
-use Rattle.dk_config.specs.Certification.{is_user}
-use Rattle.dk_config.proofs.CheckedConfig.{user-mutex}
-use Rattle.dk_config.proofs.Counting.{at_index}
-use Rattle.dk_trace.specs.declared.ThreadId.{ThreadId}
-use Rattle.dk_trace.specs.declared.Label.{Label}
-use Rattle.dk_trace.specs.declared.Event.{Event}
-use Rattle.dk_trace.specs.declared.Refusal.{Refusal}
-use Rattle.dk_trace.specs.declared.Entry.{Entry}
-use Rattle.dk_trace.specs.Members.{Has}
-use Rattle.dk_trace.specs.Entries.{is_of, quiet}
-use Rattle.dk_trace.specs.Threads.{Thread, threads}
-use Rattle.dk_trace.specs.Jobs.{job, body_left, thread_body_left}
-use Rattle.dk_trace.specs.Holds.{Hold, aged, given_back, held_by, hold_left as past_left, is_held, is_holding, innermost_left, is_innermost as is_past_innermost, level_holding, least_ceiling, effective_level as past_level, blocking}
-use Rattle.dk_trace.specs.Refusals.{first_refusal, lock_refusal as past_lock_refusal, unlock_refusal as past_unlock_refusal}
-use Rattle.dk_trace.specs.Audit.{Audited}
-use Rattle.dk_trace.proofs.Same.{same-id}
-use Rattle.dk_trace.proofs.Members.{filter-has}
-use Rattle.dk_trace.proofs.Holds.{aged-held, ceiling-most, has-aged, innermost-aged, between-given, between-is, ceiling-given, quiet-held}
-use Rattle.dk_trace.proofs.Charged.{quiet-stops}
-use Rattle.dk_trace.proofs.Events.{none-of-three, none-of-two}
-use Rattle.dk_threads.specs.Table.{AreFamilies}
-use Rattle.dk_mutex.specs.declared.row.Holder.{Holder}
-use Rattle.dk_mutex.specs.declared.row.Lockable.{Lockable}
-use Rattle.dk_mutex.specs.Table.{hold_of, is_free, hold_left, given_to, effective_level, lock_refusal, unlock_refusal}
-use Rattle.dk_mutex.specs.Recount.{HasLevels, HoldersFit, LastIsLeast}
-use Rattle.dk_mutex.specs.Recount.{IsRecount as AreHolders}
-use Rattle.dk_bound.proofs.Nesting.{level-aged, nested-quiet}
-use Rattle.dk_demand.specs.Levels.{between, adjusted}
-use Rattle.dk_demand.specs.Recount.{IsRecount as AreCells}
-use Rattle.dk_ready.specs.declared.seat.Seat.{Seat}
-use Rattle.dk_recount.specs.Tables.{Tables, IsSound}
-use Rattle.dk_recount.specs.Recount.{IsBooked}
-use Rattle.dk_recount.specs.Charging.{level_in}
-use Rattle.dk_recount.specs.Events.{IsCalling, CallIsRight, MayLock, MayUnlock, body_in, runs_at, lock_refusal_in, rows_locked, locked, unlock_refusal_in, rows_unlocked, unlocked, refusal_of, with_event}
+use Rattle.dk_recount.proofs.Names.{◌≡◌, ◌<◌, ◌≤◌, ◌+◌, ◌-◌, ◌∙◌, ◌⊎◌, ◌||◌, ◌&&◌, inl, inr, Bool, true, false, cond, eqb, leb, ltb, ℕ, zero, suc, List, [], ◌∷◌, length, map, set, get_or, Option, Some, None, refl, ap, sym, subst, arith, slice_get, slice_index, not, option_map_or, not-false, nat_tests, MAX_PROCESSES, MAX_SPAN, Configuration, ceiling, longest_hold, is_user, user-mutex, at_index, ThreadId, Label, Event, Refusal, Entry, Has, is_of, quiet, Thread, threads, job, body_left, thread_body_left, Hold, aged, given_back, held_by, past_left, is_held, is_holding, innermost_left, is_past_innermost, level_holding, least_ceiling, past_level, blocking, first_refusal, past_lock_refusal, past_unlock_refusal, Audited, same-id, filter-has, aged-held, ceiling-most, has-aged, innermost-aged, between-given, between-is, ceiling-given, quiet-held, quiet-stops, none-of-three, none-of-two, AreFamilies, Holder, Lockable, hold_of, is_free, hold_left, given_to, effective_level, lock_refusal, unlock_refusal, HasLevels, HoldersFit, LastIsLeast, AreHolders, level-aged, nested-quiet, between, adjusted, AreCells, Seat, Tables, IsSound, IsBooked, level_in, IsCalling, CallIsRight, MayLock, MayUnlock, body_in, runs_at, lock_refusal_in, rows_locked, locked, unlock_refusal_in, rows_unlocked, unlocked, refusal_of, with_event, HoldLaws}
 use Rattle.dk_recount.proofs.Cells.{by-same}
 use Rattle.dk_recount.proofs.Call.Booking.{books, seats-as, queues-as, wishes-as}
 use Rattle.dk_recount.proofs.Holding.{last-least}
 use Rattle.dk_recount.proofs.Call.Caller as calls
-use Rattle.dk_recount.specs.Needed.{HoldLaws}
 
 -- a row of a changed table is the new one or an old one
 set-at : (xs : List Lockable) (m : ℕ) (r : Lockable) (k : ℕ) (row : Lockable) → slice_get (set xs m r) k ≡ Some row → (row ≡ r) ⊎ (slice_get xs k ≡ Some row)

@@ -1,36 +1,6 @@
 -- What an event leaves as the tick without it was.
-use Rattle.std.proofs.Common.{◌≡◌, ◌-◌, ◌*◌, ◌∙◌, ◌&&◌, ◌||◌, inl, inr, cond, eqb, leb, ltb, ℕ, zero, suc, List, [], ◌∷◌, length, map, take, Option, option_map, refl, ap, sym, subst, arith}
-use Rattle.std.specs.Prelude.{not, filter, filter_map, count_by, sum_by, Contains, ◌↔◌}
-use Rattle.std.specs.List.{list_any}
-use Rattle.std.proofs.lemmas.Bool.{cases_Bool}
-use Rattle.dk_config.specs.Configuration.{Configuration}
-use Rattle.dk_config.specs.Sums.{below}
-use Rattle.dk_config.specs.Windows.{period, release, budget, window_start, window_end}
-use Rattle.dk_trace.specs.declared.ThreadId.{ThreadId}
-use Rattle.dk_trace.specs.declared.Label.{Label}
-use Rattle.dk_trace.specs.declared.Event.{Event}
-use Rattle.dk_trace.specs.declared.Entry.{Entry}
-use Rattle.dk_trace.specs.Entries.{is_budget_of, is_out_of, is_kernel_at, does, is_wait, window, quiet}
-use Rattle.dk_trace.specs.Threads.{Thread, threads, family, share, is_main, is_stopped_before, lent_at}
-use Rattle.dk_trace.specs.Jobs.{Job, job, rem, thread_rem, kernel_rem, is_closed, is_stopped_in}
-use Rattle.dk_trace.specs.Holds.{held_by, hold_left, thread_blocking, greatest_left, blocking}
-use Rattle.dk_trace.specs.Demand.{windows_left, sum_starts, thread_demand, kernel_demand, own_demand, remaining_demand}
-use Rattle.dk_trace.specs.Slack.{Request, no_request, last_request, request, want, is_claimed_up_to, unclaimed}
-use Rattle.dk_trace.proofs.Charged.{same-job}
-use Rattle.dk_threads.specs.Table.{Table}
-use Rattle.dk_threads.specs.Recount.{row_at}
-use Rattle.dk_threads.specs.Recount.{IsRecount as AreThreads}
-use Rattle.dk_mutex.specs.declared.row.Lockable.{Lockable}
-use Rattle.dk_mutex.specs.Recount.{hold_at}
-use Rattle.dk_mutex.specs.Recount.{IsRecount as AreHolders}
-use Rattle.dk_slack.specs.Wishes.{Wish}
-use Rattle.dk_slack.specs.Recount.{AreCounted, AreOldestFirst, asking, counted_wish, unclaimed_of}
-use Rattle.dk_ready.proofs.Moving.{filter-same}
-use Rattle.dk_ready.proofs.Numbers.{map-same}
-use Rattle.dk_recount.specs.Recount.{kernel_part}
-use Rattle.dk_recount.specs.Events.{entry_of}
-use Rattle.dk_trace.proofs.Members.{sum_by-same}
-use Rattle.dk_config.proofs.Sums.{sum_from-eq, sum_every-as}
+use Rattle.dk_recount.proofs.Names.{◌≡◌, ◌-◌, ◌*◌, ◌∙◌, ◌&&◌, ◌||◌, inl, inr, cond, eqb, leb, ltb, ℕ, zero, suc, List, [], ◌∷◌, length, map, take, Option, option_map, refl, ap, sym, subst, arith, not, filter, filter_map, count_by, sum_by, Contains, ◌↔◌, list_any, cases_Bool, Configuration, below, period, release, budget, window_start, window_end, ThreadId, Label, Event, Entry, is_budget_of, is_out_of, is_kernel_at, does, is_wait, window, quiet, Thread, threads, family, share, is_main, is_stopped_before, lent_at, Job, job, rem, thread_rem, kernel_rem, is_closed, is_stopped_in, held_by, thread_blocking, greatest_left, blocking, windows_left, sum_starts, thread_demand, kernel_demand, own_demand, remaining_demand, Request, no_request, last_request, request, want, is_claimed_up_to, unclaimed, same-job, Table, row_at, AreThreads, Lockable, hold_at, AreHolders, Wish, AreCounted, AreOldestFirst, asking, counted_wish, unclaimed_of, filter-same, map-same, kernel_part, entry_of, sum_by-same, sum_from-eq, sum_every-as}
+use Rattle.dk_trace.specs.Holds.{hold_left}
 
 -- what is counted of the newest entries depends on the first one as far as it tells it apart
 take-as : {X : Type 0} (F : List Entry → X) (e f : Entry) → ((es : List Entry) → F (e ∷ es) ≡ F (f ∷ es)) → (n : ℕ) (past : List Entry) → F (take n (e ∷ past)) ≡ F (take n (f ∷ past))

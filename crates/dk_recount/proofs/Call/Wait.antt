@@ -1,59 +1,13 @@
 -- A wait of the tables is one of the past.
-use Rattle.std.proofs.Common.{◌≡◌, ◌<◌, ◌∙◌, inl, Bool, true, false, cond, ℕ, List, [], ◌∷◌, length, map, Some, None, refl, ap, sym, subst, arith}
-use Rattle.std.specs.Prelude.{filter, is_some, not, if◌then◌else◌}
-use Rattle.std.proofs.lemmas.List.{length-map}
-use Rattle.dk_config.specs.Configuration.{Configuration}
-use Rattle.dk_trace.specs.declared.ThreadId.{ThreadId}
-use Rattle.dk_trace.specs.declared.Label.{Label}
-use Rattle.dk_trace.specs.declared.Event.{Event}
-use Rattle.dk_trace.specs.declared.Refusal.{Refusal}
-use Rattle.dk_trace.specs.declared.Entry.{Entry}
-use Rattle.dk_trace.specs.Members.{Has}
-use Rattle.dk_trace.specs.Entries.{is_same, is_of, quiet}
-use Rattle.dk_trace.specs.Threads.{Thread, threads}
-use Rattle.dk_trace.specs.Holds.{Hold, aged, held_by, is_holding, innermost_left}
-use Rattle.dk_trace.specs.Refusals.{first_refusal}
-use Rattle.dk_trace.specs.Audit.{Audited}
-use Rattle.dk_trace.proofs.Same.{same-id}
-use Rattle.dk_trace.proofs.Charged.{quiet-stops}
-use Rattle.dk_trace.proofs.Events.{none-of-one, IsPlain}
-use Rattle.dk_trace.proofs.Holds.{quiet-held}
-use Rattle.dk_trace.proofs.Rows.{family-among}
-use Rattle.dk_bound.specs.Laws.{Always}
-use Rattle.dk_bound.specs.Callers.{HoldsNest}
-use Rattle.dk_bound.specs.Moves.{AtEachEntry}
-use Rattle.dk_bound.specs.EventMoves.{given_up}
-use Rattle.dk_bound.specs.EventCases.{IsClosedAlone, OneIsClosed}
-use Rattle.dk_bound.proofs.Nesting.{nested-quiet}
-use Rattle.dk_threads.specs.declared.row.ThreadRow.{ThreadRow}
-use Rattle.dk_threads.specs.Table.{AreFamilies, find_row}
-use Rattle.dk_threads.proofs.NamedRows.{HasRow}
-use Rattle.dk_threads.proofs.Finding.{RowOf}
-use Rattle.dk_threads.proofs.Stops.{named, named-one}
-use Rattle.dk_mutex.specs.Recount.{last_locked}
-use Rattle.dk_mutex.specs.Laws.{TellsInnermost}
-use Rattle.dk_demand.specs.Cells.{dropped_cells}
-use Rattle.dk_demand.specs.Moves.{EventMovesCells, freed_cells}
-use Rattle.dk_demand.specs.Recount.{IsRecount as AreCells}
-use Rattle.dk_slack.specs.Wishes.{wishes_at, is_of as is_wish_of, dropped}
-use Rattle.dk_slack.specs.Recount.{AreCounted}
-use Rattle.dk_ready.specs.Roster.{closed_on, dropped_on}
-use Rattle.dk_recount.specs.Tables.{Tables, IsSound, node_in}
-use Rattle.dk_recount.specs.Recount.{IsBooked}
-use Rattle.dk_recount.specs.Charging.{level_in}
-use Rattle.dk_recount.specs.Jobs.{MayClose, job_closed}
-use Rattle.dk_recount.specs.Stopping.{node_on}
-use Rattle.dk_recount.specs.Events.{IsCalling, CallIsRight, MayWait, refusal_of, wait_refusal_in, waited, with_event}
+use Rattle.dk_recount.proofs.Names.{◌≡◌, ◌<◌, ◌∙◌, inl, Bool, true, false, cond, ℕ, List, [], ◌∷◌, length, map, Some, None, refl, ap, sym, subst, arith, filter, is_some, not, if◌then◌else◌, length-map, Configuration, ThreadId, Label, Event, Refusal, Entry, Has, is_same, is_of, quiet, Thread, threads, Hold, aged, held_by, is_holding, innermost_left, first_refusal, Audited, same-id, quiet-stops, none-of-one, IsPlain, quiet-held, family-among, Always, HoldsNest, AtEachEntry, given_up, IsClosedAlone, OneIsClosed, nested-quiet, ThreadRow, AreFamilies, find_row, HasRow, RowOf, named, named-one, last_locked, TellsInnermost, dropped_cells, EventMovesCells, freed_cells, AreCells, wishes_at, is_wish_of, dropped, AreCounted, closed_on, dropped_on, Tables, IsSound, node_in, IsBooked, level_in, MayClose, job_closed, node_on, IsCalling, CallIsRight, MayWait, refusal_of, wait_refusal_in, waited, with_event, Laws, CallerLaws}
 use Rattle.dk_recount.proofs.Call.Unchanged.{holders-as}
 use Rattle.dk_recount.proofs.Call.Booking.{books, levels-as}
 use Rattle.dk_recount.proofs.Holding.{last-least}
 use Rattle.dk_recount.proofs.Stop.Child.{thread-of-row}
-use Rattle.dk_recount.specs.Needed.{StoppingLaws as Laws}
 use Rattle.dk_recount.proofs.Stop.Needs.{may-shut, node-row}
 use Rattle.dk_recount.proofs.Stop.ShutRecount.{Shuts, ready-new, seats-new, wishes-new}
 use Rattle.dk_recount.proofs.Stop.OneClosed.{dropped-here as one-dropped, shuts as one-shuts}
 use Rattle.dk_recount.proofs.Call.Caller as calls
-use Rattle.dk_recount.specs.Needed.{CallerLaws}
 
 pub record WaitLaws : Type 0 where
   pub caller : CallerLaws

@@ -1,20 +1,5 @@
 -- The charge of a choice, by what the choice is.
-use Rattle.std.proofs.Common.{◌≡◌, ◌<◌, List, length, None, Some, ◌∙◌, sym, ap, subst, refl}
-use Rattle.dk_config.specs.declared.TheConstants.{MAX_TICKS}
-use Rattle.dk_config.specs.Configuration.{Configuration}
-use Rattle.dk_trace.specs.declared.Choice.{Choice}
-use Rattle.dk_trace.specs.declared.Label.{Label}
-use Rattle.dk_trace.specs.declared.Entry.{Entry}
-use Rattle.dk_trace.specs.Choices.{chosen}
-use Rattle.dk_trace.specs.Audit.{HasChosenLabel}
-use Rattle.dk_trace.proofs.Labels.{Says, kernel-says, idle-says, budget-says, slack-says, slack-label}
-use Rattle.dk_bound.specs.Laws.{Always}
-use Rattle.dk_bound.specs.Statements.{BlocksAtMost}
-use Rattle.dk_bound.specs.Standing.{ChoiceHolds}
-use Rattle.dk_threads.specs.Table.{AreFamilies}
-use Rattle.dk_recount.specs.Tables.{Tables, IsSound}
-use Rattle.dk_recount.specs.Recount.{IsReady, IsCharged}
-use Rattle.dk_recount.specs.Charging.{charged, MayBudget, MaySlack, MayCharge}
+use Rattle.dk_recount.proofs.Names.{◌≡◌, ◌<◌, List, length, None, Some, ◌∙◌, sym, ap, subst, refl, MAX_TICKS, Configuration, Choice, Label, Entry, chosen, HasChosenLabel, Says, kernel-says, idle-says, budget-says, slack-says, slack-label, Always, BlocksAtMost, ChoiceHolds, AreFamilies, Tables, IsSound, IsReady, IsCharged, charged, MayBudget, MaySlack, MayCharge}
 use Rattle.dk_recount.specs.Needed.{ChoosingLaws as Laws}
 use Rattle.dk_recount.proofs.Charge.Labels.{TickLaws}
 use Rattle.dk_recount.proofs.Charge.Threads.{budget-charged, budget-may, slack-charged, slack-may}

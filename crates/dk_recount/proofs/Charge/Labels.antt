@@ -1,32 +1,6 @@
 -- What the laws below say of a tick that is charged, and what a label says of its choice.
-use Rattle.std.proofs.Common.{◌≡◌, ◌<◌, ◌-◌, ◌∙◌, inl, inr, true, ℕ, List, length, map, get_or, Option, Some, None, option_map, refl, ap, sym, subst}
-use Rattle.std.specs.Prelude.{slice_get, All}
-use Rattle.std.proofs.lemmas.Bool.{cases_Bool}
-use Rattle.std.proofs.lemmas.Option.{slice_get-map}
-use Rattle.dk_config.specs.Configuration.{Configuration}
-use Rattle.dk_config.proofs.Lists.{raised-all}
-use Rattle.dk_trace.specs.declared.ThreadId.{ThreadId}
-use Rattle.dk_trace.specs.declared.Entry.{Entry}
-use Rattle.dk_trace.specs.Members.{Has}
-use Rattle.dk_trace.specs.Entries.{is_same}
-use Rattle.dk_trace.specs.Threads.{threads}
-use Rattle.dk_bound.specs.Laws.{Always}
-use Rattle.dk_bound.specs.Moves.{AtEachTick}
-use Rattle.dk_bound.specs.TickMoves.{TickSpends, TickLowersRem, TickLowersOwn, TickLowersRemaining}
-use Rattle.dk_bound.specs.HoldMoves.{TickLowersBlocking}
-use Rattle.dk_ready.specs.Laws.{BudgetTickSpends, JobsKeepSeats, KernelTickSpends, OthersKeepParts, QueuesWorkers}
-use Rattle.dk_bound.specs.Rows.{IdsTellLevels}
-use Rattle.dk_bound.specs.Standing.{ChosenHolds}
-use Rattle.dk_threads.specs.Laws.{TickKeepsRows}
-use Rattle.dk_mutex.specs.declared.row.Holder.{Holder}
-use Rattle.dk_mutex.specs.declared.row.Lockable.{Lockable}
-use Rattle.dk_mutex.specs.Rows.{lowered, spent as spent_row}
-use Rattle.dk_mutex.specs.Recount.{HasLevels}
-use Rattle.dk_mutex.specs.Laws.{TickSpendsHolds, OthersKeepHolds, TellsLevels, TellsWithin}
-use Rattle.dk_demand.specs.Moves.{TickMovesCells}
-use Rattle.dk_slack.specs.Unclaimed.{raised}
-use Rattle.dk_slack.specs.Laws.{OthersKeepWishes, TellsAmounts, TickCountsUnclaimed, SlackSpendsWish}
-use Rattle.dk_bound.specs.Callers.{HoldsNest}
+use Rattle.dk_recount.proofs.Names.{◌≡◌, ◌<◌, ◌-◌, ◌∙◌, inl, inr, true, ℕ, List, length, map, get_or, Option, Some, None, option_map, refl, ap, sym, subst, slice_get, All, cases_Bool, slice_get-map, Configuration, raised-all, ThreadId, Entry, Has, is_same, threads, Always, AtEachTick, TickSpends, TickLowersRem, TickLowersOwn, TickLowersRemaining, TickLowersBlocking, BudgetTickSpends, JobsKeepSeats, KernelTickSpends, OthersKeepParts, QueuesWorkers, IdsTellLevels, ChosenHolds, TickKeepsRows, Holder, Lockable, spent_row, HasLevels, TickSpendsHolds, OthersKeepHolds, TellsLevels, TellsWithin, TickMovesCells, raised, OthersKeepWishes, TellsAmounts, TickCountsUnclaimed, SlackSpendsWish, HoldsNest}
+use Rattle.dk_mutex.specs.Rows.{lowered}
 
 pub record TickLaws : Type 0 where
   pub chosen : Always ChosenHolds

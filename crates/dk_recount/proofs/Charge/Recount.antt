@@ -1,46 +1,7 @@
 -- A tick that is charged makes the tables the recount of the past with the tick's entry.
-use Rattle.std.proofs.Common.{◌≡◌, ◌<◌, ◌+◌, ◌^◌, ◌∙◌, ◌⊎◌, inl, inr, true, false, cond, eqb, leb, ℕ, List, [], ◌∷◌, length, map, get_or, Option, Some, None, refl, ap, sym, arith}
-use Rattle.std.specs.Prelude.{slice_index}
-use Rattle.std.specs.Option.{option_map_or, option_or}
-use Rattle.std.proofs.lemmas.List.{length-map}
-use Rattle.std.proofs.lemmas.Bool.Decides.{nat_tests}
-use Rattle.dk_config.specs.declared.TheConstants.{MAX_TICKS}
-use Rattle.dk_config.specs.Configuration.{Configuration}
-use Rattle.dk_config.proofs.Counting.{length-map-numbers, at_index}
-use Rattle.dk_trace.specs.declared.ThreadId.{ThreadId}
-use Rattle.dk_trace.specs.declared.Choice.{Choice}
-use Rattle.dk_trace.specs.declared.Label.{Label}
-use Rattle.dk_trace.specs.declared.Entry.{Entry}
-use Rattle.dk_trace.specs.Entries.{is_same, payer, borrower, quiet}
-use Rattle.dk_trace.specs.Threads.{Thread, threads}
-use Rattle.dk_trace.specs.Jobs.{job, kernel_rem}
-use Rattle.dk_trace.specs.Demand.{own_demand, remaining_demand}
-use Rattle.dk_trace.specs.Slack.{level_of, unclaimed}
-use Rattle.dk_trace.specs.Choices.{chosen}
-use Rattle.dk_trace.specs.Audit.{HasChosenLabel}
-use Rattle.dk_bound.specs.TickMoves.{working_level, worked}
-use Rattle.dk_bound.proofs.TickMoves.{threads-charged}
-use Rattle.dk_trace.specs.JobSteps.{spent}
-use Rattle.dk_trace.proofs.Labels.{Says}
-use Rattle.dk_trace.proofs.Windows.{unclaimed-few}
-use Rattle.dk_threads.specs.Table.{AreFamilies}
-use Rattle.dk_threads.specs.Recount.{has_row}
-use Rattle.dk_threads.specs.Recount.{IsRecount as AreThreads}
-use Rattle.dk_budget.specs.Recount.{IsRecount as AreLoans}
-use Rattle.dk_budget.proofs.Keeping.{quiet-loans}
-use Rattle.dk_demand.specs.Recount.{each_level}
-use Rattle.dk_demand.specs.Moves.{CountsAt, TickMovesCells}
-use Rattle.dk_slack.specs.Unclaimed.{counted}
-use Rattle.dk_slack.specs.Recount.{claiming_level, unclaimed_of, spares_of}
-use Rattle.dk_slack.specs.Recount.{IsRecount as AreWishes}
-use Rattle.dk_ready.specs.Roster.{new_job}
-use Rattle.dk_recount.specs.Tables.{Tables, node_in}
-use Rattle.dk_recount.specs.Recount.{IsReady, IsCharged, kernel_part}
-use Rattle.dk_recount.specs.Charging.{charged, counts, HasWork, MayCount, MayKernel}
-use Rattle.dk_recount.specs.Choosing.{kernel_left}
+use Rattle.dk_recount.proofs.Names.{◌≡◌, ◌<◌, ◌+◌, ◌^◌, ◌∙◌, ◌⊎◌, inl, inr, true, false, cond, eqb, leb, ℕ, List, [], ◌∷◌, length, map, get_or, Option, Some, None, refl, ap, sym, arith, slice_index, option_map_or, option_or, length-map, nat_tests, MAX_TICKS, Configuration, length-map-numbers, at_index, ThreadId, Choice, Label, Entry, is_same, payer, borrower, quiet, Thread, threads, job, kernel_rem, own_demand, remaining_demand, level_of, unclaimed, chosen, HasChosenLabel, working_level, worked, threads-charged, spent, Says, unclaimed-few, AreFamilies, has_row, AreThreads, AreLoans, quiet-loans, each_level, CountsAt, TickMovesCells, counted, claiming_level, unclaimed_of, spares_of, AreWishes, new_job, Tables, node_in, IsReady, IsCharged, kernel_part, charged, counts, HasWork, MayCount, MayKernel, kernel_left, AreJobs}
 use Rattle.dk_recount.specs.Needed.{ChoosingLaws as Laws}
 use Rattle.dk_recount.proofs.Charge.Labels.{TickLaws, levels-kept, raised-few}
-use Rattle.dk_ready.specs.Recount.{IsRecount as AreJobs}
 
 pub ids-nodes : (node_of : ThreadId → ℕ) (xs : List Thread) → map (λ (x : Thread). node_of x.id) xs ≡ map node_of (map (λ (x : Thread). x.id) xs)
 ids-nodes node_of [] = refl

@@ -1,56 +1,12 @@
 -- A tick on a thread's budget, and one of slack, make the tables the recount of the past with the tick's entry.
-use Rattle.std.proofs.Common.{◌≡◌, ◌<◌, ◌≤◌, ◌+◌, ◌∙◌, inl, inr, ◌&&◌, Bool, true, false, cond, eqb, leb, ltb, ℕ, List, [], ◌∷◌, length, map, Some, None, refl, ap, sym, subst, arith}
-use Rattle.std.specs.Prelude.{slice_index, Contains}
-use Rattle.std.specs.Option.{option_map_or, option_or}
-use Rattle.std.proofs.lemmas.Bool.{cases_Bool}
-use Rattle.std.proofs.lemmas.Bool.Decides.{nat_tests}
-use Rattle.dk_config.specs.declared.TheConstants.{MAX_TICKS}
-use Rattle.dk_config.specs.Configuration.{Configuration}
-use Rattle.dk_trace.specs.declared.ThreadId.{ThreadId}
-use Rattle.dk_trace.specs.declared.Phase.{Phase}
-use Rattle.dk_trace.specs.declared.Source.{Source}
-use Rattle.dk_trace.specs.declared.Work.{Work}
-use Rattle.dk_trace.specs.declared.Choice.{Choice}
-use Rattle.dk_trace.specs.declared.Label.{Label}
-use Rattle.dk_trace.specs.declared.Entry.{Entry}
-use Rattle.dk_trace.specs.Members.{Has}
-use Rattle.dk_trace.specs.Entries.{is_same, is_of, payer, thread_of, quiet}
-use Rattle.dk_trace.specs.Threads.{Thread, threads}
-use Rattle.dk_trace.specs.Jobs.{rem, job, thread_rem}
-use Rattle.dk_trace.specs.Holds.{Hold, held_by, hold_left, innermost_left, is_holding, effective_level as past_level, blocking}
-use Rattle.dk_trace.specs.Slack.{level_of, want}
-use Rattle.dk_trace.specs.Choices.{chosen}
-use Rattle.dk_trace.specs.Audit.{HasChosenLabel}
-use Rattle.dk_bound.specs.Laws.{Always}
-use Rattle.dk_bound.specs.Statements.{BlocksAtMost}
-use Rattle.dk_bound.specs.TickMoves.{working_level}
-use Rattle.dk_trace.specs.JobSteps.{spent}
-use Rattle.dk_threads.specs.Table.{AreFamilies}
-use Rattle.dk_threads.specs.Recount.{has_row}
-use Rattle.dk_threads.proofs.NamedRows.{row-slot}
-use Rattle.dk_mutex.specs.Table.{effective_level, holds_within}
-use Rattle.dk_demand.specs.Cells.{dropped_cells, held_cells}
-use Rattle.dk_demand.specs.Recount.{IsRecount as AreCells}
-use Rattle.dk_slack.specs.Wishes.{Wish, want as want_in, wishes_at, dropped, lowered, spent as spent_wish}
-use Rattle.dk_slack.specs.Recount.{asking, claiming_level, spares_of, AreCounted, HaveOwnNodes}
-use Rattle.std.proofs.lemmas.List.{length-map}
-use Rattle.dk_trace.proofs.Same.{same-self}
-use Rattle.dk_trace.proofs.Members.{has-contains, has-filter}
-use Rattle.dk_trace.proofs.Labels.{Says}
-use Rattle.dk_slack.specs.Recount.{IsRecount as AreWishes}
-use Rattle.dk_ready.specs.declared.seat.Seat.{Seat}
-use Rattle.dk_ready.specs.Roster.{seat_at, left_on, spent_on}
-use Rattle.dk_recount.specs.Tables.{Tables, IsSound, node_in}
-use Rattle.dk_recount.specs.Recount.{IsReady, IsCharged, seat_of}
-use Rattle.dk_recount.specs.Charging.{HasWork, charged, counts, level_in, first_in, MayBudget, MaySlack}
+use Rattle.dk_recount.proofs.Names.{◌≡◌, ◌<◌, ◌≤◌, ◌+◌, ◌∙◌, inl, inr, ◌&&◌, Bool, true, false, cond, eqb, leb, ltb, ℕ, List, [], ◌∷◌, length, map, Some, None, refl, ap, sym, subst, arith, slice_index, Contains, option_map_or, option_or, cases_Bool, nat_tests, MAX_TICKS, Configuration, ThreadId, Phase, Source, Work, Choice, Label, Entry, Has, is_same, is_of, payer, thread_of, quiet, Thread, threads, rem, job, thread_rem, Hold, held_by, innermost_left, is_holding, past_level, blocking, level_of, want, chosen, HasChosenLabel, Always, BlocksAtMost, working_level, spent, AreFamilies, has_row, row-slot, effective_level, holds_within, dropped_cells, held_cells, AreCells, Wish, want_in, wishes_at, dropped, lowered, spent_wish, asking, claiming_level, spares_of, AreCounted, HaveOwnNodes, length-map, same-self, has-contains, has-filter, Says, AreWishes, Seat, seat_at, left_on, spent_on, Tables, IsSound, node_in, IsReady, IsCharged, seat_of, HasWork, charged, counts, level_in, first_in, MayBudget, MaySlack, AreSeated, AreJobs}
+use Rattle.dk_trace.specs.Holds.{hold_left}
 use Rattle.dk_recount.specs.Needed.{ChoosingLaws as Laws}
 use Rattle.dk_recount.proofs.Rows.{slot-is, nodes-differ}
 use Rattle.dk_recount.proofs.Choosing.{holders-fit, worker-there, row-of, own-nodes, front-owned}
 use Rattle.dk_recount.proofs.Charge.Labels.{TickLaws, levels-spent}
 use Rattle.dk_recount.proofs.Charge.Recount.{same-threads, same-rows, same-loans, has-work, cell-at, wishes-kept, moves, counting, unpaid-jobs, jobs-before, counted-is, may-count, levels-of}
 use Rattle.dk_recount.proofs.Holding.{last-least}
-use Rattle.dk_ready.specs.Recount.{AreSeated}
-use Rattle.dk_ready.specs.Recount.{IsRecount as AreJobs}
 
 same-length : (node : ℕ) (wishes : List (List Wish)) → length (spent_wish node wishes) ≡ length wishes
 same-length node wishes = go (eqb (want_in node wishes) 1)

@@ -1,18 +1,5 @@
 -- The unclaimed ticks are those of the tick's label, whatever its event is, as long as who paid for a tick keeps its level.
-use Rattle.std.proofs.Common.{◌≡◌, ◌∙◌, inl, inr, List, ◌∷◌, length, Option, Some, None, refl, ap, sym}
-use Rattle.std.specs.Option.{option_map_or, option_or}
-use Rattle.dk_config.specs.Configuration.{Configuration}
-use Rattle.dk_trace.specs.declared.ThreadId.{ThreadId}
-use Rattle.dk_trace.specs.declared.Entry.{Entry}
-use Rattle.dk_trace.specs.Entries.{kernel_level, payer, quiet}
-use Rattle.dk_trace.specs.Members.{Has}
-use Rattle.dk_trace.specs.Threads.{threads}
-use Rattle.dk_trace.specs.Slack.{level_of}
-use Rattle.dk_trace.proofs.Members.{contains-has}
-use Rattle.dk_slack.specs.Unclaimed.{counted}
-use Rattle.dk_slack.specs.Recount.{unclaimed_of}
-use Rattle.dk_slack.specs.Laws.{TickCountsUnclaimed}
-use Rattle.dk_bound.proofs.TickMoves.{threads-charged}
+use Rattle.dk_recount.proofs.Names.{◌≡◌, ◌∙◌, inl, inr, List, ◌∷◌, length, Option, Some, None, refl, ap, sym, option_map_or, option_or, Configuration, ThreadId, Entry, kernel_level, payer, quiet, Has, threads, level_of, contains-has, counted, unclaimed_of, TickCountsUnclaimed, threads-charged}
 
 pub unclaimed-kept : TickCountsUnclaimed → (c : Configuration) (e : Entry) (past : List Entry)
     → ((t : Entry) (x : ThreadId) → Has (e ∷ past) t → payer t.label ≡ Some x → level_of (threads c (e ∷ past)) x ≡ level_of (threads c past) x)

@@ -1,31 +1,9 @@
 -- A create of whoever is in a call.
-use Rattle.std.proofs.Common.{arith, ◌≡◌, ◌<◌, ◌+◌, ◌∙◌, true, eqb, ℕ, List, ◌∷◌, length, Some, None, refl, ap, sym, subst}
-use Rattle.std.specs.Option.{option_map_or}
-use Rattle.dk_config.specs.declared.TheConstants.{MAX_TICKS}
-use Rattle.dk_config.specs.Configuration.{Configuration}
-use Rattle.dk_trace.specs.declared.ThreadId.{ThreadId}
-use Rattle.dk_trace.specs.declared.Label.{Label}
-use Rattle.dk_trace.specs.declared.Event.{Event}
-use Rattle.dk_trace.specs.declared.Entry.{Entry}
-use Rattle.dk_trace.specs.Members.{Has}
-use Rattle.dk_trace.specs.Threads.{Thread, family, is_main, threads}
-use Rattle.dk_trace.specs.Refusals.{create_refusal}
-use Rattle.dk_trace.specs.Audit.{Follows}
-use Rattle.dk_trace.specs.Entries.{quiet}
-use Rattle.dk_bound.specs.Laws.{Always}
-use Rattle.dk_bound.specs.Callers.{CallersStand, CallerStands}
-use Rattle.dk_windows.specs.Clock.{clock_at, end_at}
-use Rattle.dk_threads.specs.Table.{AreFamilies, has_room, serials_at, stands}
-use Rattle.dk_recount.specs.Tables.{IsSound, Tables}
-use Rattle.dk_recount.specs.Recount.{IsBooked}
-use Rattle.dk_recount.specs.Events.{IsCalling, with_event}
-use Rattle.dk_recount.specs.Creating.{MayCreate, child_row, create_refusal_in, with_child}
-use Rattle.dk_recount.specs.Facing.{Creates, IsNewRow, create_refusal_of}
+use Rattle.dk_recount.proofs.Names.{arith, ◌≡◌, ◌<◌, ◌+◌, ◌∙◌, true, eqb, ℕ, List, ◌∷◌, length, Some, None, refl, ap, sym, subst, option_map_or, MAX_TICKS, Configuration, ThreadId, Label, Event, Entry, Has, Thread, family, is_main, threads, create_refusal, Follows, quiet, Always, CallersStand, CallerStands, clock_at, end_at, AreFamilies, has_room, serials_at, stands, IsSound, Tables, IsBooked, IsCalling, with_event, MayCreate, child_row, create_refusal_in, with_child, Creates, IsNewRow, create_refusal_of, lend_refusal}
 use Rattle.dk_recount.proofs.Create.Recount.{created-booked}
 use Rattle.dk_recount.proofs.Create.Recount.{Laws as BookLaws}
 use Rattle.dk_recount.proofs.Create.Needs.{fits, known, lend-none, main-is, may-create, room, standing}
 use Rattle.dk_recount.proofs.Create.Needs.{Laws as MayLaws}
-use Rattle.dk_budget.specs.Calls.{lend_refusal}
 use Rattle.dk_recount.proofs.Create.Slot.{is-new}
 
 pub record MakeLaws : Type 0 where

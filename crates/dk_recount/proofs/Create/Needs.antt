@@ -1,57 +1,9 @@
 -- What the tables of a charged tick owe the create of a main that executes in it.
-use Rattle.std.proofs.Common.{◌≡◌, ◌<◌, ◌+◌, ◌*◌, ◌/◌, ◌∙◌, inl, inr, not, Bool, true, false, eqb, ltb, ℕ, List, [], ◌∷◌, length, map, Option, Some, None, refl, ap, sym, subst, arith}
-use Rattle.std.specs.Prelude.{nat_lt, nat_le, sum_by, slice_get, filter, filter_map, find, if◌then◌else◌, MatchOption}
-use Rattle.std.specs.List.{cons_option}
-use Rattle.std.specs.Option.{option_map_or}
-use Rattle.std.proofs.lemmas.Bool.{cases_Bool, and_parts, ltb-true, lt-ltb, ltb-false, leb-false}
-use Rattle.std.proofs.lemmas.Bool.Decides.{nat_tests}
-use Rattle.dk_config.specs.declared.TheConstants.{MAX_TICKS}
-use Rattle.dk_config.specs.Configuration.{Configuration}
-use Rattle.dk_config.specs.Checked.{IsChecked, IsAccepted}
-use Rattle.dk_config.specs.Windows.{period, budget, main_level, max_level, slots}
-use Rattle.dk_trace.specs.declared.ThreadId.{ThreadId}
-use Rattle.dk_trace.specs.declared.Label.{Label}
-use Rattle.dk_trace.specs.declared.Event.{Event}
-use Rattle.dk_trace.specs.declared.Entry.{Entry}
-use Rattle.dk_trace.specs.declared.Refusal.{Refusal}
-use Rattle.dk_trace.specs.Entries.{is_same, is_of, quiet}
-use Rattle.dk_trace.specs.Members.{Has}
-use Rattle.dk_trace.specs.Threads.{Thread, threads, family, is_main}
-use Rattle.dk_trace.specs.Jobs.{thread_rem}
-use Rattle.dk_trace.specs.Refusals.{create_refusal, least_share, standing_children}
-use Rattle.dk_trace.specs.Audit.{Audited, Follows, ThreadFollows, MayHave, row_of, done_refusal}
-use Rattle.dk_trace.proofs.Same.{same-self}
-use Rattle.dk_trace.proofs.Members.{has-map, filter-has}
-use Rattle.dk_trace.proofs.Charged.{family-charged}
-use Rattle.dk_trace.proofs.Rows.{family-few, family-among}
-use Rattle.dk_trace.proofs.Events.{levels-slots}
-use Rattle.dk_trace.proofs.Loans.{is-lent}
-use Rattle.dk_bound.specs.Laws.{Always}
-use Rattle.dk_bound.specs.Moves.{AtEachEntry, AtEachTick}
-use Rattle.dk_bound.specs.TickMoves.{TickLowersRem}
-use Rattle.dk_bound.specs.Rows.{AbsentHaveNothing, FamiliesStand, RowsAreNamed, FamilyStands}
-use Rattle.dk_bound.specs.Callers.{CallersRun}
-use Rattle.dk_bound.proofs.TickMoves.{threads-charged}
-use Rattle.dk_threads.specs.declared.row.State.{State}
-use Rattle.dk_threads.specs.declared.row.ThreadRow.{ThreadRow}
-use Rattle.dk_threads.specs.declared.family.Family.{Family}
-use Rattle.dk_threads.specs.Table.{AreFamilies, rows_of, children_at, most_at, serials_at, has_room, has_serials, is_running, stands}
-use Rattle.dk_threads.specs.Recount.{has_row, row_at, counted_row, unplaced, state_of, main_id}
-use Rattle.dk_threads.specs.Laws.{FreesSlots}
-use Rattle.dk_threads.proofs.Finding.{rows-lent, running-row}
-use Rattle.dk_threads.proofs.NamedRows.{row-there}
-use Rattle.dk_budget.specs.Book.{Book}
-use Rattle.dk_budget.specs.Calls.{lend_refusal}
-use Rattle.dk_budget.specs.Laws.{RefusesLoans}
-use Rattle.dk_rail.specs.Queues.{queue_at, holds}
-use Rattle.dk_ready.proofs.Moving.{none-holds, no-holder}
-use Rattle.dk_recount.specs.Tables.{Tables, IsSound, node_in}
-use Rattle.dk_recount.specs.Recount.{is_ready, ready_nodes, IsRecount}
-use Rattle.dk_recount.specs.Events.{IsCalling}
-use Rattle.dk_recount.specs.Creating.{MayCreate, create_refusal_in, free_node}
+use Rattle.dk_recount.proofs.Names.{◌≡◌, ◌<◌, ◌+◌, ◌*◌, ◌/◌, ◌∙◌, inl, inr, Bool, true, false, eqb, ltb, ℕ, List, [], ◌∷◌, length, map, Option, Some, None, refl, ap, sym, subst, arith, nat_lt, nat_le, sum_by, slice_get, filter, filter_map, find, if◌then◌else◌, MatchOption, cons_option, option_map_or, cases_Bool, and_parts, ltb-true, lt-ltb, ltb-false, leb-false, nat_tests, MAX_TICKS, Configuration, IsChecked, IsAccepted, period, budget, main_level, max_level, ThreadId, Label, Event, Entry, Refusal, is_same, is_of, quiet, Has, Thread, threads, family, is_main, thread_rem, create_refusal, least_share, standing_children, Audited, Follows, ThreadFollows, MayHave, row_of, done_refusal, same-self, has-map, filter-has, family-charged, family-few, family-among, levels-slots, is-lent, Always, AtEachEntry, AtEachTick, TickLowersRem, AbsentHaveNothing, FamiliesStand, RowsAreNamed, FamilyStands, CallersRun, threads-charged, State, ThreadRow, Family, AreFamilies, rows_of, children_at, most_at, serials_at, has_room, has_serials, is_running, stands, has_row, row_at, counted_row, unplaced, state_of, main_id, FreesSlots, rows-lent, running-row, row-there, Book, lend_refusal, RefusesLoans, queue_at, holds, none-holds, no-holder, Tables, IsSound, node_in, is_ready, ready_nodes, IsRecount, IsCalling, MayCreate, create_refusal_in, free_node, length-map}
+use Rattle.std.proofs.Common.{not}
+use Rattle.dk_config.specs.Windows.{slots}
 use Rattle.dk_recount.proofs.Stop.Present.{worker-has-row}
 use Rattle.dk_recount.proofs.Create.Node.{apart, below-nodes}
-use Rattle.std.proofs.lemmas.List.{length-map}
 
 pub record Laws : Type 0 where
   pub families : Always FamiliesStand

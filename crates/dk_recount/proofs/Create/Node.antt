@@ -1,22 +1,5 @@
 -- Where a process has room, the node of its next child is nobody's.
-use Rattle.std.proofs.Common.{◌≡◌, ◌<◌, ◌≤◌, ◌+◌, ◌*◌, inl, inr, true, false, eqb, ℕ, [], ◌∷◌, length, Some, ap, sym, subst, arith}
-use Rattle.std.specs.Prelude.{slice_get}
-use Rattle.std.specs.Option.{option_map_or}
-use Rattle.std.proofs.lemmas.Bool.{cases_Bool, eq-eqb, eqb-true, ltb-true}
-use Rattle.std.proofs.lemmas.Option.{slice_get_within}
-use Rattle.dk_config.specs.declared.TheConstants.{MAX_CHILDREN, MAX_THREADS}
-use Rattle.dk_trace.specs.declared.ThreadId.{ThreadId}
-use Rattle.dk_trace.specs.Members.{Has}
-use Rattle.dk_trace.proofs.Members.{list_any-has}
-use Rattle.dk_threads.specs.declared.row.ThreadRow.{ThreadRow}
-use Rattle.dk_threads.specs.declared.family.Family.{Family}
-use Rattle.dk_threads.specs.Rows.{has_slot, is_taken}
-use Rattle.dk_threads.specs.Table.{Table, AreFamilies, rows_of, children_at, most_at, free_slot, has_room, stands}
-use Rattle.dk_threads.specs.Laws.{FreesSlots}
-use Rattle.dk_threads.proofs.NamedRows.{HasRow, row-slot}
-use Rattle.dk_threads.proofs.Births.{some-family}
-use Rattle.dk_recount.specs.Tables.{node_in}
-use Rattle.dk_recount.specs.Creating.{free_node}
+use Rattle.dk_recount.proofs.Names.{◌≡◌, ◌<◌, ◌≤◌, ◌+◌, ◌*◌, inl, inr, true, false, eqb, ℕ, [], ◌∷◌, length, Some, ap, sym, subst, arith, slice_get, option_map_or, cases_Bool, eq-eqb, eqb-true, ltb-true, slice_get_within, MAX_CHILDREN, MAX_THREADS, ThreadId, Has, list_any-has, ThreadRow, Family, has_slot, is_taken, Table, AreFamilies, rows_of, children_at, most_at, free_slot, has_room, stands, FreesSlots, HasRow, row-slot, some-family, node_in, free_node}
 use Rattle.dk_recount.proofs.Rows.{slot-is}
 
 apart-numbers : (p q s f : ℕ) → s ≤ MAX_CHILDREN → f ≤ MAX_CHILDREN → MAX_THREADS * q + s ≡ MAX_THREADS * p + f → (q ≡ p) × (s ≡ f)

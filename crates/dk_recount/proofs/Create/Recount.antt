@@ -1,87 +1,15 @@
 -- The tables in which a main has made a child are the recount of the past with its create.
-use Rattle.std.proofs.Common.{◌≡◌, ◌<◌, ◌+◌, ◌*◌, ◌-◌, ◌∙◌, ◌⊎◌, inl, inr, ◌&&◌, ◌||◌, not, Bool, true, false, eqb, ℕ, zero, suc, List, [], ◌∷◌, ◌++◌, length, map, take, Option, Some, None, is_none, option_map, refl, ap, sym, subst, arith}
-use Rattle.std.specs.Prelude.{nat_lt, slice_get, filter, find, if◌then◌else◌, MatchOption}
-use Rattle.std.specs.Option.{option_map_or, option_or}
-use Rattle.std.proofs.lemmas.Bool.{cases_Bool, and_parts, eqb-true, ltb-true}
-use Rattle.std.proofs.Math.Bool.{and-false}
-use Rattle.std.proofs.lemmas.List.Folds.{find-append}
-use Rattle.std.proofs.lemmas.List.{get_or-set_same}
-use Rattle.dk_config.specs.declared.TheConstants.{MAX_THREADS}
-use Rattle.dk_config.specs.Configuration.{Configuration}
-use Rattle.dk_config.specs.Sums.{below}
-use Rattle.dk_config.specs.Checked.{IsChecked, IsAccepted}
-use Rattle.dk_config.specs.Windows.{period, window_end}
-use Rattle.dk_trace.specs.declared.ThreadId.{ThreadId}
-use Rattle.dk_trace.specs.declared.Label.{Label}
-use Rattle.dk_trace.specs.declared.Event.{Event}
-use Rattle.dk_trace.specs.declared.Entry.{Entry}
-use Rattle.dk_trace.specs.Entries.{is_same, is_of, does, is_wait, stops, main_of, payer, thread_of, window, quiet}
-use Rattle.dk_trace.specs.Members.{Has}
-use Rattle.dk_trace.specs.Threads.{Thread, threads, family, after_entry, new_rows}
-use Rattle.dk_trace.specs.Jobs.{job, thread_rem, rem, is_closed}
-use Rattle.dk_trace.specs.Slack.{Request, request, want, level_of, last_request, no_request}
-use Rattle.dk_trace.specs.Holds.{Hold, held_by, hold_left, is_holding}
-use Rattle.dk_trace.specs.Audit.{Audited, Follows, ThreadFollows}
-use Rattle.dk_trace.proofs.Same.{same-id, same-self}
-use Rattle.dk_trace.proofs.Members.{filter-has, contains-has, has-contains, has-filter, find-nothing, old-there, new-from, find-grown, map-alike, map-rests}
-use Rattle.dk_trace.proofs.Whose.{label-payer}
-use Rattle.dk_trace.proofs.Holds.{quiet-holds}
-use Rattle.dk_trace.proofs.Charged.{family-charged}
-use Rattle.dk_trace.proofs.Rows.{family-among}
-use Rattle.dk_bound.specs.Laws.{Always}
-use Rattle.dk_bound.specs.Standing.{ThreadsPlaced, AskersThere, HoldersKnown, ChosenHolds}
-use Rattle.dk_bound.specs.Moves.{AtEachEntry, AtEachTick, released}
-use Rattle.dk_bound.specs.EventMoves.{EventCloses, EventLowersRem, NewHaveNothing, closes, closed_if}
-use Rattle.dk_bound.specs.ReadyMoves.{EventKeepsReady}
-use Rattle.dk_bound.specs.Rows.{AbsentHaveNothing, FamiliesStand, RowsAreNamed}
-use Rattle.dk_bound.specs.TickMoves.{TickSpends, TickLowersRem}
-use Rattle.dk_bound.proofs.TickMoves.{threads-charged}
-use Rattle.dk_bound.proofs.Bodies.{row-same}
-use Rattle.dk_bound.proofs.LastingAskers.{request-kept}
-use Rattle.dk_bound.proofs.Unborn.{serial-low, payer-low, no-request}
-use Rattle.dk_windows.specs.Clock.{clock_at, end_at}
-use Rattle.dk_threads.specs.declared.row.ThreadRow.{ThreadRow}
-use Rattle.dk_threads.specs.declared.family.Family.{Family}
-use Rattle.dk_threads.specs.Rows.{is_row_of}
-use Rattle.dk_threads.specs.Table.{Table, AreFamilies, rows_of, find_row, begun, serials_at, free_slot, has_room, new_row, next_id, stands}
-use Rattle.dk_threads.specs.Table.{changed_at as changed_family}
-use Rattle.dk_threads.specs.Recount.{has_row, entry_of, main_id}
-use Rattle.dk_threads.specs.Recount.{IsRecount as AreThreads}
-use Rattle.dk_threads.specs.Laws.{CreateAddsRow, FreesSlots}
-use Rattle.dk_threads.proofs.NamedRows.{HasRow, row-there}
-use Rattle.dk_threads.proofs.Descent.{changed-here, changed-there}
-use Rattle.dk_threads.proofs.Births.{begun-found, some-family}
-use Rattle.dk_budget.specs.Recount.{counted_lender, recount}
-use Rattle.dk_budget.specs.Calls.{lent_to, new_loan}
-use Rattle.dk_budget.specs.Calls.{changed_at as changed_lender}
-use Rattle.dk_budget.specs.Laws.{CreateAddsLoan, QuietKeepsLoans}
-use Rattle.dk_budget.proofs.Keeping.{changed-lenders, quiet-lender}
-use Rattle.dk_mutex.specs.declared.row.Holder.{Holder}
-use Rattle.dk_mutex.specs.declared.row.Lockable.{Lockable}
-use Rattle.dk_mutex.specs.Rows.{holder_left, left_of}
-use Rattle.dk_mutex.specs.Table.{left_at}
-use Rattle.dk_mutex.specs.Recount.{HasLevels, hold_at, counted_left}
-use Rattle.dk_mutex.specs.Recount.{IsRecount as AreHolders}
-use Rattle.dk_mutex.specs.Laws.{EventEndsHolds}
-use Rattle.dk_demand.specs.Moves.{EventMovesCells}
-use Rattle.dk_demand.specs.Recount.{IsRecount as AreCells}
-use Rattle.dk_slack.specs.Wishes.{Wish, wishes_at}
-use Rattle.dk_slack.specs.Recount.{spares_of, counted_wish, asking, AreCounted, AreOldestFirst, unclaimed_of}
-use Rattle.dk_slack.specs.Recount.{IsRecount as AreWishes}
-use Rattle.dk_rail.specs.Queues.{queue_at}
-use Rattle.dk_ready.specs.Roster.{seat_at, vacant, new_job}
-use Rattle.dk_ready.specs.Roster.{released as sat_down}
-use Rattle.dk_recount.specs.Tables.{Tables, IsSound, node_in}
-use Rattle.dk_recount.specs.Recount.{seat_of, is_ready, ready_nodes, IsCharged, IsBooked, IsRecount}
-use Rattle.dk_recount.specs.Creating.{free_node, new_seat, with_child}
+use Rattle.dk_recount.proofs.Names.{◌≡◌, ◌<◌, ◌+◌, ◌*◌, ◌-◌, ◌∙◌, ◌⊎◌, inl, inr, ◌&&◌, ◌||◌, Bool, true, false, eqb, ℕ, zero, suc, List, [], ◌∷◌, ◌++◌, length, map, take, Option, Some, None, is_none, option_map, refl, ap, sym, subst, arith, nat_lt, slice_get, filter, find, if◌then◌else◌, MatchOption, option_map_or, option_or, cases_Bool, and_parts, eqb-true, ltb-true, and-false, find-append, get_or-set_same, MAX_THREADS, Configuration, below, IsChecked, IsAccepted, period, window_end, ThreadId, Label, Event, Entry, is_same, is_of, does, is_wait, stops, main_of, payer, thread_of, window, quiet, Has, Thread, threads, family, after_entry, new_rows, job, thread_rem, rem, is_closed, Request, request, want, level_of, last_request, no_request, Hold, held_by, is_holding, Audited, Follows, ThreadFollows, same-id, same-self, filter-has, contains-has, has-contains, has-filter, find-nothing, old-there, new-from, find-grown, map-alike, map-rests, label-payer, quiet-holds, family-charged, family-among, Always, ThreadsPlaced, AskersThere, HoldersKnown, ChosenHolds, AtEachEntry, AtEachTick, EventCloses, EventLowersRem, NewHaveNothing, closes, closed_if, EventKeepsReady, AbsentHaveNothing, FamiliesStand, RowsAreNamed, TickSpends, TickLowersRem, threads-charged, row-same, request-kept, serial-low, payer-low, no-request, clock_at, end_at, ThreadRow, Family, is_row_of, Table, AreFamilies, rows_of, find_row, serials_at, free_slot, has_room, new_row, next_id, stands, changed_family, has_row, main_id, AreThreads, CreateAddsRow, FreesSlots, HasRow, row-there, changed-here, changed-there, begun-found, some-family, counted_lender, recount, lent_to, new_loan, changed_lender, CreateAddsLoan, QuietKeepsLoans, changed-lenders, quiet-lender, Holder, Lockable, holder_left, left_of, left_at, HasLevels, hold_at, counted_left, AreHolders, EventEndsHolds, EventMovesCells, AreCells, Wish, wishes_at, spares_of, counted_wish, asking, AreCounted, AreOldestFirst, unclaimed_of, AreWishes, queue_at, seat_at, vacant, new_job, sat_down, Tables, IsSound, node_in, seat_of, is_ready, ready_nodes, IsCharged, IsBooked, IsRecount, free_node, new_seat, with_child, TickCountsUnclaimed, EventKeepsParts, set-other}
+use Rattle.std.proofs.Common.{not}
+use Rattle.dk_trace.specs.Holds.{hold_left}
+use Rattle.dk_bound.specs.Moves.{released}
+use Rattle.dk_threads.specs.Table.{begun}
+use Rattle.dk_threads.specs.Recount.{entry_of}
 use Rattle.dk_recount.proofs.Stop.Present.{asker-row, worker-row}
 use Rattle.dk_recount.proofs.Charge.Recount.{ids-nodes}
 use Rattle.dk_recount.proofs.Create.Node.{below-nodes}
 use Rattle.dk_recount.proofs.Create.Node.{apart as no-node}
 use Rattle.dk_recount.proofs.Charge.Unclaimed.{unclaimed-kept}
-use Rattle.dk_slack.specs.Laws.{TickCountsUnclaimed}
-use Rattle.dk_ready.specs.Laws.{EventKeepsParts}
-use Rattle.dk_ready.proofs.Numbers.{set-other}
 
 -- the laws of the crates below that a create needs
 pub record Laws : Type 0 where

@@ -1,25 +1,6 @@
 -- The next child of a process gets a slot of its own, and all others keep theirs.
-use Rattle.std.proofs.Common.{◌≡◌, ◌+◌, ◌*◌, ◌∙◌, ◌⊎◌, inl, inr, ◌++◌, Bool, true, false, eqb, ℕ, [], ◌∷◌, Option, Some, None, option_map, refl, ap, sym}
-use Rattle.std.specs.Prelude.{find, slice_get, if◌then◌else◌}
-use Rattle.std.specs.Option.{option_map_or, option_or}
-use Rattle.std.proofs.lemmas.Bool.{cases_Bool, eqb-true}
-use Rattle.std.proofs.lemmas.List.Folds.{find-append}
-use Rattle.dk_config.specs.declared.TheConstants.{MAX_THREADS}
-use Rattle.dk_trace.specs.declared.ThreadId.{ThreadId}
-use Rattle.dk_trace.proofs.Same.{same-id}
-use Rattle.dk_trace.proofs.Members.{find-has}
-use Rattle.dk_windows.specs.Clock.{end_at}
-use Rattle.dk_threads.specs.declared.row.ThreadRow.{ThreadRow}
-use Rattle.dk_threads.specs.declared.family.Family.{Family}
-use Rattle.dk_threads.specs.Rows.{is_row_of}
-use Rattle.dk_threads.specs.Table.{AreFamilies, begun, children_at, find_row, free_slot, has_room, new_row, rows_of, serials_at, stands}
-use Rattle.dk_threads.specs.Laws.{FreesSlots}
-use Rattle.dk_threads.proofs.NamedRows.{HasRow}
-use Rattle.dk_threads.proofs.Descent.{changed-here, changed-there}
-use Rattle.dk_threads.proofs.Births.{begun-found, some-family}
-use Rattle.dk_recount.specs.Tables.{Tables, node_in}
-use Rattle.dk_recount.specs.Creating.{child_row, free_node, with_child}
-use Rattle.dk_recount.specs.Facing.{Adds, HasOwn, IsNewRow, slots}
+use Rattle.dk_recount.proofs.Names.{◌≡◌, ◌+◌, ◌*◌, ◌∙◌, ◌⊎◌, inl, inr, ◌++◌, Bool, true, false, eqb, ℕ, [], ◌∷◌, Option, Some, None, option_map, refl, ap, sym, find, slice_get, if◌then◌else◌, option_map_or, option_or, cases_Bool, eqb-true, find-append, MAX_THREADS, ThreadId, same-id, find-has, end_at, ThreadRow, Family, is_row_of, AreFamilies, children_at, find_row, free_slot, has_room, new_row, rows_of, serials_at, stands, FreesSlots, HasRow, changed-here, changed-there, begun-found, some-family, Tables, node_in, child_row, free_node, with_child, Adds, HasOwn, IsNewRow, slots}
+use Rattle.dk_threads.specs.Table.{begun}
 use Rattle.dk_recount.proofs.Create.Node.{free-here, not-free}
 
 -- the slot of a row that is found

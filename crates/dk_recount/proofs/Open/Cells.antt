@@ -1,41 +1,8 @@
 -- The levels' cells, the kernel's own parts and the unclaimed ticks at the next tick.
-use Rattle.std.proofs.Common.{◌≡◌, ◌<◌, ◌≤◌, ◌+◌, ◌*◌, ◌/◌, ◌∙◌, inl, inr, ◌&&◌, Bool, true, false, cond, eqb, leb, ltb, ℕ, zero, suc, List, ◌∷◌, length, map, get_or, add-one, refl, ap, sym, subst, arith, []}
-use Rattle.std.specs.Prelude.{slice_index, slice_set, sum_by, count_by}
-use Rattle.std.proofs.lemmas.Bool.{cases_Bool, eqb-true, leb-true, cond-true, cond-false}
-use Rattle.std.proofs.lemmas.Bool.Decides.{nat_tests}
-use Rattle.std.proofs.lemmas.List.FromFn.{length-map-range_with_len}
-use Rattle.dk_config.specs.declared.rows.LevelRow.{LevelRow}
-use Rattle.dk_config.specs.Configuration.{Configuration}
-use Rattle.dk_config.specs.Sums.{numbers, below, sum_from, sum_up_to}
-use Rattle.dk_config.specs.Windows.{period, release, window_start}
-use Rattle.dk_trace.specs.declared.Entry.{Entry}
-use Rattle.dk_trace.specs.Entries.{is_kernel_at}
-use Rattle.dk_trace.specs.Threads.{Thread, family, share}
-use Rattle.dk_trace.specs.Jobs.{Job}
-use Rattle.dk_trace.specs.Slack.{unclaimed}
-use Rattle.dk_trace.proofs.Members.{sum_by-flat, sum_by-same}
-use Rattle.dk_trace.proofs.Windows.{window-stays}
-use Rattle.dk_windows.specs.Clock.{Clock, begins_at, period_at}
-use Rattle.dk_threads.specs.Table.{Table}
-use Rattle.dk_budget.specs.Book.{Book}
-use Rattle.dk_budget.specs.Shares.{future_shares}
-use Rattle.dk_budget.specs.Recount.{counted_lender}
-use Rattle.dk_demand.specs.Cells.{Cells, released_cells}
-use Rattle.dk_demand.specs.Moves.{opened_cells, released_own, released_remaining}
-use Rattle.dk_demand.specs.Recount.{IsRecount as AreCells}
-use Rattle.dk_ready.specs.Roster.{new_job}
-use Rattle.dk_ready.proofs.Numbers.{map-same}
-use Rattle.dk_bound.specs.ClockMoves.{begins, starting_shares}
-use Rattle.dk_bound.specs.Moves.{shares_to_come as past_to_come}
-use Rattle.dk_bound.proofs.ClockMoves.{begins-start, begins-faster, within-start, window-new}
-use Rattle.dk_recount.specs.Recount.{kernel_part, releases_of}
-use Rattle.dk_recount.specs.Opening.{cells_begun, cells_set, counts_begun, is_between, kernel_work, own_in, parts_begun, remaining_in, shares_to_come}
+use Rattle.dk_recount.proofs.Names.{◌≡◌, ◌<◌, ◌≤◌, ◌+◌, ◌*◌, ◌/◌, ◌∙◌, inl, inr, ◌&&◌, Bool, true, false, cond, eqb, leb, ltb, ℕ, zero, suc, List, ◌∷◌, length, map, get_or, add-one, refl, ap, sym, subst, arith, [], slice_index, slice_set, sum_by, count_by, cases_Bool, eqb-true, leb-true, cond-true, cond-false, nat_tests, length-map-range_with_len, LevelRow, Configuration, numbers, below, sum_from, sum_up_to, period, release, window_start, Entry, is_kernel_at, Thread, family, share, Job, unclaimed, sum_by-flat, sum_by-same, window-stays, Clock, begins_at, period_at, Table, Book, future_shares, counted_lender, Cells, released_cells, opened_cells, released_own, released_remaining, AreCells, new_job, map-same, begins, starting_shares, past_to_come, begins-start, begins-faster, within-start, window-new, kernel_part, releases_of, cells_begun, cells_set, counts_begun, is_between, kernel_work, own_in, parts_begun, remaining_in, shares_to_come, sum_from-add, sum_from-same, set-level, number-at}
 use Rattle.dk_recount.proofs.Open.Clocks.{period-is}
 use Rattle.dk_recount.proofs.Open.Due.{Laws, IsDue}
 use Rattle.dk_recount.proofs.Open.Shares.{OnlyBegin, all-shares, future-is}
-use Rattle.dk_config.proofs.Sums.{sum_from-add, sum_from-same}
-use Rattle.dk_config.proofs.Counting.{set-level}
-use Rattle.dk_config.proofs.Lists.{number-at}
 
 -- the new at the first levels, and the old at the others
 abbrev pub part : {A : Type 0} → ℕ → (ℕ → A) → (ℕ → A) → ℕ → A

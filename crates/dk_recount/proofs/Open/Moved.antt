@@ -1,12 +1,6 @@
 -- How many threads get a fresh share at a tick, and that the tick moves each of them.
-use Rattle.std.proofs.Common.{◌≡◌, ◌≤◌, ◌&&◌, ◌||◌, Bool, true, false, ℕ, suc, List, [], ◌∷◌, length, is_none, refl, arith}
-use Rattle.std.specs.Prelude.{count_by, if◌then◌else◌}
-use Rattle.std.proofs.lemmas.List.Sums.{sum_by-cons}
-use Rattle.dk_config.specs.Configuration.{Configuration}
-use Rattle.dk_trace.specs.declared.Entry.{Entry}
-use Rattle.dk_trace.specs.Threads.{Thread, threads}
-use Rattle.dk_bound.specs.ClockMoves.{begins}
-use Rattle.dk_recount.specs.Counts.{ends_at, is_moved, moved, starts_at, stops_in}
+use Rattle.dk_recount.proofs.Names.{◌≡◌, ◌≤◌, ◌&&◌, ◌||◌, Bool, true, false, ℕ, suc, List, [], ◌∷◌, length, is_none, refl, arith, count_by, if◌then◌else◌, sum_by-cons, Configuration, Entry, Thread, threads, begins, is_moved, moved, starts_at, stops_in}
+use Rattle.dk_recount.specs.Counts.{ends_at}
 
 -- how many threads that were not stopped have a window of their level that begins
 abbrev pub released_now : Configuration → List Entry → ℕ

@@ -1,46 +1,8 @@
 -- Where no window begins, nobody is due to end or to start, and no loan is due to come back.
-use Rattle.std.proofs.Common.{◌≡◌, ◌<◌, ◌-◌, ◌%◌, ◌∙◌, inl, inr, ◌&&◌, not, Bool, true, false, cond, eqb, ℕ, suc, List, [], ◌∷◌, length, map, Option, Some, None, refl, ap, sym, subst, arith}
-use Rattle.std.specs.Prelude.{slice_get}
-use Rattle.std.specs.List.{range_with_len}
-use Rattle.std.specs.Option.{option_map_or}
-use Rattle.std.specs.Int.{◌∣◌}
-use Rattle.std.proofs.lemmas.Bool.{cases_Bool, ne_eqb}
-use Rattle.std.proofs.lemmas.List.FromFn.{length-map-range_with_len, get_or-map-range_with_len}
-use Rattle.std.proofs.lemmas.Option.{slice_get-get_or, slice_get_within}
-use Rattle.std.proofs.Math.Bool.{and-false}
-use Rattle.dk_config.specs.Configuration.{Configuration}
-use Rattle.dk_config.specs.Windows.{period, window_end}
-use Rattle.dk_config.proofs.Lists.{map-places-stay}
-use Rattle.dk_trace.specs.declared.ThreadId.{ThreadId}
-use Rattle.dk_trace.specs.declared.Entry.{Entry}
-use Rattle.dk_trace.specs.Members.{Has}
-use Rattle.dk_trace.specs.Threads.{Thread, family, is_main, is_void, is_ended_by, end_of}
-use Rattle.dk_trace.specs.Refusals.{standing_children}
-use Rattle.dk_trace.specs.Audit.{Audited}
-use Rattle.dk_trace.proofs.Members.{filter-has, map-has, filter-rests, filter_map-rests, map-rests, filter_map-has}
-use Rattle.dk_windows.specs.Clock.{Clock, clock_at, begins_at}
-use Rattle.dk_threads.specs.declared.family.Family.{Family}
-use Rattle.dk_threads.specs.declared.row.State.{State}
-use Rattle.dk_threads.specs.declared.row.ThreadRow.{ThreadRow}
-use Rattle.dk_threads.specs.Rows.{ends_at, is_starting, kept, started}
-use Rattle.dk_threads.specs.Table.{family_ended, family_started, rows_of}
-use Rattle.dk_threads.specs.Recount.{counted_row, end_in_row, row_at, unplaced}
-use Rattle.dk_threads.proofs.Finding.{row-says}
-use Rattle.dk_budget.specs.declared.loan.Loan.{Loan}
-use Rattle.dk_budget.specs.declared.lender.Lender.{Lender}
-use Rattle.dk_budget.specs.Loans.{is_ended_at}
-use Rattle.dk_budget.specs.Book.{Book}
-use Rattle.dk_budget.specs.Calls.{all_given_back, given_back, with_loans}
-use Rattle.dk_budget.specs.Recount.{counted_lender, counted_loan, recount}
-use Rattle.dk_bound.specs.Laws.{Always}
-use Rattle.dk_bound.specs.ClockMoves.{begins}
-use Rattle.dk_bound.specs.Rows.{FamiliesStand}
-use Rattle.dk_bound.proofs.ClockMoves.{not-now}
-use Rattle.dk_recount.specs.Tables.{Tables}
-use Rattle.dk_recount.specs.Recount.{IsClosed}
-use Rattle.dk_recount.specs.Opening.{due, due_threads}
+use Rattle.dk_recount.proofs.Names.{◌≡◌, ◌<◌, ◌-◌, ◌%◌, ◌∙◌, inl, inr, ◌&&◌, Bool, true, false, cond, eqb, ℕ, suc, List, [], ◌∷◌, length, map, Option, Some, None, refl, ap, sym, subst, arith, slice_get, range_with_len, option_map_or, ◌∣◌, cases_Bool, ne_eqb, length-map-range_with_len, get_or-map-range_with_len, slice_get-get_or, slice_get_within, and-false, Configuration, period, window_end, map-places-stay, ThreadId, Entry, Has, Thread, family, is_main, is_void, is_ended_by, end_of, standing_children, Audited, filter-has, map-has, filter-rests, filter_map-rests, map-rests, filter_map-has, Clock, clock_at, begins_at, Family, State, ThreadRow, ends_at, is_starting, kept, started, family_ended, family_started, rows_of, counted_row, end_in_row, row_at, unplaced, row-says, Loan, Lender, is_ended_at, Book, all_given_back, with_loans, counted_lender, counted_loan, recount, Always, begins, FamiliesStand, not-now, Tables, IsClosed, due, due_threads, dvd-end}
+use Rattle.std.proofs.Common.{not}
+use Rattle.dk_budget.specs.Calls.{given_back}
 use Rattle.dk_recount.proofs.Open.Clocks.{period-is}
-use Rattle.dk_trace.proofs.Rows.{dvd-end}
 
 module _ (families : Always FamiliesStand) (c : Configuration) (e : Entry) (past : List Entry) (d : Tables) (stands : IsClosed c e past d) (audited : Audited c (e ∷ past))
     (off : begins_at d.demand.windows 0 ≡ false) where

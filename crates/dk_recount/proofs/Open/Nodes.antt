@@ -1,30 +1,6 @@
 -- The nodes of the threads, before and after the ends and starts of a tick.
-use Rattle.std.proofs.Common.{◌≡◌, ◌<◌, ◌≤◌, ◌+◌, ◌*◌, ◌∙◌, inl, inr, true, false, eqb, ℕ, List, [], ◌∷◌, length, map, Option, Some, None, option_map, refl, ap, sym, subst}
-use Rattle.std.specs.Prelude.{slice_get, find, filter_map}
-use Rattle.std.specs.Option.{option_map_or}
-use Rattle.std.proofs.lemmas.Bool.{cases_Bool}
-use Rattle.std.proofs.lemmas.Option.{slice_get-map}
-use Rattle.dk_config.specs.declared.TheConstants.{MAX_THREADS}
-use Rattle.dk_config.specs.Configuration.{Configuration}
-use Rattle.dk_trace.specs.declared.ThreadId.{ThreadId}
-use Rattle.dk_trace.specs.declared.Entry.{Entry}
-use Rattle.dk_trace.specs.Entries.{is_same}
-use Rattle.dk_trace.specs.Members.{Has}
-use Rattle.dk_trace.specs.Threads.{Thread, family}
-use Rattle.dk_trace.proofs.Same.{same-id, same-self}
-use Rattle.dk_trace.proofs.Members.{find-has}
-use Rattle.dk_threads.specs.declared.row.ThreadRow.{ThreadRow}
-use Rattle.dk_threads.specs.declared.family.Family.{Family}
-use Rattle.dk_threads.specs.Rows.{is_row_of, ends_at, kept, started}
-use Rattle.dk_threads.specs.Table.{Table, rows_of, find_row, family_ended, family_started, AreFamilies}
-use Rattle.dk_threads.specs.Recount.{has_row, end_in_row}
-use Rattle.dk_threads.specs.Recount.{IsRecount as AreThreads}
-use Rattle.dk_threads.proofs.Finding.{rows-apart, row-lasts, row-before, find-left, row-of-thread}
-use Rattle.dk_threads.proofs.NamedRows.{row-there}
-use Rattle.dk_recount.specs.Tables.{slot_in, node_in}
-use Rattle.dk_recount.specs.Opening.{due_threads}
+use Rattle.dk_recount.proofs.Names.{◌≡◌, ◌<◌, ◌≤◌, ◌+◌, ◌*◌, ◌∙◌, inl, inr, true, false, eqb, ℕ, List, [], ◌∷◌, length, map, Option, Some, None, option_map, refl, ap, sym, subst, slice_get, find, filter_map, option_map_or, cases_Bool, slice_get-map, MAX_THREADS, Configuration, ThreadId, Entry, is_same, Has, Thread, family, same-id, same-self, find-has, ThreadRow, Family, is_row_of, ends_at, kept, started, Table, rows_of, find_row, family_ended, family_started, AreFamilies, has_row, end_in_row, AreThreads, rows-apart, row-lasts, row-before, find-left, row-of-thread, row-there, slot_in, node_in, due_threads, node_on}
 use Rattle.dk_recount.proofs.Rows.{slot-is}
-use Rattle.dk_recount.specs.Stopping.{node_on}
 
 -- and so are all threads
 find-due : (now : ℕ) (t : Table) (i : ThreadId) (row : ThreadRow) → find_row t i ≡ Some row → ends_at now row ≡ false

@@ -1,42 +1,10 @@
 -- The tables of a closed tick are those of the next one once it is opened.
-use Rattle.std.proofs.Common.{◌≡◌, ◌<◌, ◌≤◌, ◌+◌, ◌*◌, ◌∙◌, inl, inr, Bool, true, false, cond, ℕ, zero, suc, List, [], ◌∷◌, length, map, get_or, add-one, refl, ap, sym, subst, arith}
-use Rattle.std.specs.Prelude.{slice_set}
-use Rattle.std.proofs.lemmas.Bool.{cases_Bool, cond-false}
-use Rattle.std.proofs.lemmas.List.{length-map}
-use Rattle.std.proofs.lemmas.List.Sums.{sum_by-cons}
-use Rattle.dk_config.specs.declared.TheConstants.{MAX_THREADS}
-use Rattle.dk_config.specs.Configuration.{Configuration}
-use Rattle.dk_config.specs.Sums.{numbers, below}
-use Rattle.dk_config.proofs.Counting.{length-numbers, length-map-numbers}
-use Rattle.dk_trace.specs.declared.Entry.{Entry}
-use Rattle.dk_trace.specs.Members.{Has}
-use Rattle.dk_trace.specs.Jobs.{Job}
-use Rattle.dk_trace.specs.Audit.{Audited}
-use Rattle.dk_windows.specs.Clock.{Clock, clock_at, begins_at}
-use Rattle.dk_threads.specs.declared.row.ThreadRow.{ThreadRow}
-use Rattle.dk_threads.specs.Table.{Table, AreFamilies}
-use Rattle.dk_threads.specs.Recount.{IsRecount as AreThreads}
-use Rattle.dk_budget.specs.Book.{Book}
-use Rattle.dk_budget.specs.Sound.{ArePeriods}
-use Rattle.dk_budget.specs.Recount.{recount}
-use Rattle.dk_budget.specs.Calls.{all_given_back}
-use Rattle.dk_budget.proofs.Starting.{periods-sound}
-use Rattle.dk_demand.specs.Cells.{Cells}
-use Rattle.dk_demand.specs.Recount.{IsRecount as AreCells}
-use Rattle.dk_slack.specs.Wishes.{Wish, dropped}
-use Rattle.dk_ready.specs.Roster.{Roster, new_job, released}
-use Rattle.dk_bound.specs.ClockMoves.{begins}
-use Rattle.dk_bound.proofs.ClockMoves.{begins-faster}
-use Rattle.dk_recount.specs.Tables.{Tables, IsSound}
-use Rattle.dk_recount.specs.Recount.{IsRecount, IsClosed, IsReady, kernel_part, releases_of}
-use Rattle.dk_recount.specs.Opening.{MayBegin, all_rows, begin_steps, begun, begun_if, cell_steps, cells_begun, cells_set, counts_begun, due, due_threads, given, open_steps, opened, own_in, parts_begun, quieted, remaining_in, seat_in}
+use Rattle.dk_recount.proofs.Names.{◌≡◌, ◌<◌, ◌≤◌, ◌+◌, ◌*◌, ◌∙◌, inl, inr, Bool, true, false, cond, ℕ, zero, suc, List, [], ◌∷◌, length, map, get_or, add-one, refl, ap, sym, subst, arith, slice_set, cases_Bool, cond-false, length-map, sum_by-cons, MAX_THREADS, Configuration, numbers, below, length-numbers, length-map-numbers, Entry, Has, Job, Audited, Clock, clock_at, begins_at, ThreadRow, Table, AreFamilies, AreThreads, Book, ArePeriods, recount, all_given_back, periods-sound, Cells, AreCells, Wish, dropped, Roster, new_job, released, begins, begins-faster, Tables, IsSound, IsRecount, IsClosed, IsReady, kernel_part, releases_of, MayBegin, all_rows, begin_steps, begun, begun_if, cell_steps, cells_begun, cells_set, counts_begun, due, due_threads, given, open_steps, opened, own_in, parts_begun, quieted, remaining_in, seat_in, moved, node_on}
 use Rattle.dk_recount.proofs.Open.Sizes.{given-switch, quieted-length, cells-windows}
-use Rattle.dk_recount.specs.Counts.{moved}
 use Rattle.dk_recount.proofs.Open.Moved.{released-moved, released_now}
 use Rattle.dk_recount.proofs.Open.Due.{Laws, IsDue}
 use Rattle.dk_recount.proofs.Open.Cells.{begins-is, cells-are, kernel-are, counts-are}
 use Rattle.dk_recount.proofs.Open.Seats.{rows-known, rows-sit, rows-off, ready-are, seats-are, wishes-are, steps-few}
-use Rattle.dk_recount.specs.Stopping.{node_on}
 
 -- Where no window begins nothing changes.
 

@@ -1,21 +1,7 @@
 -- What giving the rows their shares does to the seats and the queues.
-use Rattle.std.proofs.Common.{◌≡◌, ◌<◌, ◌∙◌, inl, inr, ◌&&◌, ◌||◌, Bool, true, false, cond, eqb, ℕ, zero, suc, List, [], ◌∷◌, ◌++◌, length, map, get_or, refl, ap, sym, subst, arith}
-use Rattle.std.specs.Prelude.{slice_set, filter, not, is_some}
-use Rattle.std.proofs.lemmas.Bool.{cases_Bool, eqb-true, cond-true, cond-false, ne_eqb, eq-eqb}
-use Rattle.std.proofs.lemmas.List.{append-nil, append_assoc, get_or-set_same}
-use Rattle.dk_trace.specs.Members.{Has}
-use Rattle.dk_windows.specs.Clock.{Clock, begins_at}
-use Rattle.dk_threads.specs.declared.row.ThreadRow.{ThreadRow}
-use Rattle.dk_budget.specs.Book.{Book}
-use Rattle.dk_slack.specs.Wishes.{Wish, dropped, is_of, wishes_at}
-use Rattle.dk_rail.specs.Queues.{holds, pushed, queue_at}
-use Rattle.dk_ready.specs.Roster.{Roster, released, seat_at, vacant}
-use Rattle.dk_ready.proofs.Numbers.{set-other}
-use Rattle.dk_ready.proofs.Seated.{nowhere}
-use Rattle.dk_ready.proofs.Moving.{Absent, holds-append}
-use Rattle.dk_recount.specs.Opening.{CanAllSit, given, given_one, quieted, quieted_one, seat_in, share_in}
+use Rattle.dk_recount.proofs.Names.{◌≡◌, ◌<◌, ◌∙◌, inl, inr, ◌&&◌, ◌||◌, Bool, true, false, cond, eqb, ℕ, zero, suc, List, [], ◌∷◌, ◌++◌, length, map, get_or, refl, ap, sym, subst, arith, slice_set, filter, not, is_some, cases_Bool, eqb-true, cond-true, cond-false, ne_eqb, eq-eqb, append-nil, append_assoc, get_or-set_same, Has, Clock, begins_at, ThreadRow, Book, Wish, dropped, wishes_at, holds, pushed, queue_at, Roster, released, seat_at, vacant, set-other, nowhere, Absent, holds-append, CanAllSit, given, given_one, quieted, quieted_one, seat_in, share_in, node_on}
+use Rattle.dk_slack.specs.Wishes.{is_of}
 use Rattle.dk_recount.proofs.Open.Sizes.{given-seats, given-lists}
-use Rattle.dk_recount.specs.Stopping.{node_on}
 
 -- no two rows have one node
 abbrev pub AreApart : List ThreadRow → Type 0

@@ -1,13 +1,5 @@
 -- The rows one by one: what is left to do of them.
-use Rattle.std.proofs.Common.{◌≡◌, ◌<◌, ◌+◌, ◌-◌, ◌∙◌, Bool, cond, ℕ, suc, List, [], ◌∷◌, ◌++◌, refl, ap, arith}
-use Rattle.std.proofs.lemmas.List.Sums.{sum_by-cons}
-use Rattle.dk_windows.specs.Clock.{Clock}
-use Rattle.dk_threads.specs.declared.row.ThreadRow.{ThreadRow}
-use Rattle.dk_threads.specs.Table.{Table}
-use Rattle.dk_budget.specs.Book.{Book}
-use Rattle.dk_slack.specs.Wishes.{Wish}
-use Rattle.dk_ready.specs.Roster.{Roster}
-use Rattle.dk_recount.specs.Opening.{AreKnown, CanAllSit, given, given_one, given_steps, quieted, quieted_one, rows_from, rows_in, share_in, shares_in}
+use Rattle.dk_recount.proofs.Names.{◌≡◌, ◌<◌, ◌+◌, ◌-◌, ◌∙◌, Bool, cond, ℕ, suc, List, [], ◌∷◌, ◌++◌, refl, ap, arith, sum_by-cons, Clock, ThreadRow, Table, Book, Wish, Roster, AreKnown, CanAllSit, given, given_one, given_steps, quieted, quieted_one, rows_from, rows_in, share_in, shares_in}
 
 pub rows-next : (table : Table) (p n : ℕ) → p < n → rows_from table p (n - p) ≡ rows_in table p ++ rows_from table (p + 1) (n - (p + 1))
 rows-next table p n less =

@@ -1,51 +1,7 @@
 -- The threads at the next tick: their seats, the ready queues and the wishes.
-use Rattle.std.proofs.Common.{◌≡◌, ◌<◌, ◌≤◌, ◌+◌, ◌-◌, ◌*◌, ◌/◌, ◌∙◌, ◌⊎◌, inl, inr, ◌&&◌, ◌||◌, Bool, true, false, cond, eqb, leb, ltb, ℕ, zero, suc, List, [], ◌∷◌, ◌++◌, length, map, Option, Some, None, add-one, refl, ap, sym, subst, arith}
-use Rattle.std.specs.Prelude.{slice_get, filter, filter_map, find, not, is_none, is_some, sum_by, Contains}
-use Rattle.std.specs.List.{cons_option, flat_map}
-use Rattle.std.specs.Option.{option_map_or, option_or}
-use Rattle.std.proofs.lemmas.Bool.{cases_Bool, cases_lt, and_parts, ltb-true, eqb-true, cond-true, cond-false, lt-ltb}
-use Rattle.std.proofs.lemmas.Bool.Decides.{nat_tests}
-use Rattle.dk_config.specs.declared.TheConstants.{MAX_CHILDREN, MAX_THREADS}
-use Rattle.dk_config.specs.declared.rows.LevelRow.{LevelRow}
-use Rattle.dk_config.specs.Configuration.{Configuration}
-use Rattle.std.proofs.lemmas.List.Sums.{sum_by-cons, sum_by-append}
-use Rattle.std.proofs.lemmas.List.{map-append, append-nil}
-use Rattle.std.proofs.lemmas.Simd.{map-map}
-use Rattle.std.proofs.lemmas.List.Elements.{filter-append}
-use Rattle.dk_config.specs.Sums.{numbers, first_of, sum_from}
-use Rattle.dk_config.specs.Windows.{budget, main_level, period, window_start}
-use Rattle.dk_config.proofs.Lists.{map-none}
-use Rattle.dk_trace.specs.declared.ThreadId.{ThreadId}
-use Rattle.dk_trace.specs.declared.Entry.{Entry}
-use Rattle.dk_trace.specs.Members.{Has}
-use Rattle.dk_trace.specs.Threads.{Thread, threads, family, is_main, is_void, is_stopped_before, lent_at, main_share, child_share, share}
-use Rattle.dk_trace.specs.Jobs.{Job, job, rem, thread_rem}
-use Rattle.dk_trace.specs.Slack.{want}
-use Rattle.dk_trace.proofs.Members.{has-map, find-has, filter-has, has-flat_from, flat-has, sum_by-flat, contains-has, has-contains, has-append, nothing-in, has-filter_map, map-alike}
-use Rattle.dk_windows.specs.Clock.{Clock, begins_at}
-use Rattle.dk_threads.specs.declared.row.ThreadRow.{ThreadRow}
-use Rattle.dk_threads.specs.declared.family.Family.{Family}
-use Rattle.dk_threads.specs.declared.row.State.{State}
-use Rattle.dk_threads.specs.Rows.{AreChildren, is_stopped}
-use Rattle.dk_threads.specs.Table.{Table, rows_of}
-use Rattle.dk_threads.specs.Recount.{has_row, row_at, counted_row, state_of, unplaced}
-use Rattle.dk_threads.specs.Recount.{IsRecount as AreThreads}
-use Rattle.dk_threads.proofs.NamedRows.{HasRow, row-there, row-slot, child-slot, slot-apart}
-use Rattle.dk_threads.proofs.Finding.{row-before}
-use Rattle.dk_budget.specs.Book.{Book}
-use Rattle.dk_rail.specs.Queues.{holds, queue_at}
-use Rattle.dk_slack.specs.Wishes.{Wish, is_of, wishes_at}
-use Rattle.dk_slack.specs.Wishes.{want as wants}
-use Rattle.dk_slack.specs.Recount.{AreCounted, asking, counted_wish}
-use Rattle.dk_ready.specs.declared.seat.Seat.{Seat}
-use Rattle.dk_ready.specs.Roster.{Roster, new_job, seat_at}
-use Rattle.dk_ready.proofs.Moving.{Absent}
-use Rattle.dk_bound.specs.ClockMoves.{begins}
-use Rattle.dk_bound.specs.Rows.{FamilyStands}
-use Rattle.dk_bound.proofs.ClockMoves.{begins-start}
-use Rattle.dk_recount.specs.Tables.{node_in}
-use Rattle.dk_recount.specs.Recount.{seat_of, is_ready, ready_nodes}
-use Rattle.dk_recount.specs.Opening.{AreKnown, CanAllSit, all_rows, due_threads, given, given_steps, quieted, quieted_one, rows_from, rows_in, seat_in, share_in, steps_of}
+use Rattle.dk_recount.proofs.Names.{◌≡◌, ◌<◌, ◌≤◌, ◌+◌, ◌-◌, ◌*◌, ◌/◌, ◌∙◌, ◌⊎◌, inl, inr, ◌&&◌, ◌||◌, Bool, true, false, cond, eqb, leb, ltb, ℕ, zero, suc, List, [], ◌∷◌, ◌++◌, length, map, Option, Some, None, add-one, refl, ap, sym, subst, arith, slice_get, filter, filter_map, find, not, is_some, sum_by, Contains, cons_option, flat_map, option_map_or, option_or, cases_Bool, cases_lt, and_parts, ltb-true, eqb-true, cond-true, cond-false, lt-ltb, nat_tests, MAX_CHILDREN, MAX_THREADS, LevelRow, Configuration, sum_by-cons, sum_by-append, map-append, append-nil, map-map, filter-append, numbers, first_of, sum_from, budget, main_level, period, window_start, map-none, ThreadId, Entry, Has, Thread, threads, family, is_main, is_void, is_stopped_before, lent_at, main_share, child_share, share, Job, job, rem, thread_rem, want, has-map, find-has, filter-has, has-flat_from, flat-has, sum_by-flat, contains-has, has-contains, has-append, nothing-in, has-filter_map, map-alike, Clock, begins_at, ThreadRow, Family, State, AreChildren, is_stopped, Table, rows_of, has_row, row_at, counted_row, state_of, unplaced, AreThreads, HasRow, row-there, row-slot, child-slot, slot-apart, row-before, Book, holds, queue_at, Wish, wishes_at, wants, AreCounted, asking, counted_wish, Seat, Roster, new_job, seat_at, Absent, begins, FamilyStands, begins-start, node_in, seat_of, is_ready, ready_nodes, AreKnown, CanAllSit, all_rows, due_threads, given, given_steps, quieted, quieted_one, rows_from, rows_in, seat_in, share_in, steps_of, node_on}
+use Rattle.std.specs.Prelude.{is_none}
+use Rattle.dk_slack.specs.Wishes.{is_of}
 use Rattle.dk_recount.proofs.Rows.{nodes-differ}
 use Rattle.dk_recount.proofs.Open.Moved.{released_now}
 use Rattle.dk_recount.proofs.Stop.Present.{there-row, worker-has-row}
@@ -54,7 +10,6 @@ use Rattle.dk_recount.proofs.Open.Shares.{among-all, stands, row-thread, rows-ar
 use Rattle.dk_recount.proofs.Open.Cells.{begins-is, stays, lenders-are}
 use Rattle.dk_recount.proofs.Open.Nodes.{node-kept, node-of-row}
 use Rattle.dk_recount.proofs.Open.Rosters.{AreApart, gets, given-queue, can-sit, seat-other, seat-of-row, wishes-stay, wishes-left}
-use Rattle.dk_recount.specs.Stopping.{node_on}
 
 -- the wish of a node that asks
 want-some : (node : ℕ) (ws : List (List Wish)) → 0 < wants node ws → (k : ℕ) × (v : Wish) × Has (wishes_at ws k) v × (v.node ≡ node)

@@ -1,34 +1,5 @@
 -- The rows of the table are those of the threads, and the loans give them their shares.
-use Rattle.std.proofs.Common.{◌≡◌, ◌<◌, ◌≤◌, ◌+◌, ◌∙◌, inl, inr, ◌&&◌, ◌||◌, Bool, true, false, cond, eqb, ℕ, zero, suc, List, [], ◌∷◌, length, map, Option, Some, None, refl, ap, sym, subst, arith}
-use Rattle.std.specs.Prelude.{slice_get, find, filter_map, sum_by, not}
-use Rattle.std.specs.List.{cons_option}
-use Rattle.std.specs.Option.{option_map_or}
-use Rattle.std.proofs.lemmas.Bool.{cases_Bool, cond-true, cond-false}
-use Rattle.std.proofs.lemmas.List.Sums.{sum_by-cons}
-use Rattle.dk_config.specs.Configuration.{Configuration}
-use Rattle.dk_config.specs.Sums.{sum_from}
-use Rattle.dk_config.specs.Windows.{main_level, window_start}
-use Rattle.dk_trace.specs.declared.ThreadId.{ThreadId}
-use Rattle.dk_trace.specs.declared.Entry.{Entry}
-use Rattle.dk_trace.specs.Entries.{is_same}
-use Rattle.dk_trace.specs.Members.{Has}
-use Rattle.dk_trace.specs.Threads.{Thread, threads, family, is_main, is_void, is_ended_by, share}
-use Rattle.dk_trace.proofs.Same.{same-self}
-use Rattle.dk_trace.proofs.Members.{flat-has, filter_map-has}
-use Rattle.dk_windows.specs.Clock.{Clock}
-use Rattle.dk_threads.specs.declared.row.ThreadRow.{ThreadRow}
-use Rattle.dk_threads.specs.declared.family.Family.{Family}
-use Rattle.dk_threads.specs.Rows.{is_row_of}
-use Rattle.dk_threads.specs.Table.{Table, rows_of, find_row, children_at}
-use Rattle.dk_threads.specs.Recount.{has_row, row_at, counted_row, unplaced, main_id}
-use Rattle.dk_budget.specs.Book.{Book}
-use Rattle.dk_budget.specs.Shares.{present_main_share, present_child_share, future_shares}
-use Rattle.dk_budget.specs.Recount.{HasSlowerChildren, IsFamilyOf, recount}
-use Rattle.dk_bound.specs.ClockMoves.{begins}
-use Rattle.dk_bound.specs.Rows.{FamilyStands}
-use Rattle.dk_bound.specs.Moves.{shares_to_come as past_to_come}
-use Rattle.dk_bound.proofs.ClockMoves.{begins-start}
-use Rattle.dk_recount.specs.Opening.{rows_in, rows_from, all_rows, share_in, shares_in}
+use Rattle.dk_recount.proofs.Names.{◌≡◌, ◌<◌, ◌≤◌, ◌+◌, ◌∙◌, inl, inr, ◌&&◌, ◌||◌, Bool, true, false, cond, eqb, ℕ, zero, suc, List, [], ◌∷◌, length, map, Option, Some, None, refl, ap, sym, subst, arith, slice_get, find, filter_map, sum_by, not, cons_option, option_map_or, cases_Bool, cond-true, cond-false, sum_by-cons, Configuration, sum_from, main_level, window_start, ThreadId, Entry, is_same, Has, Thread, threads, family, is_main, is_void, is_ended_by, share, same-self, flat-has, filter_map-has, Clock, ThreadRow, Family, is_row_of, Table, rows_of, find_row, children_at, has_row, row_at, counted_row, unplaced, main_id, Book, present_main_share, present_child_share, future_shares, HasSlowerChildren, IsFamilyOf, recount, begins, FamilyStands, past_to_come, begins-start, rows_in, rows_from, all_rows, share_in, shares_in}
 use Rattle.dk_recount.proofs.Open.RowByRow.{shares-append}
 use Rattle.dk_recount.proofs.Open.Due.{Laws, IsDue}
 

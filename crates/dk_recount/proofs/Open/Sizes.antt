@@ -1,19 +1,6 @@
 -- The opening of a tick keeps the sizes of all tables.
-use Rattle.std.proofs.Common.{◌≡◌, ◌∙◌, Bool, true, false, cond, ℕ, List, [], ◌∷◌, length, get_or, refl}
-use Rattle.std.specs.Prelude.{slice_set, filter, not}
-use Rattle.std.proofs.lemmas.List.{length-map}
-use Rattle.dk_config.proofs.Lists.{slice_set-length}
-use Rattle.dk_trace.specs.Jobs.{Job}
-use Rattle.dk_windows.specs.Clock.{Clock, begins_at}
-use Rattle.dk_threads.specs.declared.row.ThreadRow.{ThreadRow}
-use Rattle.dk_threads.specs.Table.{Table}
-use Rattle.dk_budget.specs.Book.{Book}
-use Rattle.dk_demand.specs.Cells.{Cells}
-use Rattle.dk_slack.specs.Wishes.{Wish, dropped, is_of}
-use Rattle.dk_ready.specs.Roster.{Roster, new_job, released}
-use Rattle.dk_ready.proofs.Moving.{queued-lists}
-use Rattle.dk_recount.specs.Opening.{cells_begun, cells_set, counts_begun, given, given_one, own_in, parts_begun, quieted, quieted_one, remaining_in, seat_in}
-use Rattle.dk_recount.specs.Stopping.{node_on}
+use Rattle.dk_recount.proofs.Names.{◌≡◌, ◌∙◌, Bool, true, false, cond, ℕ, List, [], ◌∷◌, length, get_or, refl, slice_set, filter, not, length-map, slice_set-length, Job, Clock, begins_at, ThreadRow, Table, Book, Cells, Wish, dropped, Roster, new_job, released, queued-lists, cells_begun, cells_set, counts_begun, given, given_one, own_in, parts_begun, quieted, quieted_one, remaining_in, seat_in, node_on}
+use Rattle.dk_slack.specs.Wishes.{is_of}
 
 module _ (b : Book) (w : Clock) where
   pub given-seats : (rows : List ThreadRow) (r : Roster) → length (given b w rows r).seats ≡ length r.seats

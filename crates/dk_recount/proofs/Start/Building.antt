@@ -1,10 +1,5 @@
 -- The tables at tick 0 are built one level, and one process, after the other; and they are the recount of no entries.
-use Rattle.std.proofs.Common.{◌≡◌, ◌+◌, ◌∙◌, inl, inr, ℕ, true, false, cond, ltb, eqb, List, map, refl, ap, sym, arith}
-use Rattle.std.proofs.lemmas.Bool.{cases_eq, cases_lt}
-use Rattle.std.proofs.lemmas.Bool.Decides.{nat_tests}
-use Rattle.dk_config.specs.Sums.{below}
-use Rattle.dk_demand.specs.Levels.{at_level, set_to}
-use Rattle.dk_ready.proofs.Numbers.{map-same}
+use Rattle.dk_recount.proofs.Names.{◌≡◌, ◌+◌, ◌∙◌, inl, inr, ℕ, true, false, cond, ltb, eqb, List, map, refl, ap, sym, arith, cases_eq, cases_lt, nat_tests, below, at_level, set_to, map-same}
 
 -- f of each number that is low enough, and 0 of all others
 abbrev pub part_filled : (ℕ → ℕ) → ℕ → ℕ → ℕ

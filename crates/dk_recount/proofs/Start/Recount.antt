@@ -1,46 +1,7 @@
 -- The tables at tick 0 are the recount of no entries.
-use Rattle.std.proofs.Common.{◌≡◌, ◌<◌, ◌+◌, ◌*◌, ◌∙◌, ℕ, true, [], ◌∷◌, length, map, Option, Some, None, option_map, refl, ap, sym, arith}
-use Rattle.std.specs.Prelude.{slice_get, find}
-use Rattle.std.specs.List.{range_with_len}
-use Rattle.std.specs.Option.{option_map_or}
-use Rattle.std.proofs.lemmas.List.FromFn.{length-map-range_with_len}
-use Rattle.std.proofs.lemmas.List.{length-map, length-replicate}
-use Rattle.std.proofs.lemmas.Option.{slice_get-map}
-use Rattle.dk_config.specs.declared.TheConstants.{MAX_THREADS}
-use Rattle.dk_config.specs.declared.rows.LevelRow.{LevelRow}
-use Rattle.dk_config.specs.Configuration.{Configuration}
-use Rattle.dk_config.specs.Checked.{IsChecked, IsWithinLimits, IsAccepted}
-use Rattle.dk_config.specs.Certification.{level_demand}
-use Rattle.dk_config.proofs.Counting.{rows-numbers}
-use Rattle.dk_trace.specs.declared.ThreadId.{ThreadId}
-use Rattle.dk_trace.specs.Holds.{blocking}
-use Rattle.dk_trace.specs.Demand.{own_demand, remaining_demand}
-use Rattle.dk_trace.proofs.Same.{same-self}
-use Rattle.dk_trace.proofs.Holds.{no-blocking}
-use Rattle.dk_bound.specs.Standing.{StartsWithBudgets, StartsWithDemand}
-use Rattle.dk_threads.specs.declared.family.Family.{Family}
-use Rattle.dk_threads.specs.declared.row.ThreadRow.{ThreadRow}
-use Rattle.dk_threads.specs.Rows.{is_row_of}
-use Rattle.dk_threads.specs.Table.{table_at_start, first_family, main_row, rows_of as rows_in, find_row}
-use Rattle.dk_threads.specs.Recount.{IsRecount as AreThreads}
-use Rattle.dk_budget.specs.Book.{book_of, lender_of}
-use Rattle.dk_budget.specs.Recount.{IsRecount as AreLoans}
-use Rattle.dk_mutex.specs.declared.row.Lockable.{Lockable}
+use Rattle.dk_recount.proofs.Names.{◌≡◌, ◌<◌, ◌+◌, ◌*◌, ◌∙◌, ℕ, true, [], ◌∷◌, length, map, Option, Some, None, option_map, refl, ap, sym, arith, slice_get, find, range_with_len, option_map_or, length-map-range_with_len, length-map, length-replicate, slice_get-map, MAX_THREADS, LevelRow, Configuration, IsChecked, IsWithinLimits, IsAccepted, level_demand, rows-numbers, ThreadId, blocking, own_demand, remaining_demand, same-self, no-blocking, StartsWithBudgets, StartsWithDemand, Family, ThreadRow, is_row_of, table_at_start, first_family, main_row, find_row, AreThreads, book_of, lender_of, AreLoans, Lockable, HasLevels, AreHolders, no_wishes, spares_of, AreWishes, new_job, IsSound, node_in, IsReady, tables_at_start, own_of, MainsAreSeated, PartsAreReleased, is-seated, map-same, has_row, first-at}
+use Rattle.dk_threads.specs.Table.{rows_of as rows_in}
 use Rattle.dk_mutex.specs.Rows.{row_of, rows_of}
-use Rattle.dk_mutex.specs.Recount.{HasLevels}
-use Rattle.dk_mutex.specs.Recount.{IsRecount as AreHolders}
-use Rattle.dk_slack.specs.Slack.{at_start as no_wishes}
-use Rattle.dk_slack.specs.Recount.{spares_of}
-use Rattle.dk_slack.specs.Recount.{IsRecount as AreWishes}
-use Rattle.dk_ready.specs.Roster.{new_job}
-use Rattle.dk_recount.specs.Tables.{IsSound, node_in}
-use Rattle.dk_recount.specs.Recount.{IsReady}
-use Rattle.dk_recount.specs.Start.{tables_at_start, own_of}
-use Rattle.dk_ready.specs.Laws.{MainsAreSeated, PartsAreReleased}
-use Rattle.dk_ready.proofs.Seated.{is-seated}
-use Rattle.dk_ready.proofs.Numbers.{map-same}
-use Rattle.dk_threads.specs.Recount.{has_row}
-use Rattle.dk_threads.proofs.Recounting.{first-at}
 
 main-node : (c : Configuration) (p : ℕ) → p < length c.processes → node_in (table_at_start c) (record { process = p; serial = 0 }) ≡ MAX_THREADS * p
 main-node c p known =

@@ -1,16 +1,6 @@
 -- An event that stops one child: its exit or fault, or a delete of it.
-use Rattle.std.proofs.Common.{◌≡◌, ◌∙◌, inl, inr, ◌&&◌, ◌||◌, not, Bool, true, false, eqb, refl, ap, sym, subst, arith}
-use Rattle.std.specs.Option.{option_map_or}
-use Rattle.std.proofs.lemmas.Bool.{cases_Bool}
-use Rattle.std.proofs.lemmas.Bool.Decides.{nat_tests}
-use Rattle.std.proofs.Math.Bool.{and-false, or-false, and-true}
-use Rattle.dk_trace.specs.declared.ThreadId.{ThreadId}
-use Rattle.dk_trace.specs.declared.Entry.{Entry}
-use Rattle.dk_trace.specs.Entries.{is_same, is_of, is_end, is_delete_of, has_event, does, main_of, stops}
-use Rattle.dk_trace.specs.Threads.{Thread}
-use Rattle.dk_trace.proofs.Events.{not-main-of, whose, end-plain, IsPlain}
-use Rattle.dk_bound.specs.EventCases.{IsClosedAlone}
-use Rattle.dk_recount.specs.Stopping.{StopsChild}
+use Rattle.dk_recount.proofs.Names.{◌≡◌, ◌∙◌, inl, inr, ◌&&◌, ◌||◌, Bool, true, false, eqb, refl, ap, sym, subst, arith, option_map_or, cases_Bool, nat_tests, and-false, or-false, and-true, ThreadId, Entry, is_same, is_of, is_end, is_delete_of, has_event, does, main_of, stops, Thread, not-main-of, whose, end-plain, IsPlain, IsClosedAlone, StopsChild}
+use Rattle.std.proofs.Common.{not}
 
 pub plain : (e : Entry) (x : ThreadId) → StopsChild e x → IsPlain e.event
 plain e x is =

@@ -1,29 +1,5 @@
 -- Tables of a charged tick in which a child is stopped are those of the booked one once it is stopped.
-use Rattle.std.proofs.Common.{◌≡◌, ◌<◌, inl, inr, List, ◌∷◌, length, Some, ap, sym, subst, arith}
-use Rattle.std.proofs.lemmas.Bool.{cases_Bool}
-use Rattle.std.proofs.lemmas.Option.{slice_get_within}
-use Rattle.dk_config.specs.Configuration.{Configuration}
-use Rattle.dk_config.proofs.CheckedConfig.{user-mutex}
-use Rattle.dk_trace.specs.declared.ThreadId.{ThreadId}
-use Rattle.dk_trace.specs.declared.Label.{Label}
-use Rattle.dk_trace.specs.declared.Entry.{Entry}
-use Rattle.dk_trace.specs.Entries.{is_of, quiet}
-use Rattle.dk_trace.specs.Members.{Has}
-use Rattle.dk_trace.specs.Threads.{Thread, family}
-use Rattle.dk_trace.specs.Holds.{Hold, held_by}
-use Rattle.dk_trace.proofs.Holds.{has-aged, holding-some}
-use Rattle.dk_trace.proofs.Members.{find-has, map-has, filter_map-has}
-use Rattle.dk_trace.proofs.Charged.{quiet-stops, family-charged}
-use Rattle.dk_bound.specs.Standing.{HoldersKnown}
-use Rattle.dk_bound.specs.Rows.{FamiliesStand}
-use Rattle.dk_threads.specs.declared.row.ThreadRow.{ThreadRow}
-use Rattle.dk_threads.specs.Rows.{is_row_of}
-use Rattle.dk_threads.specs.Table.{Table, rows_of, find_row}
-use Rattle.dk_threads.specs.Recount.{row_at, counted_rows, unplaced}
-use Rattle.dk_threads.specs.Recount.{IsRecount as AreThreads}
-use Rattle.dk_threads.proofs.Finding.{row-says, RowOf}
-use Rattle.dk_threads.proofs.NamedRows.{rows-family}
-use Rattle.dk_mutex.specs.Recount.{AreMutexes}
+use Rattle.dk_recount.proofs.Names.{◌≡◌, ◌<◌, inl, inr, List, ◌∷◌, length, Some, ap, sym, subst, arith, cases_Bool, slice_get_within, Configuration, user-mutex, ThreadId, Label, Entry, is_of, quiet, Has, Thread, family, Hold, held_by, has-aged, holding-some, find-has, map-has, filter_map-has, quiet-stops, family-charged, HoldersKnown, FamiliesStand, ThreadRow, is_row_of, Table, rows_of, find_row, row_at, counted_rows, unplaced, AreThreads, row-says, RowOf, rows-family, AreMutexes}
 
 -- which thread a row is of
 pub thread-of-row : (c : Configuration) (label : Label) (past : List Entry) (table : Table) (row : ThreadRow) → AreThreads c (length past) (quiet label ∷ past) table

@@ -1,50 +1,7 @@
 -- The tables in which a child was stopped are the recount of the past with its end.
-use Rattle.std.proofs.Common.{◌≡◌, ◌<◌, ◌+◌, ◌∙◌, ◌&&◌, true, false, eqb, ltb, ℕ, List, [], ◌∷◌, length, Some, refl, ap, sym, subst, arith}
-use Rattle.std.specs.Prelude.{if◌then◌else◌}
-use Rattle.std.proofs.lemmas.Bool.Decides.{nat_tests}
-use Rattle.std.proofs.Math.Bool.{and-false}
-use Rattle.std.proofs.lemmas.Bool.{eq-eqb, both_ways}
-use Rattle.dk_config.specs.Configuration.{Configuration}
-use Rattle.dk_config.specs.Checked.{IsChecked, IsAccepted}
-use Rattle.dk_trace.specs.declared.ThreadId.{ThreadId}
-use Rattle.dk_trace.specs.declared.Entry.{Entry}
-use Rattle.dk_trace.specs.Entries.{is_same, stops, quiet}
-use Rattle.dk_trace.specs.Members.{Has}
-use Rattle.dk_trace.specs.Threads.{Thread, threads, family, after_entry, made_by, is_main}
-use Rattle.dk_trace.specs.Holds.{held_by, greatest_left, thread_blocking, blocking}
-use Rattle.dk_trace.specs.Demand.{own_demand, remaining_demand}
-use Rattle.dk_trace.specs.Audit.{Audited, Follows}
-use Rattle.dk_trace.proofs.Same.{same-self}
-use Rattle.dk_trace.proofs.Members.{map-has}
-use Rattle.dk_trace.proofs.Charged.{family-charged}
-use Rattle.dk_trace.proofs.Rows.{family-after, family-among}
-use Rattle.dk_bound.specs.Moves.{AtEachEntry}
-use Rattle.dk_bound.specs.EventCases.{OneIsClosed}
-use Rattle.dk_bound.specs.Rows.{RowsAreNamed}
-use Rattle.dk_windows.specs.Clock.{clock_at}
-use Rattle.dk_threads.specs.declared.row.ThreadRow.{ThreadRow}
-use Rattle.dk_threads.specs.Table.{Table, AreFamilies, find_row, runs, child_stopped}
-use Rattle.dk_threads.specs.Table.{changed_at as changed_family}
-use Rattle.dk_threads.specs.Recount.{has_row}
-use Rattle.dk_threads.specs.Recount.{IsRecount as AreThreads}
-use Rattle.dk_threads.proofs.NamedRows.{row-there}
-use Rattle.dk_threads.proofs.Descent.{stop-descends}
-use Rattle.dk_threads.proofs.Finding.{row-was, RowOf}
-use Rattle.dk_threads.proofs.Stops.{named, named-one}
-use Rattle.dk_budget.specs.Recount.{counted_lender, recount}
-use Rattle.dk_budget.specs.Calls.{stopped_child}
-use Rattle.dk_budget.specs.Calls.{changed_at as changed_lender}
-use Rattle.dk_budget.specs.Laws.{ChildsStopEndsLoan}
-use Rattle.dk_budget.proofs.Keeping.{changed-lenders, quiet-lender}
-use Rattle.dk_mutex.specs.Rows.{left_up_to}
-use Rattle.dk_demand.specs.Recount.{each_level}
-use Rattle.dk_demand.specs.Recount.{IsRecount as AreCells}
-use Rattle.dk_recount.specs.Tables.{Tables, IsSound, node_in}
-use Rattle.dk_recount.specs.Recount.{IsBooked, IsCharged, IsRecount}
-use Rattle.dk_recount.specs.Stopping.{StopsChild, shut, without_child}
+use Rattle.dk_recount.proofs.Names.{◌≡◌, ◌<◌, ◌+◌, ◌∙◌, ◌&&◌, true, false, eqb, ltb, ℕ, List, [], ◌∷◌, length, Some, refl, ap, sym, subst, arith, if◌then◌else◌, nat_tests, and-false, eq-eqb, both_ways, Configuration, IsChecked, IsAccepted, ThreadId, Entry, is_same, stops, quiet, Has, Thread, threads, family, after_entry, made_by, is_main, held_by, greatest_left, thread_blocking, blocking, own_demand, remaining_demand, Audited, Follows, same-self, map-has, family-charged, family-after, family-among, AtEachEntry, OneIsClosed, RowsAreNamed, clock_at, ThreadRow, Table, AreFamilies, find_row, runs, child_stopped, changed_family, has_row, AreThreads, row-there, stop-descends, row-was, RowOf, named, named-one, counted_lender, recount, stopped_child, changed_lender, ChildsStopEndsLoan, changed-lenders, quiet-lender, left_up_to, each_level, AreCells, Tables, IsSound, node_in, IsBooked, IsCharged, IsRecount, StopsChild, shut, without_child, Laws}
 use Rattle.dk_recount.proofs.Slots.{node-kept}
 use Rattle.dk_recount.proofs.Stop.Causes.{alone, plain, stops-one}
-use Rattle.dk_recount.specs.Needed.{StoppingLaws as Laws}
 use Rattle.dk_recount.proofs.Stop.ShutTables.{blocking-part, own-part, remaining-part}
 use Rattle.dk_recount.proofs.Stop.ShutRecount.{Shuts, blocking-new, held-by-stops, holders-new, levels-new, own-new, ready-new, remaining-new, seats-new, wishes-new}
 use Rattle.dk_recount.proofs.Stop.OneClosed.{first-part, lefts-here}

@@ -1,34 +1,6 @@
 -- A delete is refused by the rows as by the past.
-use Rattle.std.proofs.Common.{◌≡◌, ◌<◌, ◌∙◌, ◌&&◌, not, inl, inr, Bool, true, false, eqb, ℕ, List, [], ◌∷◌, length, Option, Some, None, is_none, refl, ap, sym, subst, arith}
-use Rattle.std.specs.Prelude.{if◌then◌else◌}
-use Rattle.std.specs.List.{list_any}
-use Rattle.std.specs.Option.{option_map_or}
-use Rattle.std.proofs.lemmas.Bool.{cases_Bool, and_parts}
-use Rattle.std.proofs.lemmas.Bool.Decides.{nat_tests}
-use Rattle.dk_config.specs.Configuration.{Configuration}
-use Rattle.dk_config.proofs.Lists.{none-stop}
-use Rattle.dk_trace.specs.declared.ThreadId.{ThreadId}
-use Rattle.dk_trace.specs.declared.Label.{Label}
-use Rattle.dk_trace.specs.declared.Entry.{Entry}
-use Rattle.dk_trace.specs.declared.Refusal.{Refusal}
-use Rattle.dk_trace.specs.Members.{Has}
-use Rattle.dk_trace.specs.Threads.{Thread, threads, family, is_main}
-use Rattle.dk_trace.specs.Refusals.{is_running_child, delete_refusal, first_refusal}
-use Rattle.dk_trace.proofs.Same.{same-id}
-use Rattle.dk_trace.proofs.Members.{find-has, list_any-has, any-has}
-use Rattle.dk_trace.proofs.Charged.{family-charged}
-use Rattle.dk_trace.proofs.Rows.{family-among}
-use Rattle.dk_trace.specs.Entries.{quiet}
-use Rattle.dk_bound.specs.Laws.{Always}
-use Rattle.dk_bound.specs.Rows.{FamiliesStand, RowsAreNamed}
-use Rattle.dk_threads.specs.declared.row.ThreadRow.{ThreadRow}
-use Rattle.dk_threads.specs.Rows.{is_row_of}
-use Rattle.dk_threads.specs.Table.{find_row, runs, is_child, is_running}
-use Rattle.dk_threads.proofs.Finding.{row-runs, running-row, RowOf}
-use Rattle.dk_threads.proofs.NamedRows.{row-there}
-use Rattle.dk_recount.specs.Tables.{Tables}
-use Rattle.dk_recount.specs.Recount.{IsCharged}
-use Rattle.dk_recount.specs.Stopping.{running_child, child_of, delete_refusal_in}
+use Rattle.dk_recount.proofs.Names.{◌≡◌, ◌<◌, ◌∙◌, ◌&&◌, inl, inr, Bool, true, false, eqb, ℕ, List, [], ◌∷◌, length, Option, Some, None, is_none, refl, ap, sym, subst, arith, if◌then◌else◌, list_any, option_map_or, cases_Bool, and_parts, nat_tests, Configuration, none-stop, ThreadId, Label, Entry, Refusal, Has, Thread, threads, family, is_main, is_running_child, delete_refusal, first_refusal, same-id, find-has, list_any-has, any-has, family-charged, family-among, quiet, Always, FamiliesStand, RowsAreNamed, ThreadRow, is_row_of, find_row, runs, is_child, is_running, row-runs, running-row, RowOf, row-there, Tables, IsCharged, running_child, child_of, delete_refusal_in}
+use Rattle.std.proofs.Common.{not}
 use Rattle.dk_recount.proofs.Stop.Child.{thread-of-row}
 
 module _ (c : Configuration) (label : Label) (past : List Entry) (d : Tables) (charged : IsCharged c label past d) (families : Always FamiliesStand) (named : Always RowsAreNamed) where

@@ -1,28 +1,5 @@
 -- The rows of a process that haven't been stopped are those of its threads that run.
-use Rattle.std.proofs.Common.{◌≡◌, ◌<◌, ◌≤◌, ◌+◌, ◌*◌, ◌∙◌, inl, inr, Bool, false, eqb, ℕ, List, [], ◌∷◌, length, map, Some, is_none, ap, sym, subst, arith}
-use Rattle.std.specs.Prelude.{filter, filter_map, find}
-use Rattle.std.proofs.lemmas.Bool.{cases_Bool}
-use Rattle.std.proofs.lemmas.Bool.Decides.{nat_tests}
-use Rattle.dk_config.specs.declared.TheConstants.{MAX_CHILDREN, MAX_THREADS}
-use Rattle.dk_config.specs.Configuration.{Configuration}
-use Rattle.dk_trace.specs.declared.ThreadId.{ThreadId}
-use Rattle.dk_trace.specs.declared.Label.{Label}
-use Rattle.dk_trace.specs.declared.Entry.{Entry}
-use Rattle.dk_trace.specs.Entries.{quiet}
-use Rattle.dk_trace.specs.Members.{Has}
-use Rattle.dk_trace.specs.Threads.{Thread, family}
-use Rattle.dk_trace.proofs.Same.{same-id, same-self}
-use Rattle.dk_trace.proofs.Members.{filter-has, map-has, find-some, filter_map-has}
-use Rattle.dk_trace.proofs.Charged.{family-charged}
-use Rattle.dk_bound.specs.Rows.{FamiliesStand}
-use Rattle.dk_threads.specs.declared.row.ThreadRow.{ThreadRow}
-use Rattle.dk_threads.specs.Rows.{AreChildren, is_row_of}
-use Rattle.dk_threads.specs.Table.{Table, AreFamilies, find_row, is_running, rows_of}
-use Rattle.dk_threads.specs.Recount.{row_at, counted_row, unplaced}
-use Rattle.dk_threads.specs.Recount.{IsRecount as AreThreads}
-use Rattle.dk_threads.proofs.Finding.{unplaced-running, running-rows, RowOf, row-says}
-use Rattle.dk_threads.proofs.NamedRows.{names-apart, child-slot, family-of, slot-apart, child-later, one-row}
-use Rattle.dk_recount.specs.Stopping.{node_on}
+use Rattle.dk_recount.proofs.Names.{◌≡◌, ◌<◌, ◌≤◌, ◌+◌, ◌*◌, ◌∙◌, inl, inr, Bool, false, eqb, ℕ, List, [], ◌∷◌, length, map, Some, is_none, ap, sym, subst, arith, filter, filter_map, find, cases_Bool, nat_tests, MAX_CHILDREN, MAX_THREADS, Configuration, ThreadId, Label, Entry, quiet, Has, Thread, family, same-id, same-self, filter-has, map-has, find-some, filter_map-has, family-charged, FamiliesStand, ThreadRow, AreChildren, is_row_of, Table, AreFamilies, find_row, is_running, rows_of, row_at, counted_row, unplaced, AreThreads, unplaced-running, running-rows, RowOf, row-says, names-apart, child-slot, family-of, slot-apart, child-later, one-row, node_on}
 use Rattle.dk_recount.proofs.Stop.ShutTables.{AreApart}
 
 -- Rows of one process in slots of their own are apart.

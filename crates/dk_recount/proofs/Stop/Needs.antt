@@ -1,47 +1,6 @@
 -- What the tables of a charged tick owe the stop of a child.
-use Rattle.std.proofs.Common.{◌≡◌, ◌<◌, ◌≤◌, ◌+◌, ◌*◌, ◌∙◌, true, eqb, ltb, leb, ℕ, List, ◌∷◌, length, Some, ap, sym, subst, arith}
-use Rattle.std.specs.Prelude.{slice_index, if◌then◌else◌, IsSome}
-use Rattle.std.specs.Option.{option_map_or}
-use Rattle.std.proofs.lemmas.Bool.Decides.{nat_tests}
-use Rattle.dk_config.specs.declared.TheConstants.{MAX_THREADS}
-use Rattle.dk_config.specs.Configuration.{Configuration}
-use Rattle.dk_config.specs.Checked.{IsChecked, IsAccepted}
-use Rattle.dk_trace.specs.declared.ThreadId.{ThreadId}
-use Rattle.dk_trace.specs.declared.Label.{Label}
-use Rattle.dk_trace.specs.declared.Entry.{Entry}
-use Rattle.dk_trace.specs.Members.{Has}
-use Rattle.dk_trace.specs.Threads.{Thread, threads}
-use Rattle.dk_trace.specs.Jobs.{job, thread_rem}
-use Rattle.dk_trace.specs.Holds.{held_by, greatest_left, thread_blocking, blocking}
-use Rattle.dk_trace.specs.Demand.{own_demand, remaining_demand}
-use Rattle.dk_trace.specs.Audit.{Audited}
-use Rattle.dk_threads.specs.declared.row.ThreadRow.{ThreadRow}
-use Rattle.dk_threads.specs.Table.{AreFamilies, find_row, runs, is_child}
-use Rattle.dk_threads.specs.Recount.{has_row}
-use Rattle.dk_threads.proofs.NamedRows.{HasRow, row-there, row-slot, rows-family}
-use Rattle.dk_threads.proofs.Finding.{RowOf}
-use Rattle.dk_mutex.specs.Rows.{left_up_to}
-use Rattle.dk_bound.proofs.TickMoves.{threads-charged}
-use Rattle.dk_demand.specs.Recount.{each_level}
-use Rattle.dk_rail.specs.Queues.{holder}
-use Rattle.dk_ready.specs.Roster.{left_on, dropped_on}
-use Rattle.dk_recount.specs.Tables.{Tables, IsSound, node_in}
-use Rattle.dk_recount.specs.Recount.{IsCharged, IsRecount}
-use Rattle.dk_recount.specs.Stopping.{node_on, MayShut, MayStopChild}
+use Rattle.dk_recount.proofs.Names.{◌≡◌, ◌<◌, ◌≤◌, ◌+◌, ◌*◌, ◌∙◌, true, eqb, ltb, leb, ℕ, List, ◌∷◌, length, Some, ap, sym, subst, arith, slice_index, if◌then◌else◌, IsSome, option_map_or, nat_tests, MAX_THREADS, Configuration, IsChecked, IsAccepted, ThreadId, Label, Entry, Has, Thread, threads, job, thread_rem, held_by, greatest_left, thread_blocking, blocking, own_demand, remaining_demand, Audited, ThreadRow, AreFamilies, find_row, runs, is_child, has_row, HasRow, row-there, row-slot, rows-family, RowOf, left_up_to, threads-charged, each_level, holder, left_on, dropped_on, Tables, IsSound, node_in, IsCharged, IsRecount, node_on, MayShut, MayStopChild, Laws, sum_by, eq-eqb, slice_get_within, thread_demand, rem, sum_by-term, family-charged, family-among, quiet, window_end, at_index, Seat}
 use Rattle.dk_recount.proofs.Stop.Child.{mutexes-there}
-use Rattle.dk_recount.specs.Needed.{StoppingLaws as Laws}
-use Rattle.std.specs.Prelude.{sum_by}
-use Rattle.std.proofs.lemmas.Bool.{eq-eqb}
-use Rattle.std.proofs.lemmas.Option.{slice_get_within}
-use Rattle.dk_trace.specs.Demand.{thread_demand}
-use Rattle.dk_trace.specs.Jobs.{rem}
-use Rattle.dk_trace.proofs.Members.{sum_by-term}
-use Rattle.dk_trace.proofs.Charged.{family-charged}
-use Rattle.dk_trace.proofs.Rows.{family-among}
-use Rattle.dk_trace.specs.Entries.{quiet}
-use Rattle.dk_config.specs.Windows.{window_end}
-use Rattle.dk_config.proofs.Counting.{at_index}
-use Rattle.dk_ready.specs.declared.seat.Seat.{Seat}
 
 leb-on : (a b j : ℕ) → a ≡ b → b ≤ j → leb a j ≡ true
 leb-on a b j same low = grind (arith, nat_tests)

@@ -1,34 +1,5 @@
 -- An event that closes one thread's window: what the tables then have.
-use Rattle.std.proofs.Common.{◌≡◌, ◌<◌, ◌+◌, ◌∙◌, inl, inr, true, false, Bool, eqb, leb, ℕ, List, [], ◌∷◌, length, Some, refl, ap, sym, subst, arith}
-use Rattle.std.specs.Prelude.{if◌then◌else◌}
-use Rattle.dk_config.specs.Configuration.{Configuration}
-use Rattle.dk_config.specs.Checked.{IsChecked, IsAccepted}
-use Rattle.dk_config.proofs.Lists.{eqb-flip}
-use Rattle.dk_trace.specs.declared.ThreadId.{ThreadId}
-use Rattle.dk_trace.specs.declared.Entry.{Entry}
-use Rattle.dk_trace.specs.Entries.{is_same, quiet}
-use Rattle.dk_trace.specs.Members.{Has}
-use Rattle.dk_trace.specs.Threads.{Thread, threads}
-use Rattle.dk_trace.specs.Holds.{held_by, greatest_left}
-use Rattle.dk_trace.specs.Demand.{own_demand, remaining_demand}
-use Rattle.dk_trace.specs.Audit.{Audited, Follows}
-use Rattle.dk_trace.proofs.Same.{same-id, same-self}
-use Rattle.dk_trace.proofs.Events.{IsPlain}
-use Rattle.dk_trace.proofs.Rows.{family-among}
-use Rattle.dk_bound.specs.Moves.{AtEachEntry}
-use Rattle.dk_bound.specs.EventMoves.{closes, given_up}
-use Rattle.dk_bound.specs.EventCases.{IsClosedAlone, OneIsClosed}
-use Rattle.dk_bound.specs.Rows.{RowsAreNamed}
-use Rattle.dk_threads.specs.declared.row.ThreadRow.{ThreadRow}
-use Rattle.dk_threads.specs.Table.{AreFamilies, find_row}
-use Rattle.dk_threads.proofs.Finding.{RowOf}
-use Rattle.dk_threads.proofs.Stops.{named}
-use Rattle.dk_mutex.specs.Rows.{left_up_to}
-use Rattle.dk_ready.specs.Roster.{dropped_on}
-use Rattle.dk_recount.specs.Tables.{Tables, IsSound}
-use Rattle.dk_recount.specs.Recount.{IsCharged}
-use Rattle.dk_recount.specs.Stopping.{node_on}
-use Rattle.dk_recount.specs.Needed.{StoppingLaws as Laws}
+use Rattle.dk_recount.proofs.Names.{◌≡◌, ◌<◌, ◌+◌, ◌∙◌, inl, inr, true, false, Bool, eqb, leb, ℕ, List, [], ◌∷◌, length, Some, refl, ap, sym, subst, arith, if◌then◌else◌, Configuration, IsChecked, IsAccepted, eqb-flip, ThreadId, Entry, is_same, quiet, Has, Thread, threads, held_by, greatest_left, own_demand, remaining_demand, Audited, Follows, same-id, same-self, IsPlain, family-among, AtEachEntry, closes, given_up, IsClosedAlone, OneIsClosed, RowsAreNamed, ThreadRow, AreFamilies, find_row, RowOf, named, left_up_to, dropped_on, Tables, IsSound, IsCharged, node_on, Laws}
 use Rattle.dk_recount.proofs.Stop.ShutTables.{own-part, remaining-part}
 use Rattle.dk_recount.proofs.Stop.ShutRecount.{Shuts, dropped-is, lefts-are}
 

@@ -1,28 +1,5 @@
 -- Who has something left or asks for slack at the end of a tick has a row.
-use Rattle.std.proofs.Common.{◌≡◌, ◌<◌, ◌≤◌, ◌∙◌, inl, inr, Bool, true, false, ltb, leb, ℕ, List, ◌∷◌, length, Option, Some, None, refl, ap, sym, subst, arith}
-use Rattle.std.specs.Prelude.{nat_lt}
-use Rattle.std.specs.Option.{option_map_or}
-use Rattle.std.proofs.lemmas.Bool.{cases_Bool, or_parts}
-use Rattle.std.proofs.lemmas.Bool.Decides.{nat_tests}
-use Rattle.std.proofs.Math.Bool.{or-true}
-use Rattle.dk_config.specs.Configuration.{Configuration}
-use Rattle.dk_config.specs.Windows.{period, window_end}
-use Rattle.dk_trace.specs.declared.Label.{Label}
-use Rattle.dk_trace.specs.declared.Entry.{Entry}
-use Rattle.dk_trace.specs.Members.{Has}
-use Rattle.dk_trace.specs.Entries.{stops, quiet}
-use Rattle.dk_trace.specs.Threads.{Thread, threads, after_entry, is_ended_by, is_main, is_void}
-use Rattle.dk_trace.specs.Jobs.{thread_rem}
-use Rattle.dk_trace.specs.Slack.{want}
-use Rattle.dk_trace.proofs.Rows.{window_end-above}
-use Rattle.dk_trace.proofs.Mains.{after-stopped}
-use Rattle.dk_bound.specs.Standing.{IsThere, AskersThere}
-use Rattle.dk_bound.specs.TickMoves.{TickSpends, TickLowersRem}
-use Rattle.dk_bound.specs.EventMoves.{EventLowersRem}
-use Rattle.dk_bound.specs.Rows.{AbsentHaveNothing, is_gone}
-use Rattle.dk_bound.proofs.Bodies.{row-same}
-use Rattle.dk_bound.proofs.LastingAskers.{want-before}
-use Rattle.dk_threads.specs.Recount.{has_row}
+use Rattle.dk_recount.proofs.Names.{◌≡◌, ◌<◌, ◌≤◌, ◌∙◌, inl, inr, Bool, true, false, ltb, leb, ℕ, List, ◌∷◌, length, Option, Some, None, refl, ap, sym, subst, arith, nat_lt, option_map_or, cases_Bool, or_parts, nat_tests, or-true, Configuration, period, window_end, Label, Entry, Has, stops, quiet, Thread, threads, after_entry, is_ended_by, is_main, is_void, thread_rem, want, window_end-above, after-stopped, IsThere, AskersThere, TickSpends, TickLowersRem, EventLowersRem, AbsentHaveNothing, is_gone, row-same, want-before, has_row}
 
 pub there-row : (c : Configuration) (now : ℕ) (x : Thread) → IsThere c now x → has_row c now x ≡ true
 there-row c now x is = let a = is.started in let b = is.lasts in rw (a, b) (or-true (is_main x))

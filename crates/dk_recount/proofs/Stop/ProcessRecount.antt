@@ -1,66 +1,9 @@
 -- The tables in which a process was stopped are the recount of the past with its main's end.
-use Rattle.std.proofs.Common.{◌≡◌, ◌<◌, ◌≤◌, ◌+◌, ◌-◌, ◌∙◌, inl, inr, ◌&&◌, ◌||◌, not, Bool, true, false, eqb, ℕ, suc, List, [], ◌∷◌, length, map, Option, Some, None, is_none, refl, ap, sym, subst, arith}
-use Rattle.std.specs.Prelude.{filter, find, nat_lt, nat_le, slice_get, slice_index, sum_by, if◌then◌else◌}
-use Rattle.std.specs.Option.{option_map_or}
-use Rattle.std.proofs.lemmas.Bool.{cases_Bool, and_parts, eq-eqb, eqb-true}
-use Rattle.std.proofs.lemmas.List.{length-map}
-use Rattle.std.proofs.lemmas.List.Sums.{sum_by-cons}
-use Rattle.std.proofs.lemmas.Option.{slice_get_within}
-use Rattle.dk_config.specs.Configuration.{Configuration}
-use Rattle.dk_config.specs.Checked.{IsChecked, IsAccepted}
-use Rattle.dk_trace.specs.declared.ThreadId.{ThreadId}
-use Rattle.dk_trace.specs.declared.Entry.{Entry}
-use Rattle.dk_trace.specs.Entries.{is_same, is_of, is_end, is_delete_of, has_event, does, main_of, stops, quiet}
-use Rattle.dk_trace.specs.Members.{Has}
-use Rattle.dk_trace.specs.Threads.{Thread, threads, family, after_entry, made_by, is_main}
-use Rattle.dk_trace.specs.Holds.{Hold, held_by, greatest_left, is_holding, thread_blocking, blocking}
-use Rattle.dk_trace.specs.Demand.{own_demand, remaining_demand}
-use Rattle.dk_trace.specs.Audit.{Audited, Follows}
-use Rattle.dk_trace.proofs.Same.{same-id, same-self}
-use Rattle.dk_trace.proofs.Members.{find-has, filter-has, list_any-has, map-has, has-filter, sum_by-map, any-has, sum-filter}
-use Rattle.dk_trace.proofs.Charged.{quiet-stops, family-charged}
-use Rattle.dk_trace.proofs.Rows.{family-after, threads-after, family-among, family-sum}
-use Rattle.dk_trace.proofs.Events.{end-no-delete, end-plain, whose, some-event}
-use Rattle.dk_bound.specs.Laws.{Always}
-use Rattle.dk_bound.specs.Statements.{HoldersStand}
-use Rattle.dk_bound.specs.Moves.{AtEachEntry, shares_to_come}
-use Rattle.dk_bound.specs.EventMoves.{GivenUp, closes, given_up}
-use Rattle.dk_bound.specs.EventCases.{IsMainsEnd, ProcessIsClosed, WhoCloses}
-use Rattle.dk_bound.specs.Rows.{FamiliesStand, RowsAreNamed}
-use Rattle.dk_windows.specs.Clock.{Clock, clock_at}
-use Rattle.dk_threads.specs.declared.row.ThreadRow.{ThreadRow}
-use Rattle.dk_threads.specs.declared.family.Family.{Family}
-use Rattle.dk_threads.specs.Rows.{is_row_of}
-use Rattle.dk_threads.specs.Table.{Table, AreFamilies, all_stopped, children_at, find_row, is_running, rows_of}
-use Rattle.dk_threads.specs.Table.{changed_at as changed_family}
-use Rattle.dk_threads.specs.Recount.{counted_row, has_row, main_id, unplaced}
-use Rattle.dk_threads.specs.Recount.{IsRecount as AreThreads}
-use Rattle.dk_threads.proofs.NamedRows.{row-there, one-row, rows-family}
-use Rattle.dk_threads.proofs.Descent.{process-descends}
-use Rattle.dk_threads.proofs.Finding.{row-was, running-row, row-runs, RowOf, paired-sum}
-use Rattle.dk_budget.specs.Shares.{future_shares}
-use Rattle.dk_budget.specs.Recount.{IsFamilyOf, counted_lender, counted_stop, recount}
-use Rattle.dk_budget.specs.Calls.{stopped_process}
-use Rattle.dk_budget.specs.Calls.{changed_at as changed_lender}
-use Rattle.dk_budget.specs.Laws.{MainsStopEndsLoans, TellsFutureShares}
-use Rattle.dk_budget.proofs.Keeping.{changed-lenders, quiet-lender}
-use Rattle.dk_mutex.specs.Rows.{left_up_to}
-use Rattle.dk_demand.specs.Levels.{by_level}
-use Rattle.dk_demand.specs.Recount.{each_level}
-use Rattle.dk_demand.specs.Recount.{IsRecount as AreCells}
-use Rattle.dk_config.proofs.Counting.{length-map-numbers, at_index}
-use Rattle.dk_config.proofs.Lists.{eqb-flip, none-stop}
-use Rattle.dk_slack.specs.Recount.{spares_of}
-use Rattle.dk_slack.specs.Recount.{IsRecount as AreWishes}
-use Rattle.dk_ready.specs.Roster.{dropped_on}
-use Rattle.dk_recount.specs.Tables.{Tables, IsSound, node_in}
-use Rattle.dk_recount.specs.Recount.{IsBooked, IsCharged, IsRecount}
-use Rattle.dk_recount.specs.Stopping.{node_on}
-use Rattle.dk_recount.specs.Counts.{stopped, stops_in}
-use Rattle.dk_recount.specs.Process.{MayStopProcess, StopsProcess, cells_lost, running_children, shut_all, without_process}
+use Rattle.dk_recount.proofs.Names.{◌≡◌, ◌<◌, ◌≤◌, ◌+◌, ◌-◌, ◌∙◌, inl, inr, ◌&&◌, ◌||◌, Bool, true, false, eqb, ℕ, suc, List, [], ◌∷◌, length, map, Option, Some, None, is_none, refl, ap, sym, subst, arith, filter, find, nat_lt, nat_le, slice_get, slice_index, sum_by, if◌then◌else◌, option_map_or, cases_Bool, and_parts, eq-eqb, eqb-true, length-map, sum_by-cons, slice_get_within, Configuration, IsChecked, IsAccepted, ThreadId, Entry, is_same, is_of, is_end, is_delete_of, has_event, does, main_of, stops, quiet, Has, Thread, threads, family, after_entry, made_by, is_main, Hold, held_by, greatest_left, is_holding, thread_blocking, blocking, own_demand, remaining_demand, Audited, Follows, same-id, same-self, find-has, filter-has, list_any-has, map-has, has-filter, sum_by-map, any-has, sum-filter, quiet-stops, family-charged, family-after, threads-after, family-among, family-sum, end-no-delete, end-plain, whose, some-event, Always, HoldersStand, AtEachEntry, GivenUp, closes, given_up, IsMainsEnd, ProcessIsClosed, WhoCloses, FamiliesStand, RowsAreNamed, Clock, clock_at, ThreadRow, Family, is_row_of, Table, AreFamilies, all_stopped, children_at, find_row, is_running, rows_of, changed_family, counted_row, has_row, main_id, unplaced, AreThreads, row-there, one-row, rows-family, process-descends, row-was, running-row, row-runs, RowOf, paired-sum, future_shares, IsFamilyOf, counted_lender, counted_stop, recount, stopped_process, changed_lender, MainsStopEndsLoans, TellsFutureShares, changed-lenders, quiet-lender, left_up_to, by_level, each_level, AreCells, length-map-numbers, at_index, eqb-flip, none-stop, spares_of, AreWishes, dropped_on, Tables, IsSound, node_in, IsBooked, IsCharged, IsRecount, node_on, stopped, stops_in, MayStopProcess, StopsProcess, cells_lost, running_children, shut_all, without_process, Laws}
+use Rattle.std.proofs.Common.{not}
+use Rattle.dk_bound.specs.Moves.{shares_to_come}
 use Rattle.dk_recount.proofs.Slots.{node-kept}
 use Rattle.dk_recount.proofs.Stop.Shut.{shut-kernel, shut-releases, shut-rights, shut-windows}
-use Rattle.dk_recount.specs.Needed.{StoppingLaws as Laws}
 use Rattle.dk_recount.proofs.Stop.ShutTables.{AreApart, CanShut, blocking-part, may-all, own-part, remaining-part, slack-shut, switch-shut}
 use Rattle.dk_recount.proofs.Stop.ShutRecount.{Shuts, blocking-new, dropped-is, held-by-stops, holders-new, lefts-are, levels-new, may-one, own-new, ready-new, remaining-new, seats-new, wishes-new}
 use Rattle.dk_recount.proofs.Stop.FamilyRows.{family-apart, filter-apart, found-row, in-family, owner, paired}

@@ -1,18 +1,6 @@
 -- The rows once a child or a process is stopped, from the laws on rows and events.
-use Rattle.std.proofs.Common.{◌≡◌, ◌<◌, inl, inr, true, false, List, ◌∷◌, length, Option, Some, None, refl, sym, subst}
-use Rattle.std.specs.Option.{option_map_or}
-use Rattle.dk_config.specs.Configuration.{Configuration}
-use Rattle.dk_config.specs.Checked.{IsChecked}
-use Rattle.dk_trace.specs.declared.ThreadId.{ThreadId}
-use Rattle.dk_trace.specs.declared.Event.{Event}
-use Rattle.dk_trace.specs.declared.Entry.{Entry}
-use Rattle.dk_trace.specs.Entries.{is_end, thread_of, quiet}
-use Rattle.dk_trace.proofs.Whose.{of-thread}
-use Rattle.dk_windows.specs.Clock.{clock_at}
-use Rattle.dk_threads.specs.Table.{Table, AreFamilies, runs, child_stopped, changed_at}
-use Rattle.dk_threads.specs.Recount.{IsRecount, main_id}
-use Rattle.dk_threads.specs.Laws.{ChildsEndStopsRow, DeleteStopsRow}
-use Rattle.dk_recount.specs.Stopping.{StopsChild}
+use Rattle.dk_recount.proofs.Names.{◌≡◌, ◌<◌, inl, inr, true, false, List, ◌∷◌, length, Option, Some, None, refl, sym, subst, option_map_or, Configuration, IsChecked, ThreadId, Event, Entry, is_end, thread_of, quiet, of-thread, clock_at, Table, AreFamilies, runs, child_stopped, changed_at, main_id, ChildsEndStopsRow, DeleteStopsRow, StopsChild}
+use Rattle.dk_threads.specs.Recount.{IsRecount}
 
 pub exits-by : ChildsEndStopsRow → DeleteStopsRow
     → (c : Configuration) (e : Entry) (past : List Entry) (table : Table) (x : ThreadId) → IsChecked c → AreFamilies table.levels table.families

@@ -1,30 +1,5 @@
 -- Whoever has an event runs by the rows.
-use Rattle.std.proofs.Common.{◌≡◌, ◌∙◌, true, false, List, ◌∷◌, length, Some, None, is_none, ap, sym, subst}
-use Rattle.std.specs.Option.{option_map_or}
-use Rattle.dk_config.specs.Configuration.{Configuration}
-use Rattle.dk_trace.specs.declared.ThreadId.{ThreadId}
-use Rattle.dk_trace.specs.declared.Label.{Label}
-use Rattle.dk_trace.specs.declared.Entry.{Entry}
-use Rattle.dk_trace.specs.Members.{Has}
-use Rattle.dk_trace.specs.Entries.{is_of, is_end, has_event, quiet}
-use Rattle.dk_trace.specs.Threads.{Thread, threads}
-use Rattle.dk_trace.specs.Audit.{Follows}
-use Rattle.dk_trace.proofs.Whose.{of-thread}
-use Rattle.dk_trace.proofs.Charged.{family-charged}
-use Rattle.dk_trace.proofs.Events.{some-event}
-use Rattle.dk_trace.proofs.Rows.{family-among}
-use Rattle.dk_bound.specs.Laws.{Always}
-use Rattle.dk_bound.specs.Moves.{AtEachEntry}
-use Rattle.dk_bound.specs.Standing.{ChosenHolds}
-use Rattle.dk_bound.specs.Rows.{FamiliesStand, RowsAreNamed}
-use Rattle.dk_bound.specs.Callers.{CallersRun}
-use Rattle.dk_bound.proofs.Sound.{tick-thread}
-use Rattle.dk_threads.specs.Table.{find_row, is_running}
-use Rattle.dk_threads.proofs.NamedRows.{row-there}
-use Rattle.dk_threads.proofs.Finding.{running-row, row-runs}
-use Rattle.dk_recount.specs.Tables.{Tables}
-use Rattle.dk_recount.specs.Recount.{IsCharged}
-use Rattle.dk_recount.specs.Stopping.{RunsByRow}
+use Rattle.dk_recount.proofs.Names.{◌≡◌, ◌∙◌, true, false, List, ◌∷◌, length, Some, None, is_none, ap, sym, subst, option_map_or, Configuration, ThreadId, Label, Entry, Has, is_of, is_end, has_event, quiet, Thread, threads, Follows, of-thread, family-charged, some-event, family-among, Always, AtEachEntry, ChosenHolds, FamiliesStand, RowsAreNamed, CallersRun, tick-thread, find_row, is_running, row-there, running-row, row-runs, Tables, IsCharged, RunsByRow}
 use Rattle.dk_recount.proofs.Stop.Child.{thread-of-row}
 
 -- the row of a thread that hasn't been stopped

@@ -1,12 +1,5 @@
 -- Threads that are shut one after the other.
-use Rattle.std.proofs.Common.{◌≡◌, ◌+◌, ◌*◌, inl, inr, ℕ, zero, suc, List, [], ◌∷◌, ◌++◌, drop, refl, arith, add-one}
-use Rattle.std.specs.Prelude.{filter}
-use Rattle.std.proofs.lemmas.Bool.{cases_Bool}
-use Rattle.dk_threads.specs.declared.row.ThreadRow.{ThreadRow}
-use Rattle.dk_threads.specs.Table.{is_running}
-use Rattle.dk_recount.specs.Tables.{Tables}
-use Rattle.dk_recount.specs.Stopping.{shut}
-use Rattle.dk_recount.specs.Process.{shut_all, MayShutAll, running_at}
+use Rattle.dk_recount.proofs.Names.{◌≡◌, ◌+◌, ◌*◌, inl, inr, ℕ, zero, suc, List, [], ◌∷◌, ◌++◌, drop, refl, arith, add-one, filter, cases_Bool, ThreadRow, is_running, Tables, shut, shut_all, MayShutAll, running_at}
 
 pub shut-join : (xs ys : List ThreadRow) (d : Tables) → shut_all (xs ++ ys) d ≡ shut_all ys (shut_all xs d)
 shut-join [] ys d = refl

@@ -1,60 +1,12 @@
 -- What holds of the tables once the threads are shut whose windows an event closes.
-use Rattle.std.proofs.Common.{◌≡◌, ◌<◌, ◌≤◌, ◌+◌, ◌-◌, ◌∙◌, inl, inr, ◌&&◌, not, Bool, true, false, eqb, ℕ, List, [], ◌∷◌, length, map, Some, None, refl, ap, sym, subst, arith}
-use Rattle.std.specs.Prelude.{filter, nat_lt, if◌then◌else◌}
+use Rattle.dk_recount.proofs.Names.{◌≡◌, ◌<◌, ◌≤◌, ◌+◌, ◌-◌, ◌∙◌, inl, inr, ◌&&◌, Bool, true, false, eqb, ℕ, List, [], ◌∷◌, length, map, Some, None, refl, ap, sym, subst, arith, filter, nat_lt, if◌then◌else◌, cases_Bool, and_parts, eq-eqb, eqb-true, ltb-true, nat_tests, Configuration, IsChecked, IsAccepted, period, ThreadId, Entry, is_same, is_of, stops, quiet, Has, Thread, threads, after_entry, made_by, job, rem, thread_rem, held_by, held_after, greatest_left, blocking, own_demand, remaining_demand, want, Audited, Follows, list_any-has, any-has, family-charged, after-has, threads-after, levels-stay, family-among, IsPlain, EventCloses, EventMovesHolds, closes, closed_if, given_up, TickSpends, RowsAreNamed, threads-charged, after-open, request-kept, want-shut, ThreadRow, AreFamilies, find_row, has_row, HasRow, row-there, row-was, RowOf, named, left_up_to, left_at, HasLevels, hold_at, AreHolders, by_level, each_level, wishes_at, AreCounted, ShutsAskers, spares_of, AreWishes, queue_at, Seat, closed, dropped_on, left_on, seat_at, leaves, seat-shut, Tables, IsSound, node_in, IsCharged, IsRecount, is_ready, ready_nodes, seat_of, node_on, MayShut, shut_all, Laws}
+use Rattle.std.proofs.Common.{not}
 use Rattle.std.specs.Option.{option_map}
-use Rattle.std.proofs.lemmas.Bool.{cases_Bool, and_parts, eq-eqb, eqb-true, ltb-true}
-use Rattle.std.proofs.lemmas.Bool.Decides.{nat_tests}
-use Rattle.dk_config.specs.Configuration.{Configuration}
-use Rattle.dk_config.specs.Checked.{IsChecked, IsAccepted}
-use Rattle.dk_config.specs.Windows.{period}
-use Rattle.dk_trace.specs.declared.ThreadId.{ThreadId}
-use Rattle.dk_trace.specs.declared.Entry.{Entry}
-use Rattle.dk_trace.specs.Entries.{is_same, is_of, stops, quiet}
-use Rattle.dk_trace.specs.Members.{Has}
-use Rattle.dk_trace.specs.Threads.{Thread, threads, after_entry, made_by}
-use Rattle.dk_trace.specs.Jobs.{job, rem, thread_rem}
-use Rattle.dk_trace.specs.Holds.{hold_left, held_by, held_after, greatest_left, blocking}
-use Rattle.dk_trace.specs.Demand.{own_demand, remaining_demand}
-use Rattle.dk_trace.specs.Slack.{want}
-use Rattle.dk_trace.specs.Audit.{Audited, Follows}
-use Rattle.dk_trace.proofs.Members.{list_any-has, any-has}
-use Rattle.dk_trace.proofs.Charged.{family-charged}
-use Rattle.dk_trace.proofs.Rows.{after-has, threads-after, levels-stay, family-among}
-use Rattle.dk_trace.proofs.Events.{IsPlain}
-use Rattle.dk_bound.specs.EventMoves.{EventCloses, EventMovesHolds, closes, closed_if, given_up}
-use Rattle.dk_bound.specs.TickMoves.{TickSpends}
-use Rattle.dk_bound.specs.Rows.{RowsAreNamed}
-use Rattle.dk_bound.proofs.TickMoves.{threads-charged}
-use Rattle.dk_bound.proofs.EventMoves.{after-open}
-use Rattle.dk_bound.proofs.LastingAskers.{request-kept, want-shut}
-use Rattle.dk_threads.specs.declared.row.ThreadRow.{ThreadRow}
-use Rattle.dk_threads.specs.Table.{AreFamilies, find_row}
-use Rattle.dk_threads.specs.Recount.{has_row}
-use Rattle.dk_threads.proofs.NamedRows.{HasRow, row-there}
-use Rattle.dk_threads.proofs.Finding.{row-was, RowOf}
-use Rattle.dk_threads.proofs.Stops.{named}
-use Rattle.dk_mutex.specs.Rows.{left_up_to}
-use Rattle.dk_mutex.specs.Table.{left_at}
-use Rattle.dk_mutex.specs.Recount.{HasLevels, hold_at}
-use Rattle.dk_mutex.specs.Recount.{IsRecount as AreHolders}
-use Rattle.dk_demand.specs.Levels.{by_level}
-use Rattle.dk_demand.specs.Recount.{each_level}
-use Rattle.dk_slack.specs.Wishes.{wishes_at}
-use Rattle.dk_slack.specs.Recount.{AreCounted, ShutsAskers, spares_of}
-use Rattle.dk_slack.specs.Recount.{IsRecount as AreWishes}
-use Rattle.dk_rail.specs.Queues.{queue_at}
-use Rattle.dk_ready.specs.declared.seat.Seat.{Seat}
-use Rattle.dk_ready.specs.Roster.{closed, dropped_on, left_on, seat_at}
-use Rattle.dk_ready.proofs.Closing.{leaves, seat-shut}
-use Rattle.dk_recount.specs.Tables.{Tables, IsSound, node_in}
-use Rattle.dk_recount.specs.Recount.{IsCharged, IsRecount, is_ready, ready_nodes, seat_of}
-use Rattle.dk_recount.specs.Stopping.{node_on, MayShut}
-use Rattle.dk_recount.specs.Process.{shut_all}
+use Rattle.dk_trace.specs.Holds.{hold_left}
 use Rattle.dk_recount.proofs.Rows.{nodes-differ}
 use Rattle.dk_recount.proofs.Stop.Present.{asker-row, worker-has-row, worker-row}
 use Rattle.dk_recount.proofs.Charge.Unclaimed.{unclaimed-kept}
 use Rattle.dk_recount.proofs.Stop.Child.{mutexes-there}
-use Rattle.dk_recount.specs.Needed.{StoppingLaws as Laws}
 use Rattle.dk_recount.proofs.Stop.Needs.{may-shut, node-row}
 use Rattle.dk_recount.proofs.Stop.ShutTables.{AreApart, AreInside, blocking-part, blocking-shut, held-before, left-shut, mutexes-shut, own-part, own-shut, queues-shut, remaining-part, remaining-shut, seats-shut, sits, wishes-length, wishes-shut}
 

@@ -1,39 +1,7 @@
 -- Threads that are shut one after the other, told by the tables before.
-use Rattle.std.proofs.Common.{◌≡◌, ◌<◌, ◌≤◌, ◌+◌, ◌-◌, ◌∙◌, inl, inr, ◌&&◌, ◌||◌, not, Bool, true, false, eqb, ltb, leb, ℕ, zero, suc, List, [], ◌∷◌, length, map, max, Option, Some, None, refl, ap, sym, subst, arith, length-set}
-use Rattle.std.specs.Prelude.{filter, nat_lt, nat_le, slice_get, slice_index, sum_by, if◌then◌else◌, IsSome}
-use Rattle.std.specs.List.{list_any}
-use Rattle.std.specs.Option.{option_map_or}
-use Rattle.std.proofs.lemmas.Bool.{cases_Bool, eq-eqb}
-use Rattle.std.proofs.lemmas.Bool.Decides.{nat_tests}
-use Rattle.std.proofs.lemmas.List.{length-map}
-use Rattle.std.proofs.lemmas.List.Sums.{sum_by-cons}
-use Rattle.dk_config.proofs.Lists.{filter-twice, filter-all, eqb-not}
-use Rattle.dk_trace.specs.declared.ThreadId.{ThreadId}
-use Rattle.dk_trace.specs.Entries.{is_same}
-use Rattle.dk_trace.specs.Jobs.{rem}
-use Rattle.dk_trace.specs.Members.{Has}
-use Rattle.dk_trace.proofs.Same.{same-id}
-use Rattle.dk_trace.proofs.Members.{sum_by-same}
-use Rattle.dk_threads.specs.declared.row.ThreadRow.{ThreadRow}
-use Rattle.dk_threads.proofs.Stops.{named}
-use Rattle.dk_mutex.specs.declared.row.Holder.{Holder}
-use Rattle.dk_mutex.specs.declared.row.Lockable.{Lockable}
-use Rattle.dk_mutex.specs.Rows.{freed, is_by, is_holder, holder_left, left_under, left_up_to}
-use Rattle.dk_mutex.specs.Table.{left_at}
-use Rattle.dk_mutex.specs.Recount.{emptied}
-use Rattle.dk_demand.specs.Levels.{by_level, at_level, from_level, less}
-use Rattle.dk_demand.proofs.Changing.{length-by_level, get_or-by_level}
-use Rattle.dk_demand.proofs.EachLevel.{by-twice}
-use Rattle.dk_rail.specs.Queues.{queue_at, holder, unlinked}
-use Rattle.dk_slack.specs.Wishes.{is_of as is_wish_of, wishes_at}
-use Rattle.dk_slack.specs.Laws.{DropsWishes}
-use Rattle.dk_ready.specs.declared.seat.Seat.{Seat}
-use Rattle.dk_ready.specs.Roster.{closed, dropped_on, left_on, seat_at}
-use Rattle.dk_recount.specs.Tables.{Tables}
-use Rattle.dk_recount.specs.Stopping.{node_on, shut, unblocked, MayShut}
-use Rattle.dk_recount.specs.Process.{shut_all, MayShutAll}
+use Rattle.dk_recount.proofs.Names.{◌≡◌, ◌<◌, ◌≤◌, ◌+◌, ◌-◌, ◌∙◌, inl, inr, ◌&&◌, ◌||◌, Bool, true, false, eqb, ltb, leb, ℕ, zero, suc, List, [], ◌∷◌, length, map, max, Option, Some, None, refl, ap, sym, subst, arith, length-set, filter, nat_lt, nat_le, slice_get, slice_index, sum_by, if◌then◌else◌, IsSome, list_any, option_map_or, cases_Bool, eq-eqb, nat_tests, length-map, sum_by-cons, filter-twice, filter-all, eqb-not, ThreadId, is_same, rem, Has, same-id, sum_by-same, ThreadRow, named, Holder, Lockable, freed, is_by, is_holder, holder_left, left_under, left_up_to, left_at, emptied, by_level, at_level, from_level, less, length-by_level, get_or-by_level, by-twice, queue_at, holder, unlinked, is_wish_of, wishes_at, DropsWishes, Seat, closed, dropped_on, left_on, seat_at, Tables, node_on, shut, unblocked, MayShut, shut_all, MayShutAll, holder-other, one-queue, leaves, one-seat, seat-shut}
+use Rattle.std.proofs.Common.{not}
 use Rattle.dk_recount.proofs.Cells.{by-nothing}
-use Rattle.dk_ready.proofs.Closing.{holder-other, one-queue, leaves, one-seat, seat-shut}
 
 -- whether one of the rows has the node, or the name
 abbrev pub sits : List ThreadRow → ℕ → Bool

@@ -1,10 +1,4 @@
-use Rattle.std.proofs.Common.{◌∙◌, ◌∷◌, inl, inr, eqb, ap, length, Some, refl}
-use Rattle.std.specs.Prelude.{if◌then◌else◌}
-use Rattle.std.proofs.lemmas.Bool.{cases_Bool}
-use Rattle.dk_trace.specs.declared.Refusal.{Refusal}
-use Rattle.dk_trace.specs.Entries.{quiet}
-use Rattle.dk_budget.specs.Book.{Book}
-use Rattle.dk_budget.specs.Calls.{lend_refusal}
+use Rattle.dk_recount.proofs.Names.{◌∙◌, ◌∷◌, inl, inr, eqb, ap, length, Some, refl, if◌then◌else◌, cases_Bool, Refusal, quiet, Book, lend_refusal}
 use Rattle.dk_recount.proofs.Create.Call.{create-refused}
 use Rattle.dk_recount.proofs.birth_laws.creates_are_refused_by_the_loans.Goals as goal
 

@@ -1,4 +1,4 @@
-use Rattle.dk_recount.specs.Needed.{StoppingLaws as Laws}
+use Rattle.dk_recount.proofs.Names.{Laws}
 use Rattle.dk_recount.proofs.Call.Wait.{waits}
 use Rattle.dk_recount.proofs.event_laws.waiting_makes_the_recount.Goals as goal
 

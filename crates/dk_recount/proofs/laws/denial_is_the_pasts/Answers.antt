@@ -1,9 +1,5 @@
-use Rattle.std.proofs.Common.{◌≡◌, length, ap, sym, subst, ◌∙◌}
+use Rattle.dk_recount.proofs.Names.{◌≡◌, length, ap, sym, subst, ◌∙◌, below, is_tight_at, first_unfit, NoneIsLate}
 use Rattle.std.specs.List.{find}
-use Rattle.dk_config.specs.Sums.{below}
-use Rattle.dk_trace.specs.Demand.{is_tight_at}
-use Rattle.dk_demand.specs.Cells.{first_unfit}
-use Rattle.dk_demand.specs.Recount.{NoneIsLate}
 use Rattle.dk_recount.proofs.Choosing.{denies}
 use Rattle.dk_recount.proofs.laws.denial_is_the_pasts.Goals as goal
 

@@ -1,6 +1,4 @@
-use Rattle.dk_threads.specs.Table.{table_at_start}
-use Rattle.dk_slack.specs.Recount.{spares_of}
-use Rattle.dk_recount.specs.Tables.{node_in}
+use Rattle.dk_recount.proofs.Names.{table_at_start, spares_of, node_in}
 use Rattle.dk_recount.proofs.Start.Recount.{start-ready}
 use Rattle.dk_recount.proofs.laws.start_is_the_recount.Goals as goal
 

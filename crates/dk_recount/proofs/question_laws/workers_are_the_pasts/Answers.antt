@@ -1,5 +1,4 @@
-use Rattle.std.proofs.Common.{arith, ◌≡◌, ◌∙◌, ap, length}
-use Rattle.std.proofs.lemmas.List.{length-map}
+use Rattle.dk_recount.proofs.Names.{arith, ◌≡◌, ◌∙◌, ap, length, length-map}
 use Rattle.dk_recount.specs.Needed.{ChoosingLaws as Laws}
 use Rattle.dk_recount.proofs.Choosing.{front-owned}
 use Rattle.dk_recount.proofs.Told.{ready-told, holder-told}

@@ -1,9 +1,4 @@
-use Rattle.std.proofs.Common.{◌∙◌, ◌∷◌, None, ap, sym}
-use Rattle.std.specs.Option.{option_map_or}
-use Rattle.dk_trace.specs.Threads.{Thread}
-use Rattle.dk_trace.specs.Refusals.{delete_refusal}
-use Rattle.dk_trace.specs.Entries.{quiet}
-use Rattle.dk_recount.specs.Stopping.{delete_refusal_in}
+use Rattle.dk_recount.proofs.Names.{◌∙◌, ◌∷◌, None, ap, sym, option_map_or, Thread, delete_refusal, quiet, delete_refusal_in}
 use Rattle.dk_recount.proofs.Stop.Delete.{refused-alike}
 use Rattle.dk_recount.proofs.stop_laws.deletes_are_refused_by_the_rows.Goals as goal
 

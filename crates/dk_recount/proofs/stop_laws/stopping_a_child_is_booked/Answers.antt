@@ -1,5 +1,5 @@
 use Rattle.dk_recount.proofs.Stop.Child.{thread-of-row}
-use Rattle.dk_recount.specs.Needed.{StoppingLaws as Laws}
+use Rattle.dk_recount.proofs.Names.{Laws}
 use Rattle.dk_recount.proofs.Stop.Needs.{may-stop}
 use Rattle.dk_recount.proofs.Stop.ChildRecount.{ChildLaws, child-booked}
 use Rattle.dk_recount.proofs.Stop.Rows.{exits-by}

@@ -1,5 +1,4 @@
-use Rattle.dk_threads.proofs.Stops.{process-ends-by}
-use Rattle.dk_recount.specs.Needed.{StoppingLaws as Laws}
+use Rattle.dk_recount.proofs.Names.{process-ends-by, Laws}
 use Rattle.dk_recount.proofs.Stop.ProcessRecount.{ProcessLaws, counts, may-stop-process, process-booked}
 use Rattle.dk_recount.proofs.stop_laws.stopping_a_main_is_booked.Goals as goal
 
