@@ -350,28 +350,53 @@ goes_to_file() {
     { [ -f /proc/self/fd/1 ] || [ -p /proc/self/fd/1 ]; } && ! [ /proc/self/fd/1 -ef /proc/self/fd/2 ]
 }
 
-# files_of WORDS: the files that they name: `audit` names two, `gen` and `harmonise` none, the others one
+# names_file COMMAND PLACE BEFORE: whether a word of the command is the name of a file, by its place among the words
+# that are no flags, from 1, and by the word before it
+names_file() {
+    [ "$3" != --ledger ] || return 0
+    case $1/$2 in
+    gen/* | harmonise/*) return 1 ;;
+    */1 | audit/2 | impact/2 | check/[23] | holds/2 | replay/3) ;;
+    *) return 1 ;;
+    esac
+}
+
+# files_of WORDS: the files that they name, and with status 5 only those that can't be read, if there are any
 files_of() {
-    command=${1-} named=
-    case $command in gen | harmonise | '') return ;; esac
-    shift
+    command=${1-} place=0 before='' named='' missing=''
+    [ $# = 0 ] || shift
     for word; do
-        case $word in -*) continue ;; esac
-        named="$named${named:+, }$word"
-        [ "$command" = audit ] || break
+        case $word in
+        -*) ;;
+        *)
+            [ "$before" = --ledger ] || place=$((place + 1))
+            if names_file "$command" $place "$before"; then
+                named="$named${named:+, }$word"
+                { [ -r "$word" ] && [ ! -d "$word" ]; } || missing="$missing${missing:+, }$word"
+            fi
+            ;;
+        esac
+        before=$word
     done
-    echo ": $named"
-    case $command in run | inspect) echo ", or a program that it names" ;; esac
+    if [ $status = 5 ] && [ -n "$missing" ]; then
+        printf ': %s' "$missing"
+        return
+    fi
+    [ -z "$named" ] || printf ': %s' "$named"
+    case $command in
+    run | inspect | repeats) printf ', or a program that it names' ;;
+    impact) printf ', or a program that they name' ;;
+    esac
 }
 
 # explain WORDS: what the error stream has of the status. The program writes nothing there, and 5 to 7 have no text
 explain() {
     case $status in
     [1-4]) ! goes_to_file || say "status $status, and its text is in the output" ;;
-    5) say "status 5, a file couldn't be read$(files_of "$@" | tr -d '\n')" ;;
+    5) say "status 5, a file couldn't be read$(files_of "$@")" ;;
     # that nobody reads a pipe any further is no news
     6) [ -p /proc/self/fd/1 ] || say "status 6, the output couldn't be written; what was written is its beginning" ;;
-    7) say "status 7, memory ran out$(files_of "$@" | tr -d '\n')" ;;
+    7) say "status 7, memory ran out$(files_of "$@")" ;;
     esac
 }
 
