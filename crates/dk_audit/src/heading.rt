@@ -8,7 +8,7 @@ use dk_certify::{Table, TableRow, Verdict, certify};
 use dk_config::{Config, MAX_LEVELS, ProcessRow};
 use dk_ledger::{Header, ProcessLine};
 
-/// Whether the header is that of the configuration. Takes no memory.
+/// Whether the header is that of the configuration. Needs no memory.
 pub fn is_own_heading(config: &Config, header: &Header) -> bool
     requires checked { IsChecked config.now }
     requires limits { IsWithinLimits config.now }

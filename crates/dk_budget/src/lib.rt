@@ -4,7 +4,7 @@
 //! the main's window; its share of a window of its own level is the quota over that window's length.
 //! A loan is in force from the start of the child's first window on, and ends with the window in which
 //! the child stops, so budget comes back at a window's end and never before. These rules are this
-//! project's own. No call takes memory.
+//! project's own. No call needs memory.
 #![tactic(auto)]
 
 mod laws;

@@ -125,7 +125,7 @@ pub fn longest_delay(config: &Config, level: u32, mutexes: &[MutexRow]) -> u32
 }
 
 /// Whether every level's work fits its windows, and what was found at each; else the first level
-/// that may miss one. It takes no memory.
+/// that may miss one. It needs no memory.
 ///
 /// A level can need the releases and budgets of all levels up to it, once for each of their windows
 /// in its own, and waits at most once for a slower thread that holds a mutex at its level or a

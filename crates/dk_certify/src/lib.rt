@@ -1,6 +1,6 @@
 //! The certification test: whether every level's work fits its windows.
 //!
-//! All times are ticks of the simulated processor. No call takes memory.
+//! All times are ticks of the simulated processor. No call needs memory.
 #![tactic(auto)]
 
 mod certifying;

@@ -1,6 +1,6 @@
 //! How long after an event a chain of processes has answered it, whatever the other processes do.
 //!
-//! A job of a main is its share of one window of its level. No call takes memory.
+//! A job of a main is its share of one window of its level. No call needs memory.
 #![tactic(auto)]
 
 ghost use Rattle.dk_bound.specs.Laws.{Always};

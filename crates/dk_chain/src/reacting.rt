@@ -139,7 +139,7 @@ fn course_of(config: &Config, first: u32, rest: &[u32]) -> Course
 
 /// The reaction time of the chain that begins with this process and goes on with the others: within so many ticks it has
 /// answered each event, whatever the programs do, and no smaller number will do for the windows that each job surely
-/// has. A process may stand in the chain more than once. It takes no memory.
+/// has. A process may stand in the chain more than once. It needs no memory.
 ///
 /// The chain keeps the pace of its slowest level: its windows before the first one there are counted back from it, and
 /// those after it on from it. The name is that of Feiertag and others (2008).
@@ -160,7 +160,7 @@ pub fn reaction(config: &Config, first: u32, rest: &[u32]) -> u64
 
 /// The age of the data that the last process of the chain works with: from the start of the window in which the first made
 /// it to the tick by which the last one's job is done, at most. It is the reaction time and one tick, less a window of the
-/// last process. It takes no memory.
+/// last process. It needs no memory.
 pub fn data_age(config: &Config, first: u32, rest: &[u32]) -> u64
     requires checked { IsChecked config.now }
     requires limits { IsWithinLimits config.now }

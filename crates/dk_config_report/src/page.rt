@@ -42,7 +42,7 @@ impl Page {
         self.text.as_str().as_bytes()
     }
 
-    /// Writes it in one piece. It takes no memory. The refusal comes only where the sink failed, and then a prefix was
+    /// Writes it in one piece. It needs no memory. The refusal comes only where the sink failed, and then a prefix was
     /// written.
     pub fn write<S: Sink>(&self, sink: &mut S) -> Result<(), SinkError>
         ensures { Writes (S.seen sink.old) (S.seen sink.new) result self.now }

@@ -4,7 +4,7 @@
 //! demand is what it and all faster levels need before its window ends, the shares of windows that
 //! begin until then among it. Its blocking is how long slower holders of mutexes can keep it waiting.
 //! A tick of slack fits where each level that has work can wait one tick longer. These rules are this
-//! project's own. No call takes memory, and none sums over windows to come.
+//! project's own. No call needs memory, and none sums over windows to come.
 #![tactic(auto)]
 
 mod cells;

@@ -48,7 +48,7 @@ fn header_is_printable(kernel: &Kernel, header: &Header)
 }
 
 /// Writes the state of the kernel at the present tick: what each level still needs, for which level slack
-/// is denied, and where each thread stands. It takes no memory.
+/// is denied, and where each thread stands. It needs no memory.
 ///
 /// The header is that of the kernel's configuration. The refusal comes only where the sink failed.
 pub fn print<S: Sink>(kernel: &Kernel, header: &Header, sink: &mut S) -> Result<(), SinkError>

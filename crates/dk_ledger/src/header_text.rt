@@ -64,7 +64,7 @@ fn write_processes<S: Sink>(processes: &[ProcessLine], sink: &mut S) -> Result<(
     }
 }
 
-/// Writes a header, line by line. It takes no memory.
+/// Writes a header, line by line. It needs no memory.
 ///
 /// The header's names are names of a configuration, and it has at most 12 levels and 32 processes.
 pub fn write_header<S: Sink>(header: &Header, sink: &mut S) -> Result<(), SinkError>

@@ -19,7 +19,7 @@ use dk_outside::{Sink, SinkError, write_all_to};
 use dk_trace::Entry;
 use std::marker::Model;
 
-/// Writes the lines of a ledger after its header as the entries come, all under one header. It takes no memory.
+/// Writes the lines of a ledger after its header as the entries come, all under one header. It needs no memory.
 ///
 /// It is seen as how far it is, and as the text of the last line where that is ready: where an entry differs from the
 /// line before in its tick alone, the line's text stays, and its tick is counted up where it stands. A write that failed

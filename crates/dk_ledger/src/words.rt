@@ -22,7 +22,7 @@ use dk_config::MAX_PROCESSES;
 use dk_trace::{Entry, Label, Source, ThreadId, Work};
 use std::alloc::{AllocError, Global};
 
-/// The first words of a line, which single blanks part. No line of a ledger has more than 11. They take no memory.
+/// The first words of a line, which single blanks part. No line of a ledger has more than 11. They need no memory.
 pub(crate) fn words_in(alloc: Global, line: &str) -> Result<ArrayVec<&str, 12>, AllocError>
     ensures { IfOk result (λ words. texts words.items ≡ words_of line.now) }
 {

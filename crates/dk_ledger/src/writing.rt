@@ -12,7 +12,7 @@ use dk_outside::{Sink, SinkError};
 use dk_trace::Entry;
 use std::marker::Model;
 
-/// Writes the lines of a ledger after its header as the entries come. It takes no memory.
+/// Writes the lines of a ledger after its header as the entries come. It needs no memory.
 ///
 /// It is seen as the number of entries so far and the last line, which is written once the next
 /// entry doesn't go on it. A write that failed leaves it as it was, with a prefix of the line written. Each call may

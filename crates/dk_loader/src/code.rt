@@ -3,7 +3,7 @@ ghost use Rattle.std.specs.Prelude.{◌≡◌, ℕ, List};
 
 use std::marker::Model;
 
-/// The bytes of a program. It is seen as their list. No call takes memory.
+/// The bytes of a program. It is seen as their list. No call needs memory.
 #[derive(Drop)]
 pub struct Code {
     bytes: Vec<u8>,
@@ -16,7 +16,7 @@ impl Model for Code {
 }
 
 impl Code {
-    /// Takes no memory.
+    /// Needs no memory.
     pub fn new(bytes: Vec<u8>) -> Code
         ensures { result ≡ bytes.items }
     {

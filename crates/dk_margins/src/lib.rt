@@ -1,6 +1,6 @@
 //! How far one number of a configuration can go with all others as they are, until a level fails or a rule is broken.
 //!
-//! All times are ticks of the simulated processor. No call takes memory. The rules are this project's own.
+//! All times are ticks of the simulated processor. No call needs memory. The rules are this project's own.
 #![tactic(auto)]
 
 mod holds;

@@ -3,7 +3,7 @@
 //! A thread may hold several mutexes, and gives them back last taken first. What it may still hold a
 //! mutex for is the mutex's longest hold less the thread's ticks since the lock. These rules are this
 //! project's own; that a holder runs at the ceiling of what it holds follows Sha, Rajkumar and
-//! Lehoczky (1990). No call takes memory.
+//! Lehoczky (1990). No call needs memory.
 #![tactic(auto)]
 
 mod front;

@@ -101,7 +101,7 @@ impl Model for Faults {
 }
 
 impl Faults {
-    /// Takes no memory.
+    /// Needs no memory.
     pub fn new(faults: Vec<Fault>) -> Faults
         ensures { result ≡ faults.items }
     {

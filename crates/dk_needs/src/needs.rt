@@ -34,7 +34,7 @@ impl Model for Names {
 }
 
 impl Names {
-    /// Takes no memory.
+    /// Needs no memory.
     pub fn new(names: Vec<Text>) -> Names
         ensures { result ≡ names.items }
     {

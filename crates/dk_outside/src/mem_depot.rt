@@ -17,7 +17,7 @@ pub struct MemDepot {
 impl MemDepot {
     ghost use Rattle.dk_outside.specs.MemDepot.{mem_files, mem_faults, mem_given};
 
-    /// No files. Takes no memory.
+    /// No files. Needs no memory.
     pub fn new(alloc: Global) -> MemDepot
         ensures empty { (name : List ℕ) → mem_files result name ≡ None }
         ensures faults { mem_faults result ≡ 0 }

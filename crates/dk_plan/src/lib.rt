@@ -1,6 +1,6 @@
 //! What still fits: the greatest budget of a process that certifies, and a base period for asked periods.
 //!
-//! All times are ticks of the simulated processor. No call takes memory.
+//! All times are ticks of the simulated processor. No call needs memory.
 #![tactic(auto)]
 
 mod harmonising;

@@ -62,7 +62,7 @@ fn most_accepted(config: &Config, process: u32) -> Option<u32>
 }
 
 /// The greatest budget up to 1,000,000 with which the process leaves the configuration checked and
-/// certified, whatever budget it has now; `None` where there is none. It takes no memory.
+/// certified, whatever budget it has now; `None` where there is none. It needs no memory.
 ///
 /// These budgets are an interval: each level bounds them from above, and the costs of both switches
 /// and one tick of work from below. The rules are this project's own.

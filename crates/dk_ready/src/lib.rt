@@ -1,7 +1,7 @@
 //! The job of each thread in the present window of its level, and which threads have something left.
 //!
 //! Threads sit on numbered nodes. A node stands in the ready queue of its level as long as its job has
-//! something left. These rules are this project's own. No call but `reserve` takes memory.
+//! something left. These rules are this project's own. No call but `reserve` needs memory.
 #![tactic(auto)]
 
 mod first;

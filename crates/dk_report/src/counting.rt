@@ -180,7 +180,7 @@ impl Totals {
         }
     }
 
-    /// Writes the report, line by line. It takes no memory.
+    /// Writes the report, line by line. It needs no memory.
     ///
     /// The header's names are names of a configuration, and it has at most 12 levels and 32
     /// processes, as many as were reserved.

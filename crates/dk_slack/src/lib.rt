@@ -2,7 +2,7 @@
 //!
 //! Slack lends time that periodic work doesn't need, after Lehoczky and Ramos-Thuel (1992). That the
 //! threads of a level have it in the order of their calls, that its first ticks are a switch in, and
-//! where a tick of it comes from are this project's own rules. Only `SlackTable::reserve` takes memory.
+//! where a tick of it comes from are this project's own rules. Only `SlackTable::reserve` needs memory.
 #![tactic(auto)]
 
 mod laws;

@@ -2,7 +2,7 @@
 //! live or stopped.
 //!
 //! A child starts at the next window of its level and, once stopped, ends with the window that its level
-//! is in. All rules are this project's own. Only `Threads::reserve` takes memory.
+//! is in. All rules are this project's own. Only `Threads::reserve` needs memory.
 #![tactic(auto)]
 
 mod children;

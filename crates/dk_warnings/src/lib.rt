@@ -1,6 +1,6 @@
 //! What a configuration allows and can't be meant, and what each warning means for every run.
 //!
-//! All times are ticks of the simulated processor. `warnings` alone takes memory. The rules are this project's own.
+//! All times are ticks of the simulated processor. `warnings` alone needs memory. The rules are this project's own.
 #![tactic(auto)]
 
 mod holds;

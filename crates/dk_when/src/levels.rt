@@ -80,7 +80,7 @@ fn level_ahead(config: &Config, level: u32, ticks: u32) -> u64
 }
 
 /// After how many ticks of each of its windows all threads of the level, children too, have had their whole shares,
-/// whatever they do: the least number that is enough. It takes no memory.
+/// whatever they do: the least number that is enough. It needs no memory.
 ///
 /// It is the length of the window where a process of a faster level has the right to slack.
 pub fn level_done_by(config: &Config, level: u32) -> u32

@@ -42,7 +42,7 @@ fn least_enough(config: &Config, process: u32, ticks: u32) -> u32
 }
 
 /// After how many ticks of each of its windows the main of the process has had a tick of its share, whatever the others
-/// do: the least number that is enough. It takes no memory.
+/// do: the least number that is enough. It needs no memory.
 ///
 /// It is the length of the window where a process of a faster level has the right to slack. The search is that of
 /// response times (Joseph and Pandya, 1986), from below to the first number that is enough.
@@ -57,7 +57,7 @@ pub fn begins_by(config: &Config, process: u32) -> u32
     least_enough(config, process, 1)
 }
 
-/// After how many ticks of each of its windows the main of the process has had its whole budget. It takes no memory.
+/// After how many ticks of each of its windows the main of the process has had its whole budget. It needs no memory.
 pub fn done_by(config: &Config, process: u32) -> u32
     requires checked { IsChecked config.now }
     requires limits { IsWithinLimits config.now }

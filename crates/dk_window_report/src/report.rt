@@ -94,7 +94,7 @@ impl WindowReport {
         self.overruns() == 0 && !self.table.is_troubled()
     }
 
-    /// Writes a line for each thread, and one for all. It takes no memory.
+    /// Writes a line for each thread, and one for all. It needs no memory.
     pub fn write<S: Sink>(&self, sink: &mut S) -> Result<(), SinkError>
         requires { IsPrintable self.now.heading }
 
@@ -122,7 +122,7 @@ impl WindowReport {
 
     /// Writes a line for each process, with its budget, how many calls of it were refused, how many faults and how many
     /// ticks of slack it had, each with the tick of the first; and one for each thread that overran, with the first
-    /// window. It takes no memory.
+    /// window. It needs no memory.
     pub fn write_firsts<S: Sink>(&self, sink: &mut S) -> Result<(), SinkError>
         requires { IsPrintable self.now.heading }
 
@@ -150,7 +150,7 @@ impl WindowReport {
     }
 
     /// Writes why it isn't strictly clean: a line for each thread that overran, but with `sparing` for none that lives on
-    /// slack, and for the refused calls and the faults of each process. It takes no memory.
+    /// slack, and for the refused calls and the faults of each process. It needs no memory.
     pub fn write_reasons<S: Sink>(&self, sparing: bool, sink: &mut S) -> Result<(), SinkError>
         requires { IsPrintable self.now.heading }
 

@@ -62,7 +62,7 @@ fn go_on<R: Recorder, L: Ledger>(
 }
 
 impl Kernel {
-    /// Does so many ticks, and hands the entries of each stretch of them to the recorder as they come. Takes no memory.
+    /// Does so many ticks, and hands the entries of each stretch of them to the recorder as they come. Needs no memory.
     ///
     /// Where the recorder takes no more, the run stops behind the stretch that it was handed last, and its error is
     /// answered. After the ticks at most 4,000,000,000 were done. It takes at most as many steps as `tick` may take for

@@ -20,7 +20,7 @@ impl Kernel {
     ghost use Rattle.dk_kernel.specs.Laws.{HasOwnTime, KeepsLaws};
 
     /// Does some ticks, at least one and at most so many, that all have one label and of which the last alone
-    /// may have an event. They are as so many calls of `tick`, and take no memory.
+    /// may have an event. They are as so many calls of `tick`, and need no memory.
     ///
     /// After them at most 4,000,000,000 ticks were done.
     #[inline(always)]
