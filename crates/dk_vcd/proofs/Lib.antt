@@ -1,5 +1,4 @@
 pub mod Passing
-pub mod Spelled
 pub mod Dense
 pub mod Lines
 pub mod ReadBack

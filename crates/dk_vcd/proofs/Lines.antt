@@ -1,22 +1,20 @@
 -- A dump is written in lines, each of which is a time or a signal's new value.
 use Rattle.std.proofs.Common.{ℕ, zero, suc, ◌≡◌, ◌∙◌, ◌+◌, ◌-◌, ◌==◌, ◌++◌, [], ◌∷◌, List, sym, ap, refl, subst, codes, append_assoc, append-nil, inl, inr, ◌⊎◌}
 use Rattle.std.specs.Prelude.{Bool, true, false, decimal, flat_map, Option, Some, None, if◌then◌else◌}
-use Rattle.std.specs.List.{AllByRecursion}
 use Rattle.std.proofs.lemmas.Grind.{flat_map-append}
 use Rattle.dk_trace.specs.declared.ThreadId.{ThreadId}
 use Rattle.dk_trace.specs.declared.Event.{Event}
 use Rattle.dk_trace.specs.declared.Entry.{Entry}
 use Rattle.dk_trace.specs.Entries.{thread_of}
-use Rattle.dk_trace.specs.Ranges.{HasOwnEvent}
 use Rattle.dk_ledger.specs.declared.header.ProcessLine.{ProcessLine}
 use Rattle.dk_ledger.specs.declared.line.LedgerLine.{LedgerLine}
-use Rattle.dk_ledger.specs.Heading.{Heading, ended}
-use Rattle.dk_ledger.specs.Readable.{IsReadable, IsReadableHeading, size_in}
-use Rattle.dk_ledger.proofs.EntryLists.{IsReadableLine, all_both}
+use Rattle.dk_ledger.specs.Heading.{Heading, IsPrintable, ended}
+use Rattle.dk_ledger.specs.Readable.{IsReadable}
+use Rattle.dk_ledger.proofs.EntryLists.{all_both}
+use Rattle.dk_entry_words.proofs.ReadBack.{printable}
 use Rattle.dk_groups.specs.Below.{texts_below}
 use Rattle.dk_groups.specs.Groups.{groups}
 use Rattle.dk_groups.proofs.Below.{no_texts, one_text_more}
-use Rattle.dk_groups.proofs.Readable.{groups_readable}
 use Rattle.dk_holds.specs.declared.holding.Holding.{Holding}
 use Rattle.dk_vcd.specs.declared.holders.Occasion.{Occasion}
 use Rattle.dk_vcd.specs.declared.signals.Signal.{Signal}
@@ -26,8 +24,7 @@ use Rattle.dk_vcd.specs.Holders.{event_before, holder_before, holder_change, hol
 use Rattle.dk_vcd.specs.Laws.{AreChanges, IsDense, IsDump, IsTime, IsValue}
 use Rattle.dk_vcd.specs.Signals.{code, emptied, row_of, same_row}
 use Rattle.dk_vcd.specs.Words.{event_value, line_value, row_value}
-use Rattle.dk_vcd.proofs.Dense.{holder_dense, row_dense}
-use Rattle.dk_vcd.proofs.Spelled.{event_spells, line_spells}
+use Rattle.dk_vcd.proofs.Dense.{event_dense, holder_dense, line_dense, row_dense}
 
 abbrev IsChange : List ℕ → Type 0
 IsChange line = IsTime line ⊎ IsValue line
@@ -92,31 +89,31 @@ last_time_adds g = adds_if (g.count == 1) [] (codes "\n#" ++ decimal (g.start + 
 behind_last : (a v c : List ℕ) → ((a ++ codes "\ns") ++ v ++ codes " ") ++ c ≡ a ++ (10 ∷ (codes "s" ++ v ++ codes " " ++ c))
 behind_last a v c = ap (λ t. t ++ c) (ap (λ t. t ++ codes " ") (append_assoc a (codes "\ns") v) ∙ append_assoc a (codes "\ns" ++ v) (codes " ")) ∙ append_assoc a (codes "\ns" ++ v ++ codes " ") c
 
-module _ (h : Heading) (is : IsReadableHeading h) where
-  mark_adds : (g : LedgerLine) (o : Option ThreadId) (e : Option Event) → HasOwnEvent (size_in h) g.label e → Adds (mark_text g o e)
-  mark_adds g None e known = adds_none
-  mark_adds g (Some x) None known = adds_none
-  mark_adds g (Some x) (Some e) known =
-      let value = event_value e in
-      let own = value_line value (Signal.Event x.process) (event_spells h is e known.1).dense in
-      subst Adds (sym (behind_last (last_time g) value (code (Signal.Event x.process))))
-      (adds_both (last_time g) (10 ∷ (codes "s" ++ value ++ codes " " ++ code (Signal.Event x.process))) (last_time_adds g)
-      (adds_line (codes "s" ++ value ++ codes " " ++ code (Signal.Event x.process)) own))
+mark_adds : (g : LedgerLine) (o : Option ThreadId) (e : Option Event) → Adds (mark_text g o e)
+mark_adds g None e = adds_none
+mark_adds g (Some x) None = adds_none
+mark_adds g (Some x) (Some e) =
+    let value = event_value e in
+    let own = value_line value (Signal.Event x.process) (event_dense e) in
+    subst Adds (sym (behind_last (last_time g) value (code (Signal.Event x.process))))
+    (adds_both (last_time g) (10 ∷ (codes "s" ++ value ++ codes " " ++ code (Signal.Event x.process))) (last_time_adds g)
+    (adds_line (codes "s" ++ value ++ codes " " ++ code (Signal.Event x.process)) own))
 
-  start_lines : (b : Option LedgerLine) (g : LedgerLine) → IsReadableLine h g → AreChanges (ended (start_text h b g))
-  start_lines b g fits =
+module _ (h : Heading) (is : IsPrintable h) where
+  start_lines : (b : Option LedgerLine) (g : LedgerLine) → AreChanges (ended (start_text h b g))
+  start_lines b g =
       let value = line_value h g in
-      let own = value_line value Signal.Line (line_spells h is g fits).dense in
+      let own = value_line value Signal.Line (line_dense h is g) in
       let line : (time_text g.start ++ codes "\ns" ++ value) ++ codes " L" ≡ time_text g.start ++ (10 ∷ (codes "s" ++ value ++ codes " " ++ codes "L")) =
       sym (append_assoc (time_text g.start ++ codes "\ns" ++ value) (codes " ") (codes "L")) ∙ behind_last (time_text g.start) value (codes "L") in
       left_row_adds b g (time_text g.start ++ codes "\ns" ++ value ++ codes " L")
       (subst (λ t. AreChanges (ended t)) (sym line)
       (adds_line (codes "s" ++ value ++ codes " " ++ codes "L") own (time_text g.start) (one_line (time_text g.start) (time_line g.start))))
 
-  rest_lines : (b : Option LedgerLine) (g : LedgerLine) → IsReadableLine h g → AreChanges (ended (rest_text b g))
-  rest_lines b g fits =
+  rest_lines : (b : Option LedgerLine) (g : LedgerLine) → AreChanges (ended (rest_text b g))
+  rest_lines b g =
       let row = codes "s" ++ row_value g.label ++ codes " " ++ code (row_of g.label) in
-      mark_adds g (thread_of g.label) g.event fits.event (row ++ left_mark (mark_before b) (first_mark g))
+      mark_adds g (thread_of g.label) g.event (row ++ left_mark (mark_before b) (first_mark g))
       (left_mark_adds (mark_before b) (first_mark g) row (one_line row (value_line (row_value g.label) (row_of g.label) (row_dense g.label))))
 
   holder_lines : (m : ℕ) (o : Option Holding) (b : Bool) → AreChanges (if b then ended (holder_change h m o) else [])
@@ -133,15 +130,15 @@ module _ (h : Heading) (is : IsReadableHeading h) where
   moved_lines None held = no_lines
   moved_lines (Some e) held = below_lines (Occasion.Behind e) held 16
 
-  group_lines : (held : ℕ → Option Holding) (b : Option LedgerLine) (g : LedgerLine) → IsReadableLine h g → AreChanges (change_text h held b g)
-  group_lines held b g fits =
-      two_texts (ended (start_text h b g)) (moved_text h (event_before b) held ++ ended (rest_text b g)) (start_lines b g fits)
-      (two_texts (moved_text h (event_before b) held) (ended (rest_text b g)) (moved_lines (event_before b) held) (rest_lines b g fits))
+  group_lines : (held : ℕ → Option Holding) (b : Option LedgerLine) (g : LedgerLine) → AreChanges (change_text h held b g)
+  group_lines held b g =
+      two_texts (ended (start_text h b g)) (moved_text h (event_before b) held ++ ended (rest_text b g)) (start_lines b g)
+      (two_texts (moved_text h (event_before b) held) (ended (rest_text b g)) (moved_lines (event_before b) held) (rest_lines b g))
 
-  all_lines : (es : List Entry) (b : Option LedgerLine) (gs : List LedgerLine) → AllByRecursion (IsReadableLine h) gs → AreChanges (changes_text h es b gs)
-  all_lines es b [] fits = no_lines
-  all_lines es b (g ∷ gs) fits =
-      two_texts (change_text h (holder_before es g.start) b g) (changes_text h es (Some g) gs) (group_lines (holder_before es g.start) b g fits.0) (all_lines es (Some g) gs fits.1)
+  all_lines : (es : List Entry) (b : Option LedgerLine) (gs : List LedgerLine) → AreChanges (changes_text h es b gs)
+  all_lines es b [] = no_lines
+  all_lines es b (g ∷ gs) =
+      two_texts (change_text h (holder_before es g.start) b g) (changes_text h es (Some g) gs) (group_lines (holder_before es g.start) b g) (all_lines es (Some g) gs)
 
 -- ---- the first values
 
@@ -177,7 +174,7 @@ is_dump h from to es is =
       first = codes "s L\ns K\ns I\n" ++ (empty_processes 0 ps ++ holders_text h Occasion.Start held);
       later = changes ++ tail_text to;
       values = two_texts (codes "s L\ns K\ns I\n") (empty_processes 0 ps ++ holders_text h Occasion.Start held) common_lines
-          (two_texts (empty_processes 0 ps) (holders_text h Occasion.Start held) (processes_lines 0 ps) (below_lines h is.heading Occasion.Start held 16));
-      changes = two_texts changes (tail_text to) (all_lines h is.heading es None (groups from to es) (groups_readable h from to es is)) (one_line (time_text to) (time_line to));
+          (two_texts (empty_processes 0 ps) (holders_text h Occasion.Start held) (processes_lines 0 ps) (below_lines h (printable h is.heading) Occasion.Start held 16));
+      changes = two_texts changes (tail_text to) (all_lines h (printable h is.heading) es None (groups from to es)) (one_line (time_text to) (time_line to));
       is = in_parts opening_text (process_texts 0 ps) (codes "$enddefinitions $end\n$dumpvars\n") (codes "s L\ns K\ns I\n") (empty_processes 0 ps) (holders_text h Occasion.Start held) (codes "$end\n") (changes ++ tail_text to);
     }

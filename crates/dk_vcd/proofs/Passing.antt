@@ -1,5 +1,5 @@
 -- The changes that have been written, and those that come.
-use Rattle.std.proofs.Common.{ℕ, ◌≡◌, ◌∙◌, ◌≤◌, ◌++◌, [], ◌∷◌, List, take, reverse, ap, sym, refl, append_assoc, append-nil}
+use Rattle.std.proofs.Common.{ℕ, ◌≡◌, ◌∙◌, ◌++◌, [], ◌∷◌, List, take, reverse, ap, sym, refl, append_assoc, append-nil}
 use Rattle.std.specs.Prelude.{Option, Some, None, flat_map}
 use Rattle.dk_outside.specs.Views.{SinkView}
 use Rattle.dk_outside.specs.Written.{Appends}

@@ -1,5 +1,5 @@
 -- The groups of a dump can be read back: each has its line of the ledger.
-use Rattle.std.proofs.Common.{ℕ, zero, suc, ◌≡◌, ◌∙◌, ◌+◌, ◌++◌, [], ◌∷◌, List, length, map, sym, ap, refl, codes, append_assoc}
+use Rattle.std.proofs.Common.{ℕ, zero, suc, ◌≡◌, ◌∙◌, ◌+◌, ◌++◌, [], ◌∷◌, List, length, sym, ap, refl, codes, append_assoc, arith}
 use Rattle.std.specs.Prelude.{Bool, true, false, if◌then◌else◌, decimal, flat_map, Option, Some, None}
 use Rattle.std.specs.List.{AllByRecursion}
 use Rattle.std.proofs.lemmas.List.{append_cancel_left}
@@ -10,8 +10,7 @@ use Rattle.dk_ledger.specs.Heading.{Heading, ended}
 use Rattle.dk_ledger.specs.Cuts.{entries_of}
 use Rattle.dk_ledger.specs.Readable.{IsReadable, IsReadableHeading}
 use Rattle.dk_ledger.proofs.EntryLists.{IsReadableLine}
-use Rattle.dk_ledger.proofs.NextItem.{names_fit}
-use Rattle.dk_ledger.proofs.OneText.{one_line}
+use Rattle.dk_entry_words.proofs.ReadBack.{line_back, printable}
 use Rattle.dk_groups.specs.Groups.{groups, slice}
 use Rattle.dk_groups.proofs.ListParts.{rest_same}
 use Rattle.dk_groups.proofs.Readable.{groups_readable, whole_all}
@@ -27,7 +26,6 @@ use Rattle.dk_vcd.specs.Holders.{event_before, holder_before, holder_change, hol
 use Rattle.dk_vcd.specs.Dumps.{head_text, scopes_text, tail_text, vcd_text}
 use Rattle.dk_vcd.specs.Laws.{is_dense}
 use Rattle.dk_vcd.proofs.Dense.{digits_dense, holder_dense}
-use Rattle.dk_vcd.proofs.Spelled.{line_spells, spaced}
 
 -- a time, up to what comes behind it
 times_same : (n m : ℕ) (x y : List ℕ) → codes "#" ++ (decimal n ++ 10 ∷ x) ≡ codes "#" ++ (decimal m ++ 10 ∷ y) → x ≡ y
@@ -64,7 +62,7 @@ module _ (h : Heading) (is : IsReadableHeading h) where
       λ q r. append_assoc (holder_change h m q) (10 ∷ []) r ∙ append_assoc (codes "s" ++ holder_value h q ++ codes " ") (codes "M" ++ decimal m) (10 ∷ r)
       ∙ append_assoc (codes "s" ++ holder_value h q) (codes " ") (behind r) ∙ append_assoc (codes "s") (holder_value h q) (32 ∷ behind r) in
       let both = rest_same (sym (parts o x) ∙ e ∙ parts p y) in
-      let values = until is_dense (holder_value h o) (holder_value h p) 32 32 (behind x) (behind y) (holder_dense h is o) (holder_dense h is p) refl refl both in
+      let values = until is_dense (holder_value h o) (holder_value h p) 32 32 (behind x) (behind y) (holder_dense h (printable h is) o) (holder_dense h (printable h is) p) refl refl both in
       rest_same (append_cancel_left (codes "M" ++ decimal m) (10 ∷ x) (10 ∷ y) (rest_same values.1))
 
   told_same : (told : Bool) (m : ℕ) (o p : Option Holding) (x y : List ℕ)
@@ -109,12 +107,9 @@ module _ (h : Heading) (is : IsReadableHeading h) where
   group_same held other b g k x y pg pk e =
       let lines = times_same g.start k.start (115 ∷ (line_value h g ++ 32 ∷ behind_line h held b g x)) (115 ∷ (line_value h k ++ 32 ∷ behind_line h other b k y))
       (sym (opened h held b g x) ∙ e ∙ opened h other b k y) in
-      let own = line_spells h is g pg in
-      let theirs = line_spells h is k pk in
-      let values = until is_dense (line_value h g) (line_value h k) 32 32 (behind_line h held b g x) (behind_line h other b k y) own.dense theirs.dense refl refl (rest_same lines) in
-      let bodies = sym own.text_is ∙ ap (map spaced) values.0 ∙ theirs.text_is in
-      let same : g ≡ k = one_line h is.few_levels (names_fit (length h.levels) h.processes is.processes) is.own_names g k pg pk bodies in
-      let rows = rest_same (rest_same (ap (λ (l : LedgerLine). 32 ∷ behind_line h held b l x) (sym same) ∙ values.1)) in
+      let both = line_back 44 32 refl refl (λ e. absurd (omega (arith, e))) h is g k (behind_line h held b g x) (behind_line h other b k y) pg pk (rest_same lines) in
+      let same = both.0 in
+      let rows = rest_same (ap (λ (l : LedgerLine). behind_line h held b l x) (sym same) ∙ both.1) in
       let moved = rest_same (append_cancel_left (left_row b k) _ _ rows) in
       let rest = moved_same (event_before b) held other (ended (rest_text b k) ++ x) (ended (rest_text b k) ++ y) moved in
       (same, append_cancel_left (ended (rest_text b k)) x y rest)

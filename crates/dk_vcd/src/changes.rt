@@ -10,8 +10,9 @@ ghost use Rattle.dk_vcd.specs.Changes.{change_text, first_mark, last_time, left_
 ghost use Rattle.dk_vcd.specs.Holders.{event_before, moved_text};
 
 use crate::holders::write_moved;
-use crate::signals::{Signal, push_code, push_emptied, row_of, same_row, thread_of};
+use crate::signals::{Signal, push_code, push_emptied, row_of, same_row};
 use crate::words::{push_event, push_line, push_row};
+use dk_entry_words::thread_of;
 use dk_holds::Holders;
 use dk_ledger::{Header, LedgerLine, TextLine};
 use dk_outside::{Sink, SinkError};
@@ -114,9 +115,9 @@ fn push_last_time(text: &mut TextLine, group: LedgerLine)
 fn push_own_mark(text: &mut TextLine, group: LedgerLine, thread: ThreadId, event: Event)
     requires some { 0 < group.count }
     requires short { group.start + group.count < 2 ^ 32 }
-    requires room { length text.old + 65 ≤ 200 }
+    requires room { length text.old + 66 ≤ 200 }
     ensures bytes { text.new ≡ text.old ++ own_mark group thread event }
-    ensures len { length text.new ≤ length text.old + 65 }
+    ensures len { length text.new ≤ length text.old + 66 }
 {
     push_last_time(text, group);
     text.word("\ns");
@@ -128,9 +129,9 @@ fn push_own_mark(text: &mut TextLine, group: LedgerLine, thread: ThreadId, event
 fn push_mark(text: &mut TextLine, group: LedgerLine)
     requires some { 0 < group.count }
     requires short { group.start + group.count < 2 ^ 32 }
-    requires room { length text.old + 65 ≤ 200 }
+    requires room { length text.old + 66 ≤ 200 }
     ensures bytes { text.new ≡ text.old ++ mark_text group (thread_of group.label) group.event }
-    ensures len { length text.new ≤ length text.old + 65 }
+    ensures len { length text.new ≤ length text.old + 66 }
 {
     match thread_of(group.label) {
         None => {}

@@ -1,6 +1,5 @@
 //! The signals of a dump.
 ghost use Rattle.std.specs.Prelude.{◌≡◌, ◌+◌, ◌≤◌, ◌++◌, decimal, length};
-ghost use Rattle.dk_trace.specs.Entries.{thread_of};
 ghost use Rattle.dk_vcd.specs.Signals.{code, emptied, row_of, row_of_thread, same_row};
 
 use dk_ledger::TextLine;
@@ -60,20 +59,6 @@ pub(crate) fn push_emptied(text: &mut TextLine, signal: Signal)
 {
     text.word("\ns ");
     push_code(text, signal);
-}
-
-/// The thread that has a tick of the label.
-pub(crate) fn thread_of(label: Label) -> Option<ThreadId>
-    ensures { result ≡ thread_of label }
-{
-    match label {
-        Label::In(thread)
-        | Label::Run(thread)
-        | Label::Call(thread)
-        | Label::Out(thread)
-        | Label::Slack { thread, .. } => Some(thread),
-        Label::Kernel(_) | Label::Idle => None,
-    }
 }
 
 fn row_of_thread(thread: ThreadId) -> Signal
