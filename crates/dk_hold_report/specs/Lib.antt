@@ -1,0 +1,4 @@
+pub mod Measured
+pub mod Extremes
+pub mod Text
+pub mod Laws
