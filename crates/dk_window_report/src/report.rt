@@ -11,6 +11,7 @@ ghost use Rattle.dk_window_report.specs.Text.{windows_text, is_clean};
 ghost use Rattle.dk_window_report.specs.Firsts.{firsts_text, is_strictly_clean, reasons_text};
 ghost use Rattle.dk_window_report.specs.Report.{ComesNext, IsKeptIn, kept_firsts, kept_reasons, kept_text, overruns_in, is_kept_clean, is_kept_strictly_clean};
 
+use crate::account::Account;
 use crate::firsts::{Wanted, any_counts, write_accounts, write_overruns, write_troubles};
 use crate::kept::Table;
 use crate::printing::{overruns_in, overruns_line, write_rows};
@@ -78,11 +79,18 @@ impl WindowReport {
         })
     }
 
-    /// In how many windows a thread overran, up to the last value.
-    fn overruns(&self) -> u32
+    /// In how many windows a thread overran, over all threads, up to the last value.
+    pub fn overruns(&self) -> u32
         ensures { result ≡ overruns_in self.now.kept.rows }
     {
         overruns_in(self.table.ticks(), self.table.lates())
+    }
+
+    /// What befell each process, in the header's order.
+    pub fn accounts(&self) -> &[Account]
+        ensures { result.now ≡ self.now.kept.accounts }
+    {
+        self.table.accounts()
     }
 
     /// Whether nothing overran, no call was refused, and no thread faulted.
