@@ -1,22 +1,5 @@
 -- Two pasts that stand alike where all windows begin, and go on with the same entries, choose alike.
-use Rattle.std.proofs.Common.{ℕ, ◌≡◌, ◌+◌, ◌<◌, cond, ◌&&◌, eqb, ltb, List, ◌++◌, length, Option, Some, None, sym, ap, ◌∙◌, arith, length-append}
-use Rattle.std.specs.Prelude.{find, filter, option_map, unwrap_or}
-use Rattle.std.specs.Option.{option_or}
-use Rattle.dk_config.specs.Configuration.{Configuration}
-use Rattle.dk_config.specs.Windows.{period}
-use Rattle.dk_config.specs.Checked.{IsChecked}
-use Rattle.dk_config.specs.Sums.{below, first_of}
-use Rattle.dk_config.proofs.FirstOf.{first-same}
-use Rattle.dk_trace.specs.declared.ThreadId.{ThreadId}
-use Rattle.dk_trace.specs.declared.Phase.{Phase}
-use Rattle.dk_trace.specs.declared.Choice.{Choice}
-use Rattle.dk_trace.specs.declared.Entry.{Entry}
-use Rattle.dk_trace.specs.Threads.{Thread, family, threads}
-use Rattle.dk_trace.specs.Jobs.{Job, job, phase, thread_rem, kernel_rem}
-use Rattle.dk_trace.specs.Holds.{Hold, held_by, is_holding, level_holding, effective_level}
-use Rattle.dk_trace.specs.Demand.{fits}
-use Rattle.dk_trace.specs.Slack.{is_wishing, oldest, is_entering, source}
-use Rattle.dk_trace.specs.Choices.{chosen, holder_at}
+use Rattle.dk_repeat.proofs.Names.{ℕ, ◌≡◌, ◌+◌, ◌<◌, cond, ◌&&◌, eqb, ltb, List, ◌++◌, length, Option, Some, None, sym, ap, ◌∙◌, arith, length-append, find, filter, option_map, unwrap_or, option_or, Configuration, period, IsChecked, below, first_of, first-same, ThreadId, Phase, Choice, Entry, Thread, family, threads, Job, job, phase, thread_rem, kernel_rem, Hold, held_by, is_holding, level_holding, effective_level, fits, is_wishing, oldest, is_entering, source, chosen, holder_at}
 use Rattle.dk_repeat.proofs.Since.{LevelsBegin}
 use Rattle.dk_repeat.proofs.Pairs.{Pairs, Both, find-pairs, filter-pairs, both-or, both-map}
 use Rattle.dk_repeat.proofs.Twins.{Twin, held-same, job-same, rem-same, kernel-same, threads-same, fits-same, entering-same, wishing-same, oldest-same, source-same}

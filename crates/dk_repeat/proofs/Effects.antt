@@ -1,28 +1,5 @@
 -- What a call does to two threads that are twins is the same, unless it reads the tick.
-use Rattle.std.proofs.Common.{ℕ, ◌≡◌, ◌+◌, ◌-◌, ◌*◌, ◌/◌, ◌<◌, Bool, true, false, cond, not, ◌&&◌, ◌||◌, eqb, leb, ltb, List, [], ◌∷◌, ◌++◌, length, Option, Some, None, refl, sym, ap, ◌∙◌, subst, length-append}
-use Rattle.std.specs.Prelude.{sum_by, is_none}
-use Rattle.std.specs.List.{list_any}
-use Rattle.dk_config.specs.Configuration.{Configuration}
-use Rattle.dk_config.specs.Windows.{period, main_level, max_level, slots, budget}
-use Rattle.dk_config.specs.Checked.{IsChecked}
-use Rattle.dk_trace.specs.declared.ThreadId.{ThreadId}
-use Rattle.dk_trace.specs.declared.Label.{Label}
-use Rattle.dk_trace.specs.declared.Event.{Event}
-use Rattle.dk_trace.specs.declared.Refusal.{Refusal}
-use Rattle.dk_trace.specs.declared.Entry.{Entry}
-use Rattle.dk_trace.specs.Threads.{Thread, family, is_main, is_void, is_ended_by}
-use Rattle.dk_trace.specs.Jobs.{thread_body_left}
-use Rattle.dk_trace.specs.Holds.{held_by}
-use Rattle.dk_trace.specs.Audit.{next_serial}
-use Rattle.dk_trace.specs.Refusals.{first_refusal, standing_children, least_share, create_refusal, delete_refusal, lock_refusal, slack_refusal, is_running_child}
-use Rattle.dk_trace.proofs.Charged.{family-charged}
-use Rattle.dk_cpu.specs.declared.Context.{Context}
-use Rattle.dk_cpu.specs.declared.Outcome.{Outcome}
-use Rattle.dk_cpu.specs.declared.kernel_call.KernelCall.{KernelCall}
-use Rattle.dk_cpu.specs.Machine.{reg}
-use Rattle.dk_world.specs.Calls.{effect, call_effect, or_refused, done, creates, answers}
-use Rattle.dk_world.specs.Run.{quiet_entry}
-use Rattle.dk_alone.proofs.Same.{lock_with, unlock_with, wait_with}
+use Rattle.dk_repeat.proofs.Names.{ℕ, ◌≡◌, ◌+◌, ◌-◌, ◌*◌, ◌/◌, ◌<◌, Bool, true, false, cond, not, ◌&&◌, ◌||◌, eqb, leb, ltb, List, [], ◌∷◌, ◌++◌, length, Option, Some, None, refl, sym, ap, ◌∙◌, subst, length-append, sum_by, is_none, list_any, Configuration, period, main_level, max_level, slots, budget, IsChecked, ThreadId, Label, Event, Refusal, Entry, Thread, family, is_main, is_void, is_ended_by, thread_body_left, held_by, next_serial, first_refusal, standing_children, least_share, create_refusal, delete_refusal, lock_refusal, slack_refusal, is_running_child, family-charged, Context, Outcome, KernelCall, reg, effect, call_effect, or_refused, done, creates, answers, quiet_entry, lock_with, unlock_with, wait_with}
 use Rattle.dk_repeat.proofs.Since.{LevelsBegin, Since, Stop, row_since, stop_since, stands, stands-behind}
 use Rattle.dk_repeat.proofs.Pairs.{Pairs, filter-pairs, sum-pairs, any-pairs, pairs-length}
 use Rattle.dk_repeat.proofs.Twins.{Twin, held-same, left-same}

@@ -1,30 +1,5 @@
 -- Two images of a process that are the same as far as its threads can see, and stay so in a tick.
-use Rattle.std.proofs.Common.{ℕ, ◌≡◌, inl, inr, Bool, true, false, cond, eqb, List, ◌∷◌, length, Option, Some, None, refl, sym, ap, ◌∙◌, subst, arith}
-use Rattle.std.proofs.lemmas.Bool.{cases_Bool}
-use Rattle.std.proofs.lemmas.Bool.Decides.{nat_tests}
-use Rattle.std.specs.Option.{option_or}
-use Rattle.std.specs.Bool.{then_some}
-use Rattle.dk_config.specs.Configuration.{Configuration}
-use Rattle.dk_config.proofs.FirstOf.{option_or-none}
-use Rattle.dk_isa.specs.declared.FaultKind.{FaultKind}
-use Rattle.dk_trace.specs.declared.ThreadId.{ThreadId}
-use Rattle.dk_trace.specs.declared.Label.{Label}
-use Rattle.dk_trace.specs.declared.Event.{Event}
-use Rattle.dk_trace.specs.declared.Refusal.{Refusal}
-use Rattle.dk_trace.specs.declared.Entry.{Entry}
-use Rattle.dk_trace.specs.Members.{Has}
-use Rattle.dk_trace.specs.Entries.{is_of, stops}
-use Rattle.dk_trace.specs.Threads.{Thread, family, made_by, new_rows}
-use Rattle.dk_trace.specs.Audit.{next_serial}
-use Rattle.dk_trace.specs.Refusals.{create_refusal, delete_refusal, lock_refusal, unlock_refusal, wait_refusal, slack_refusal}
-use Rattle.dk_trace.proofs.Mains.{main_id}
-use Rattle.dk_trace.proofs.Rows.{has-next}
-use Rattle.dk_cpu.specs.declared.Context.{Context}
-use Rattle.dk_cpu.specs.declared.Outcome.{Outcome}
-use Rattle.dk_cpu.specs.declared.kernel_call.KernelCall.{KernelCall}
-use Rattle.dk_cpu.specs.Machine.{Tick, reg}
-use Rattle.dk_world.specs.Calls.{Effect, Child, effect, call_effect, or_refused, done, creates, child_context}
-use Rattle.dk_world.specs.Run.{Image, Turn, image_after, with_child, with_reply, update}
+use Rattle.dk_repeat.proofs.Names.{ℕ, ◌≡◌, inl, inr, Bool, true, false, cond, eqb, List, ◌∷◌, length, Option, Some, None, refl, sym, ap, ◌∙◌, subst, arith, cases_Bool, nat_tests, option_or, then_some, Configuration, option_or-none, FaultKind, ThreadId, Label, Event, Refusal, Entry, Has, is_of, stops, Thread, family, made_by, new_rows, next_serial, create_refusal, delete_refusal, lock_refusal, unlock_refusal, wait_refusal, slack_refusal, main_id, has-next, Context, Outcome, KernelCall, Tick, reg, Effect, Child, effect, call_effect, or_refused, done, creates, child_context, Image, Turn, image_after, with_child, with_reply, update}
 
 -- code, memory, and the contexts of the threads that weren't stopped
 pub record SameImage (c : Configuration) (p : ℕ) (past : List Entry) (i j : Image) : Type 0 where

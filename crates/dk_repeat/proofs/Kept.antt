@@ -1,18 +1,5 @@
 -- An entry that neither makes nor stops a thread.
-use Rattle.std.proofs.Common.{ℕ, ◌≡◌, Bool, true, false, cond, List, [], ◌∷◌, ◌++◌, length, Option, Some, None, refl, sym, ap, ◌∙◌, append-nil}
-use Rattle.std.specs.Prelude.{map, is_some}
-use Rattle.std.specs.Option.{option_or, option_map_or}
-use Rattle.std.specs.Bool.{then_some}
-use Rattle.std.proofs.Math.Bool.{and-false}
-use Rattle.dk_config.specs.Configuration.{Configuration}
-use Rattle.dk_config.proofs.Lists.{or-none}
-use Rattle.dk_trace.specs.declared.ThreadId.{ThreadId}
-use Rattle.dk_trace.specs.declared.Event.{Event}
-use Rattle.dk_trace.specs.declared.Entry.{Entry}
-use Rattle.dk_trace.specs.Entries.{is_of, stops, is_end, is_delete_of}
-use Rattle.dk_trace.specs.Threads.{Thread, family, after_entry, made_by}
-use Rattle.dk_trace.proofs.Mains.{main_id}
-use Rattle.dk_repeat.specs.Repeat.{keeps_threads, standing}
+use Rattle.dk_repeat.proofs.Names.{ℕ, ◌≡◌, Bool, true, false, cond, List, [], ◌∷◌, ◌++◌, length, Option, Some, None, refl, sym, ap, ◌∙◌, append-nil, map, is_some, option_or, option_map_or, then_some, and-false, Configuration, or-none, ThreadId, Event, Entry, is_of, stops, is_end, is_delete_of, Thread, family, after_entry, made_by, main_id, keeps_threads, standing}
 
 -- such an event ends nothing and makes nothing
 record Idle (c : Configuration) (p n : ℕ) (event : Option Event) : Type 0 where

@@ -1,3 +1,4 @@
+pub mod Names
 pub mod Since
 pub mod Pairs
 pub mod Twins

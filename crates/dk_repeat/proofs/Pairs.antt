@@ -1,11 +1,5 @@
 -- Two lists, item by item in a relation.
-use Rattle.std.proofs.Common.{ℕ, zero, suc, ◌≡◌, ◌+◌, ◌<◌, Bool, true, false, cond, List, [], ◌∷◌, ◌++◌, length, Option, Some, None, refl, sym, ap, ◌∙◌, arith}
-use Rattle.std.specs.Prelude.{map, flat_map, filter, find, sum_by, count_by, option_map}
-use Rattle.std.specs.List.{list_any, list_all}
-use Rattle.std.specs.Option.{option_or, option_map_or}
-use Rattle.std.proofs.lemmas.List.Sums.{sum_by-cons}
-use Rattle.dk_config.specs.Sums.{numbers}
-use Rattle.dk_trace.proofs.Windows.{count_by-cons}
+use Rattle.dk_repeat.proofs.Names.{ℕ, zero, suc, ◌≡◌, ◌+◌, ◌<◌, Bool, true, false, cond, List, [], ◌∷◌, ◌++◌, length, Option, Some, None, refl, sym, ap, ◌∙◌, arith, map, flat_map, filter, find, sum_by, count_by, option_map, list_any, list_all, option_or, option_map_or, sum_by-cons, numbers, count_by-cons}
 
 abbrev pub Pairs : {X : Type 0} → (X → X → Type 0) → List X → List X → Type 0
 Pairs R [] [] = Unit {0}

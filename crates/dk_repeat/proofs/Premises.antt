@@ -1,24 +1,6 @@
 -- Without any one of its premises the law is false: short runs of one process that stand alike in all else, and go on otherwise.
-use Rattle.std.proofs.Common.{ℕ, zero, suc, inl, inr, false, ◌⊎◌, ◌≡◌, ◌+◌, ◌*◌, ◌%◌, ◌≤◌, ◌<◌, cond, List, [], ◌∷◌, length, Option, Some, None, refl, ap, sym, ◌∙◌, subst, arith}
-use Rattle.std.specs.Prelude.{map, is_some, slice_index_or}
-use Rattle.dk_config.specs.Configuration.{Configuration}
-use Rattle.dk_config.specs.Windows.{period}
-use Rattle.dk_config.specs.Checked.{IsChecked, IsAccepted}
-use Rattle.dk_config.specs.Tests.{first_broken}
+use Rattle.dk_repeat.proofs.Names.{ℕ, zero, suc, inl, inr, false, ◌⊎◌, ◌≡◌, ◌+◌, ◌*◌, ◌%◌, ◌≤◌, ◌<◌, cond, List, [], ◌∷◌, length, Option, Some, None, refl, ap, sym, ◌∙◌, subst, arith, map, is_some, slice_index_or, Configuration, period, IsChecked, IsAccepted, first_broken, checked, Nop, Li, Addi, Ld, St, Jmp, Trap, Event, Entry, Has, thread_of, Thread, main_thread, family, accepted, World, world, ReadsNoTick, program, spinner, call_of, earlier-call, RunsRepeat, ProgramsReadNoTick, WindowsBegin, standing, RunStandsAgain, ReadsNoTickNext, entry_at}
 use Rattle.dk_config.specs.Rules.{all_tests, version_tests, count_tests, range_tests, period_tests, name_tests, again_tests, level_tests, budget_tests, user_tests, slowest_tests}
-use Rattle.dk_config.proofs.CheckedConfig.{checked}
-use Rattle.dk_isa.specs.declared.Instr.TheVariants.{Nop, Li, Addi, Ld, St, Jmp, Trap}
-use Rattle.dk_trace.specs.declared.Event.{Event}
-use Rattle.dk_trace.specs.declared.Entry.{Entry}
-use Rattle.dk_trace.specs.Members.{Has}
-use Rattle.dk_trace.specs.Entries.{thread_of}
-use Rattle.dk_trace.specs.Threads.{Thread, main_thread, family}
-use Rattle.dk_bound.proofs.Accepted.{accepted}
-use Rattle.dk_world.specs.Run.{World, world}
-use Rattle.dk_alone.specs.Alone.{ReadsNoTick}
-use Rattle.dk_alone.proofs.Premises.{program, spinner, call_of, earlier-call}
-use Rattle.dk_repeat.specs.Laws.{RunsRepeat, ProgramsReadNoTick}
-use Rattle.dk_repeat.specs.Repeat.{WindowsBegin, standing, RunStandsAgain, ReadsNoTickNext, entry_at}
 
 abbrev pub Threads : Configuration → World → World → Type 0
 Threads c w v = (p : ℕ) → p < length c.processes → map standing (family c p w.past) ≡ map standing (family c p v.past)

@@ -1,31 +1,6 @@
 -- A run that stands as it stood before goes on as it did.
-use Rattle.std.proofs.Common.{ℕ, zero, suc, ◌≡◌, ◌+◌, ◌-◌, ◌*◌, ◌<◌, inl, inr, true, false, List, [], ◌∷◌, ◌++◌, length, Option, Some, None, refl, sym, ap, ◌∙◌, subst, arith}
-use Rattle.std.specs.Prelude.{slice_index_or, take}
-use Rattle.std.specs.Option.{option_map_or}
-use Rattle.std.proofs.lemmas.Bool.{cases_lt, cases_Bool}
-use Rattle.std.proofs.lemmas.Bool.Decides.{eqb_tells}
-use Rattle.std.proofs.lemmas.Option.{slice_get_past}
-use Rattle.dk_config.specs.declared.rows.LevelRow.{LevelRow}
-use Rattle.dk_config.specs.Configuration.{Configuration}
-use Rattle.dk_config.specs.Windows.{period}
-use Rattle.dk_config.specs.Checked.{IsChecked, IsAccepted}
-use Rattle.dk_trace.specs.declared.ThreadId.{ThreadId}
-use Rattle.dk_trace.specs.declared.Choice.{Choice}
-use Rattle.dk_trace.specs.declared.Entry.{Entry}
-use Rattle.dk_trace.specs.Threads.{family}
-use Rattle.dk_trace.specs.Holds.{held_by, is_holding, is_holder}
-use Rattle.dk_trace.specs.Choices.{chosen}
-use Rattle.dk_trace.specs.declared.Work.{Work}
-use Rattle.dk_trace.specs.Audit.{Audited, label_of}
-use Rattle.dk_bound.specs.Laws.{Always}
-use Rattle.dk_bound.specs.Statements.{ChoosesWithCause, BeginsFree}
-use Rattle.dk_bound.specs.Standing.{ChosenHolds, ThreadsPlaced, AskersThere, HoldersKnown}
-use Rattle.dk_world.specs.Laws.{RunsAreAudited, TicksAreCounted}
-use Rattle.dk_world.specs.Run.{Image, World, executes, tick_in, thread_turn, quiet_entry, body_step, quiet_step, step, world, trace}
-use Rattle.dk_alone.specs.Alone.{ReadsNoTick}
-use Rattle.dk_alone.proofs.Steps.{no-tick, turn-code}
-use Rattle.dk_alone.proofs.Again.{holds-none}
-use Rattle.dk_repeat.specs.Repeat.{WindowsBegin, ReadsNoTickNext, RunStandsAgain, newest, entry_at}
+use Rattle.dk_repeat.proofs.Names.{ℕ, zero, suc, ◌≡◌, ◌+◌, ◌-◌, ◌*◌, ◌<◌, inl, inr, true, false, List, [], ◌∷◌, ◌++◌, length, Option, Some, None, refl, sym, ap, ◌∙◌, subst, arith, slice_index_or, option_map_or, cases_lt, cases_Bool, eqb_tells, slice_get_past, LevelRow, Configuration, period, IsChecked, IsAccepted, ThreadId, Choice, Entry, family, held_by, is_holding, is_holder, chosen, Work, Audited, label_of, Always, ChoosesWithCause, BeginsFree, ChosenHolds, ThreadsPlaced, AskersThere, HoldersKnown, RunsAreAudited, TicksAreCounted, Image, World, executes, tick_in, thread_turn, quiet_entry, body_step, quiet_step, step, world, trace, ReadsNoTick, no-tick, turn-code, holds-none, WindowsBegin, ReadsNoTickNext, RunStandsAgain, newest, entry_at}
+use Rattle.std.specs.Prelude.{take}
 use Rattle.dk_repeat.proofs.Since.{LevelsBegin}
 use Rattle.dk_repeat.proofs.Pairs.{Pairs}
 use Rattle.dk_repeat.proofs.Twins.{Twin}

@@ -1,29 +1,5 @@
 -- A thread that executes was not stopped.
-use Rattle.std.proofs.Common.{ℕ, ◌≡◌, ◌<◌, ◌≤◌, inl, inr, false, leb, List, length, Option, Some, None, refl, sym, ◌∙◌, subst, arith}
-use Rattle.std.proofs.lemmas.Bool.{cases_lt, cases_Bool}
-use Rattle.std.proofs.lemmas.Bool.Decides.{nat_tests}
-use Rattle.std.proofs.lemmas.Nat.Gcd.{mod-eq-zero_of_dvd}
-use Rattle.dk_config.specs.Configuration.{Configuration}
-use Rattle.dk_config.specs.Windows.{period, window_start, window_end}
-use Rattle.dk_config.specs.Checked.{IsChecked}
-use Rattle.dk_trace.specs.declared.ThreadId.{ThreadId}
-use Rattle.dk_trace.specs.declared.Phase.{Phase}
-use Rattle.dk_trace.specs.declared.Choice.{Choice}
-use Rattle.dk_trace.specs.declared.Entry.{Entry}
-use Rattle.dk_trace.specs.Members.{Has}
-use Rattle.dk_trace.specs.Entries.{is_same}
-use Rattle.dk_trace.specs.Threads.{Thread, family, is_ended_by}
-use Rattle.dk_trace.specs.Jobs.{job, phase, thread_rem, is_closed}
-use Rattle.dk_trace.specs.Slack.{want}
-use Rattle.dk_trace.specs.Audit.{Audited, row_of}
-use Rattle.dk_trace.proofs.Members.{find-has}
-use Rattle.dk_trace.proofs.Same.{same-id}
-use Rattle.dk_trace.proofs.Families.{dvd-start}
-use Rattle.dk_trace.proofs.Rows.{row-of, window_end-above}
-use Rattle.dk_trace.proofs.Silent.{stopped-test, stopped-share, closed-stopped, want-closed}
-use Rattle.dk_bound.specs.Statements.{HasCause}
-use Rattle.dk_bound.specs.Standing.{ChoiceHolds, ThreadsPlaced, AskersThere}
-use Rattle.dk_world.specs.Run.{executes}
+use Rattle.dk_repeat.proofs.Names.{ℕ, ◌≡◌, ◌<◌, ◌≤◌, inl, inr, false, leb, List, length, Option, Some, None, refl, sym, ◌∙◌, subst, arith, cases_lt, cases_Bool, nat_tests, mod-eq-zero_of_dvd, Configuration, period, window_start, window_end, IsChecked, ThreadId, Phase, Choice, Entry, Has, is_same, Thread, family, is_ended_by, job, phase, thread_rem, is_closed, want, Audited, row_of, find-has, same-id, dvd-start, row-of, window_end-above, stopped-test, stopped-share, closed-stopped, want-closed, HasCause, ChoiceHolds, ThreadsPlaced, AskersThere, executes}
 use Rattle.dk_repeat.proofs.Since.{end-by}
 
 -- what is known of a thread that executes

@@ -1,20 +1,5 @@
 -- Where a thread stands, counted from a tick at which all windows begin.
-use Rattle.std.proofs.Common.{ℕ, zero, suc, ◌≡◌, ◌+◌, ◌-◌, ◌*◌, ◌/◌, ◌%◌, ◌<◌, ◌≤◌, inl, inr, Bool, true, false, cond, not, ◌&&◌, leb, ltb, List, ◌++◌, length, take, Option, Some, None, refl, sym, ap, ◌∙◌, arith, length-append}
-use Rattle.std.specs.Option.{option_or, option_map_or}
-use Rattle.std.specs.Bool.{then_some}
-use Rattle.std.proofs.lemmas.Bool.{cases_lt, cases_Bool}
-use Rattle.std.proofs.lemmas.Bool.Decides.{nat_tests}
-use Rattle.std.proofs.lemmas.List.{take-append-le}
-use Rattle.std.proofs.Math.Nat.{add-mod-mod, mod-lt, div-add-mod, mul-le-mul_left}
-use Rattle.dk_config.specs.Configuration.{Configuration}
-use Rattle.dk_config.specs.Windows.{period, window_start, window_end}
-use Rattle.dk_config.specs.Sums.{sum_every}
-use Rattle.dk_trace.specs.declared.ThreadId.{ThreadId}
-use Rattle.dk_trace.specs.declared.Entry.{Entry}
-use Rattle.dk_trace.specs.Entries.{window, stops}
-use Rattle.dk_trace.specs.Threads.{Thread, after_entry, is_void, is_ended_by, is_stopped_before}
-use Rattle.dk_trace.specs.Jobs.{is_stopped_in}
-use Rattle.dk_trace.specs.Demand.{windows_left, sum_starts}
+use Rattle.dk_repeat.proofs.Names.{ℕ, zero, suc, ◌≡◌, ◌+◌, ◌-◌, ◌*◌, ◌/◌, ◌%◌, ◌<◌, ◌≤◌, inl, inr, Bool, true, false, cond, not, ◌&&◌, leb, ltb, List, ◌++◌, length, take, Option, Some, None, refl, sym, ap, ◌∙◌, arith, length-append, option_or, option_map_or, then_some, cases_lt, cases_Bool, nat_tests, take-append-le, add-mod-mod, mod-lt, div-add-mod, mul-le-mul_left, Configuration, period, window_start, window_end, sum_every, ThreadId, Entry, window, stops, Thread, after_entry, is_void, is_ended_by, is_stopped_before, is_stopped_in, windows_left, sum_starts}
 
 -- when a thread was stopped: never, before the tick, or so many ticks behind it
 pub data Stop : Type 0 where

@@ -1,22 +1,5 @@
 -- Threads that stand alike where all windows begin are twins, and stay so with each entry.
-use Rattle.std.proofs.Common.{ℕ, suc, ◌≡◌, ◌+◌, ◌-◌, ◌<◌, ◌≤◌, inl, inr, Bool, true, false, cond, ltb, List, [], ◌∷◌, ◌++◌, length, Option, Some, None, refl, sym, ap, ◌∙◌, arith, length-append}
-use Rattle.std.specs.Prelude.{map, is_some}
-use Rattle.std.proofs.lemmas.Bool.Decides.{nat_tests}
-use Rattle.dk_config.specs.Configuration.{Configuration}
-use Rattle.dk_config.specs.Windows.{period, window_end}
-use Rattle.dk_config.specs.Checked.{IsChecked}
-use Rattle.dk_trace.specs.declared.Event.{Event}
-use Rattle.dk_trace.specs.declared.Entry.{Entry}
-use Rattle.dk_trace.specs.Members.{Has}
-use Rattle.dk_trace.specs.Entries.{is_of}
-use Rattle.dk_trace.specs.Threads.{Thread, family, after_entry, made_by, new_rows}
-use Rattle.dk_trace.specs.Audit.{Audited}
-use Rattle.dk_trace.proofs.Mains.{main_id}
-use Rattle.dk_trace.proofs.Members.{append-right}
-use Rattle.dk_trace.proofs.Families.{children}
-use Rattle.dk_trace.proofs.Events.{new-row}
-use Rattle.dk_trace.proofs.Rows.{row-of, main-or-child, child-of, has-next}
-use Rattle.dk_repeat.specs.Repeat.{Standing, standing}
+use Rattle.dk_repeat.proofs.Names.{ℕ, suc, ◌≡◌, ◌+◌, ◌-◌, ◌<◌, ◌≤◌, inl, inr, Bool, true, false, cond, ltb, List, [], ◌∷◌, ◌++◌, length, Option, Some, None, refl, sym, ap, ◌∙◌, arith, length-append, map, is_some, nat_tests, Configuration, period, window_end, IsChecked, Event, Entry, Has, is_of, Thread, family, after_entry, made_by, new_rows, Audited, main_id, append-right, children, new-row, row-of, main-or-child, child-of, has-next, Standing, standing}
 use Rattle.dk_repeat.proofs.Since.{LevelsBegin, Since, Stop, row_since, stop_since, row-later, row_after, end-behind, end-before}
 use Rattle.dk_repeat.proofs.Pairs.{Pairs, pairs-append, pairs-map}
 use Rattle.dk_repeat.proofs.Twins.{Twin}

@@ -1,30 +1,5 @@
 -- One more tick of two worlds that stand alike, which doesn't read the tick.
-use Rattle.std.proofs.Common.{ℕ, ◌≡◌, ◌/◌, ◌<◌, inl, inr, true, false, eqb, List, ◌∷◌, ◌++◌, length, Option, Some, None, refl, sym, ap, ◌∙◌, subst}
-use Rattle.std.specs.Prelude.{unwrap_or}
-use Rattle.std.specs.Option.{option_map_or}
-use Rattle.std.proofs.lemmas.Bool.Decides.{eqb_tells}
-use Rattle.dk_config.specs.Configuration.{Configuration}
-use Rattle.dk_config.specs.Checked.{IsChecked}
-use Rattle.dk_trace.specs.declared.ThreadId.{ThreadId}
-use Rattle.dk_trace.specs.declared.Work.{Work}
-use Rattle.dk_trace.specs.declared.Choice.{Choice}
-use Rattle.dk_trace.specs.declared.Label.{Label}
-use Rattle.dk_trace.specs.declared.Event.{Event}
-use Rattle.dk_trace.specs.declared.Entry.{Entry}
-use Rattle.dk_trace.specs.Entries.{is_same, is_of, thread_of}
-use Rattle.dk_trace.specs.Threads.{Thread, family, main_thread}
-use Rattle.dk_trace.specs.Holds.{Hold, held_by}
-use Rattle.dk_trace.specs.Choices.{chosen}
-use Rattle.dk_trace.specs.Audit.{label_of, row_of}
-use Rattle.dk_trace.proofs.Mains.{main_id}
-use Rattle.dk_cpu.specs.declared.Context.{Context}
-use Rattle.dk_cpu.specs.declared.Outcome.{Outcome}
-use Rattle.dk_cpu.specs.declared.kernel_call.KernelCall.{KernelCall}
-use Rattle.dk_cpu.specs.Machine.{Tick, body_tick}
-use Rattle.dk_world.specs.Calls.{Effect, effect}
-use Rattle.dk_world.specs.Run.{Image, World, Turn, quiet_entry, thread_at, executes, work_done, breaks_hold, thread_turn, tick_in, body_step, quiet_step, step_of, step, update}
-use Rattle.dk_world.proofs.Audits.{label-thread}
-use Rattle.dk_alone.proofs.Steps.{turn-label}
+use Rattle.dk_repeat.proofs.Names.{ℕ, ◌≡◌, ◌/◌, ◌<◌, inl, inr, true, false, eqb, List, ◌∷◌, ◌++◌, length, Option, Some, None, refl, sym, ap, ◌∙◌, subst, unwrap_or, option_map_or, eqb_tells, Configuration, IsChecked, ThreadId, Work, Choice, Label, Event, Entry, is_same, is_of, thread_of, Thread, family, main_thread, Hold, held_by, chosen, label_of, row_of, main_id, Context, Outcome, KernelCall, Tick, body_tick, Effect, effect, Image, World, Turn, quiet_entry, thread_at, executes, work_done, breaks_hold, thread_turn, tick_in, body_step, quiet_step, step_of, step, update, label-thread, turn-label}
 use Rattle.dk_repeat.proofs.Since.{LevelsBegin}
 use Rattle.dk_repeat.proofs.Pairs.{Pairs, Both, find-pairs}
 use Rattle.dk_repeat.proofs.Twins.{Twin, held-same}

@@ -1,26 +1,5 @@
 -- Two pasts that stand alike where all windows begin, and go on with the same entries: their threads count alike.
-use Rattle.std.proofs.Common.{ℕ, suc, ◌≡◌, ◌+◌, ◌-◌, ◌*◌, ◌/◌, ◌<◌, Bool, true, false, cond, not, ◌&&◌, ◌||◌, eqb, leb, ltb, List, [], ◌∷◌, ◌++◌, length, Option, Some, None, refl, sym, ap, ◌∙◌, subst, arith}
-use Rattle.std.specs.Prelude.{map, sum_by, count_by, find}
-use Rattle.std.specs.List.{list_any}
-use Rattle.std.specs.Option.{option_map_or}
-use Rattle.dk_config.specs.Configuration.{Configuration}
-use Rattle.dk_config.specs.Windows.{period, main_level, budget, release, window_start, window_end}
-use Rattle.dk_config.specs.Checked.{IsChecked}
-use Rattle.dk_config.specs.Certification.{spare}
-use Rattle.dk_config.specs.Sums.{sum_up_to}
-use Rattle.dk_config.proofs.Sums.{sum_from-same}
-use Rattle.dk_config.proofs.Progressions.{sum_every-each}
-use Rattle.dk_config.proofs.FirstOf.{first-same}
-use Rattle.dk_trace.specs.declared.ThreadId.{ThreadId}
-use Rattle.dk_trace.specs.declared.Source.{Source}
-use Rattle.dk_trace.specs.declared.Entry.{Entry}
-use Rattle.dk_trace.specs.Entries.{window, is_same, is_budget_of, is_out_of, is_kernel_at, is_of, does, is_wait, stops, kernel_level, payer}
-use Rattle.dk_trace.specs.Threads.{Thread, family, threads, share, is_main, is_void, is_ended_by, is_lent_at, lent_at, is_stopped_before, child_share}
-use Rattle.dk_trace.specs.Jobs.{job, rem, body_left, is_closed, is_stopped_in, thread_rem, thread_body_left, kernel_rem}
-use Rattle.dk_trace.specs.Holds.{held_by, held_after, aged, greatest_left, thread_blocking, blocking}
-use Rattle.dk_trace.specs.Slack.{Request, request, last_request, no_request, want, is_entering, is_wishing, older, oldest, level_of, is_claimed_up_to, unclaimed, overdrawn_at, source}
-use Rattle.dk_trace.specs.Demand.{windows_left, sum_starts, thread_demand, kernel_demand, own_demand, remaining_demand, fits_at, fits}
-use Rattle.dk_trace.proofs.Charged.{same-job}
+use Rattle.dk_repeat.proofs.Names.{ℕ, suc, ◌≡◌, ◌+◌, ◌-◌, ◌*◌, ◌/◌, ◌<◌, Bool, true, false, cond, not, ◌&&◌, ◌||◌, eqb, leb, ltb, List, [], ◌∷◌, ◌++◌, length, Option, Some, None, refl, sym, ap, ◌∙◌, subst, arith, map, sum_by, count_by, find, list_any, option_map_or, Configuration, period, main_level, budget, release, window_start, window_end, IsChecked, spare, sum_up_to, sum_from-same, sum_every-each, first-same, ThreadId, Source, Entry, window, is_same, is_budget_of, is_out_of, is_kernel_at, is_of, does, is_wait, stops, kernel_level, payer, Thread, family, threads, share, is_main, is_void, is_ended_by, is_lent_at, lent_at, is_stopped_before, child_share, job, rem, body_left, is_closed, is_stopped_in, thread_rem, thread_body_left, kernel_rem, held_by, held_after, aged, greatest_left, thread_blocking, blocking, Request, request, last_request, no_request, want, is_entering, is_wishing, older, oldest, level_of, is_claimed_up_to, unclaimed, overdrawn_at, source, windows_left, sum_starts, thread_demand, kernel_demand, own_demand, remaining_demand, fits_at, fits, same-job}
 use Rattle.dk_repeat.proofs.Since.{LevelsBegin, Since, row_since, stop_since, stopped_before, stands, has_share, stopped_in, leb-behind, start-behind, end-behind, window-behind, stopped-behind, stands-behind, share-behind, in-behind, starts-behind}
 use Rattle.dk_repeat.proofs.Pairs.{Pairs, Both, pairs-flat, sum-pairs, find-pairs, both-or-else, all-numbers, count-each}
 

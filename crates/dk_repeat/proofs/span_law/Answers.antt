@@ -1,5 +1,4 @@
-use Rattle.std.proofs.Common.{◌≡◌, ◌+◌, ◌*◌, ap, ◌∙◌, arith}
-use Rattle.dk_repeat.specs.Repeat.{entry_at}
+use Rattle.dk_repeat.proofs.Names.{◌≡◌, ◌+◌, ◌*◌, ap, ◌∙◌, arith, entry_at}
 use Rattle.dk_repeat.proofs.Repeating.{spans}
 use Rattle.dk_repeat.proofs.span_law.Goals as goal
 
