@@ -1,29 +1,5 @@
 -- A process by itself that stands as it stood before goes on as it did.
-use Rattle.std.proofs.Common.{ℕ, zero, suc, ◌≡◌, ◌+◌, ◌-◌, ◌*◌, ◌%◌, ◌<◌, ◌≤◌, inl, inr, Bool, false, cond, List, [], ◌∷◌, ◌++◌, length, refl, sym, ap, ◌∙◌, subst, arith}
-use Rattle.std.specs.Prelude.{slice_index_or, take, is_some}
-use Rattle.std.proofs.lemmas.List.{take-append-le}
-use Rattle.std.proofs.Math.Nat.{add-mod-mod, mul-mod_left}
-use Rattle.dk_config.specs.Configuration.{Configuration}
-use Rattle.dk_config.specs.Checked.{IsChecked, IsAccepted}
-use Rattle.dk_config.specs.Windows.{period, main_level, budget}
-use Rattle.dk_trace.specs.declared.Phase.{Phase}
-use Rattle.dk_trace.specs.declared.Choice.{Choice}
-use Rattle.dk_trace.specs.declared.Entry.{Entry}
-use Rattle.dk_trace.specs.Members.{Has}
-use Rattle.dk_trace.specs.Threads.{Thread, family, threads}
-use Rattle.dk_trace.specs.Holds.{Hold, held_by, is_holding}
-use Rattle.dk_trace.proofs.Windows.{mod-next}
-use Rattle.dk_trace.proofs.Mains.{main_id, main_row, main_stop}
-use Rattle.dk_trace.proofs.Members.{flat-has}
-use Rattle.dk_trace.proofs.Rows.{main-has}
-use Rattle.dk_trace.proofs.Charged.{the_job}
-use Rattle.dk_bound.specs.Statements.{ChoosesWithCause, EndsSpent, BeginsFree}
-use Rattle.dk_bound.specs.Laws.{Always}
-use Rattle.dk_world.specs.Laws.{RunsAreAudited}
-use Rattle.dk_world.specs.Run.{World, step_of, world, trace}
-use Rattle.dk_world.proofs.Lengths.{length-trace}
-use Rattle.dk_alone.specs.Alone.{alone, choice_alone, entries_of, KeepsToItself}
-use Rattle.dk_alone.specs.Again.{WindowBegins, main_is_stopped, ProcessStandsAlike}
+use Rattle.dk_alone.proofs.Names.{ℕ, zero, suc, ◌≡◌, ◌+◌, ◌-◌, ◌*◌, ◌%◌, ◌<◌, ◌≤◌, inl, inr, Bool, false, cond, List, [], ◌∷◌, ◌++◌, length, refl, sym, ap, ◌∙◌, subst, arith, slice_index_or, take, is_some, take-append-le, add-mod-mod, mul-mod_left, Configuration, IsChecked, IsAccepted, period, main_level, budget, Phase, Choice, Entry, Has, Thread, family, threads, Hold, held_by, is_holding, mod-next, main_id, main_row, main_stop, flat-has, main-has, the_job, ChoosesWithCause, EndsSpent, BeginsFree, Always, RunsAreAudited, World, step_of, world, trace, length-trace, alone, choice_alone, entries_of, KeepsToItself, WindowBegins, main_is_stopped, ProcessStandsAlike}
 use Rattle.dk_alone.proofs.Own.{Own, own, unlisted, after, fresh, Plain, plain-later, booked-after, own-within, own-begins}
 use Rattle.dk_alone.proofs.Same.{row-at}
 use Rattle.dk_alone.proofs.MainTicks.{SameMain, Twins, twins}

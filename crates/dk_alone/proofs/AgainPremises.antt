@@ -1,19 +1,6 @@
 -- Without any one of its premises a process that stands as it stood before need not go on as it did: short runs in which its entries differ.
-use Rattle.std.proofs.Common.{ℕ, zero, suc, ◌≡◌, ◌+◌, ◌*◌, ◌≤◌, ◌<◌, false, List, [], ◌∷◌, length, None, refl, ap, sym, ◌∙◌, arith}
-use Rattle.std.specs.Prelude.{slice_index_or, take}
-use Rattle.dk_config.specs.Configuration.{Configuration}
-use Rattle.dk_config.specs.Windows.{slots, may_ask}
-use Rattle.dk_config.specs.Checked.{IsChecked, IsAccepted}
-use Rattle.dk_config.specs.Tests.{first_broken}
+use Rattle.dk_alone.proofs.Names.{ℕ, zero, suc, ◌≡◌, ◌+◌, ◌*◌, ◌≤◌, ◌<◌, false, List, [], ◌∷◌, length, None, refl, ap, sym, ◌∙◌, arith, slice_index_or, take, Configuration, slots, may_ask, IsChecked, IsAccepted, first_broken, checked, Nop, Li, Addi, Ld, St, Jmp, Trap, Entry, accepted, world, trace, ProcessesRepeat, StandsAgainAsAlone, entries_of, ReadsNoTick, KeepsToItself, WindowBegins, main_is_stopped}
 use Rattle.dk_config.specs.Rules.{all_tests, version_tests, count_tests, range_tests, period_tests, name_tests, again_tests, level_tests, budget_tests, user_tests, slowest_tests}
-use Rattle.dk_config.proofs.CheckedConfig.{checked}
-use Rattle.dk_isa.specs.declared.Instr.TheVariants.{Nop, Li, Addi, Ld, St, Jmp, Trap}
-use Rattle.dk_trace.specs.declared.Entry.{Entry}
-use Rattle.dk_bound.proofs.Accepted.{accepted}
-use Rattle.dk_world.specs.Run.{world, trace}
-use Rattle.dk_alone.specs.Laws.{ProcessesRepeat, StandsAgainAsAlone}
-use Rattle.dk_alone.specs.Alone.{entries_of, ReadsNoTick, KeepsToItself}
-use Rattle.dk_alone.specs.Again.{WindowBegins, main_is_stopped}
 use Rattle.dk_alone.proofs.Premises.{program, spinner, waiter, spinner-clock, call_of, earlier-call, shown, newest, crowded, crowded-passes, plain, plain-passes, lending, lending-passes, growing, growing-passes, parent, parent-clock}
 
 -- what the law asks for, of the tick s and k ticks later, and of the m and n ticks that windows take

@@ -1,20 +1,5 @@
 -- Cycles of a process by itself, and of the process in every run.
-use Rattle.std.proofs.Common.{ℕ, zero, suc, ◌≡◌, ◌+◌, ◌*◌, ◌%◌, List, [], ◌∷◌, ◌++◌, refl, sym, ap, ◌∙◌, subst, arith}
-use Rattle.std.specs.Prelude.{slice_index_or, replicate, take}
-use Rattle.std.proofs.lemmas.List.{append_cancel_right}
-use Rattle.std.proofs.lemmas.List.Elements.{filter-append}
-use Rattle.std.proofs.Math.Nat.{add-mod-mod}
-use Rattle.dk_config.specs.Configuration.{Configuration}
-use Rattle.dk_config.specs.Checked.{IsChecked, IsAccepted}
-use Rattle.dk_config.specs.Windows.{period, main_level}
-use Rattle.dk_trace.specs.declared.Entry.{Entry}
-use Rattle.dk_trace.specs.Choices.{chosen}
-use Rattle.dk_bound.specs.Statements.{ChoosesWithCause, EndsSpent, BeginsFree}
-use Rattle.dk_bound.specs.Laws.{Always}
-use Rattle.dk_world.specs.Laws.{RunsAreAudited}
-use Rattle.dk_world.specs.Run.{World, world, trace}
-use Rattle.dk_alone.specs.Alone.{alone, choice_alone, is_of_process, entries_of, KeepsToItself, IsSameFor}
-use Rattle.dk_alone.specs.Again.{WindowBegins, ProcessStandsAlike, StandsAgainAlone, ProcessStandsAgain}
+use Rattle.dk_alone.proofs.Names.{ℕ, zero, suc, ◌≡◌, ◌+◌, ◌*◌, ◌%◌, List, [], ◌∷◌, ◌++◌, refl, sym, ap, ◌∙◌, subst, arith, slice_index_or, replicate, take, append_cancel_right, filter-append, add-mod-mod, Configuration, IsChecked, IsAccepted, period, main_level, Entry, chosen, ChoosesWithCause, EndsSpent, BeginsFree, Always, RunsAreAudited, World, world, trace, alone, choice_alone, is_of_process, entries_of, KeepsToItself, IsSameFor, WindowBegins, ProcessStandsAlike, StandsAgainAlone, ProcessStandsAgain}
 use Rattle.dk_alone.proofs.Again.{on, on-is, entry-by, stopped-is, tied, last-same, stands-same}
 
 stands-back : (c : Configuration) (p : ℕ) (one other : World) → ProcessStandsAlike c p one other → ProcessStandsAlike c p other one

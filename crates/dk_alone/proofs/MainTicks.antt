@@ -1,23 +1,5 @@
 -- A tick of a process by itself, in two worlds that are the same for its main.
-use Rattle.std.proofs.Common.{ℕ, ◌≡◌, ◌/◌, ◌<◌, inl, inr, Bool, true, false, cond, eqb, List, ◌∷◌, length, Option, Some, None, refl, sym, ap, ◌∙◌, subst, arith}
-use Rattle.std.proofs.lemmas.Bool.{cases_lt}
-use Rattle.dk_config.specs.Configuration.{Configuration}
-use Rattle.dk_isa.specs.declared.FaultKind.{FaultKind}
-use Rattle.dk_trace.specs.declared.Phase.{Phase}
-use Rattle.dk_trace.specs.declared.Choice.{Choice}
-use Rattle.dk_trace.specs.declared.Label.{Label}
-use Rattle.dk_trace.specs.declared.Event.{Event}
-use Rattle.dk_trace.specs.declared.Entry.{Entry}
-use Rattle.dk_trace.specs.Jobs.{phase, rem}
-use Rattle.dk_trace.specs.Holds.{held_by}
-use Rattle.dk_trace.specs.Audit.{label_of}
-use Rattle.dk_trace.proofs.Mains.{main_id}
-use Rattle.dk_cpu.specs.declared.Context.{Context}
-use Rattle.dk_cpu.specs.Machine.{Tick, body_tick}
-use Rattle.dk_world.specs.Calls.{Effect, Child, effect}
-use Rattle.dk_world.specs.Run.{Image, World, Turn, quiet_entry, thread_at, thread_turn, breaks_hold, image_after, with_child, with_reply, update, work_done, tick_in, step_of}
-use Rattle.dk_world.proofs.Refused.{update-same}
-use Rattle.dk_alone.specs.Alone.{choice_alone, step_alone, entries_of, ReadsNoTick}
+use Rattle.dk_alone.proofs.Names.{ℕ, ◌≡◌, ◌/◌, ◌<◌, inl, inr, Bool, true, false, cond, eqb, List, ◌∷◌, length, Option, Some, None, refl, sym, ap, ◌∙◌, subst, arith, cases_lt, Configuration, FaultKind, Phase, Choice, Label, Event, Entry, phase, rem, held_by, label_of, main_id, Context, Tick, body_tick, Effect, Child, effect, Image, World, Turn, quiet_entry, thread_at, thread_turn, breaks_hold, image_after, with_child, with_reply, update, work_done, tick_in, step_of, update-same, choice_alone, step_alone, entries_of, ReadsNoTick}
 use Rattle.dk_alone.proofs.Own.{own, unlisted, Plain}
 use Rattle.dk_alone.proofs.Same.{turn-same}
 use Rattle.dk_alone.proofs.Steps.{no-tick, turn-code, alone-works, alone-rests}

@@ -1,15 +1,5 @@
 -- Whether a main overruns is seen in the entries of its process.
-use Rattle.std.proofs.Common.{ℕ, ◌≡◌, ◌+◌, inl, inr, Bool, true, false, cond, not, ◌&&◌, ◌||◌, ltb, List, [], ◌∷◌, refl, sym, ap, ◌∙◌, arith}
-use Rattle.std.specs.Prelude.{count_by}
-use Rattle.std.specs.List.{list_any}
-use Rattle.std.proofs.lemmas.Bool.{cases_Bool}
-use Rattle.dk_trace.specs.declared.Entry.{Entry}
-use Rattle.dk_trace.specs.Entries.{is_budget_of, does, is_wait, stops}
-use Rattle.dk_trace.proofs.Mains.{main_id}
-use Rattle.dk_trace.proofs.Windows.{count_by-cons}
-use Rattle.dk_trace.proofs.Whose.{budget-not}
-use Rattle.dk_alone.specs.Alone.{is_of_process, entries_of}
-use Rattle.dk_alone.specs.Again.{overruns}
+use Rattle.dk_alone.proofs.Names.{ℕ, ◌≡◌, ◌+◌, inl, inr, Bool, true, false, cond, not, ◌&&◌, ◌||◌, ltb, List, [], ◌∷◌, refl, sym, ap, ◌∙◌, arith, count_by, list_any, cases_Bool, Entry, is_budget_of, does, is_wait, stops, main_id, count_by-cons, budget-not, is_of_process, entries_of, overruns}
 use Rattle.dk_alone.proofs.Own.{filter-in, filter-out, other-main}
 
 pub not-true : (b : Bool) → not b ≡ true → b ≡ false

@@ -1,15 +1,5 @@
 -- Each window of every run has the entries that a window up to the second of two ticks has in one run.
-use Rattle.std.proofs.Common.{ℕ, ◌≡◌, ◌+◌, ◌-◌, ◌*◌, ◌/◌, ◌%◌, ◌<◌, inl, inr, Bool, true, List, [], sym, ap, ◌∙◌, subst, arith}
-use Rattle.std.specs.Prelude.{slice_index_or, take}
-use Rattle.std.proofs.lemmas.Bool.{cases_lt}
-use Rattle.std.proofs.Math.Nat.{div-add-mod, mod-lt, mod_self}
-use Rattle.dk_config.specs.Configuration.{Configuration}
-use Rattle.dk_config.specs.Checked.{IsChecked, IsAccepted}
-use Rattle.dk_config.specs.Windows.{period, main_level}
-use Rattle.dk_trace.specs.declared.Entry.{Entry}
-use Rattle.dk_alone.specs.Laws.{WindowsAsAlone, StandsAgainAsAlone, ProcessesRepeat}
-use Rattle.dk_alone.specs.Alone.{alone, entries_of, KeepsToItself}
-use Rattle.dk_alone.specs.Again.{WindowBegins, ProcessStandsAgain, own_window}
+use Rattle.dk_alone.proofs.Names.{ℕ, ◌≡◌, ◌+◌, ◌-◌, ◌*◌, ◌/◌, ◌%◌, ◌<◌, inl, inr, Bool, true, List, [], sym, ap, ◌∙◌, subst, arith, slice_index_or, take, cases_lt, div-add-mod, mod-lt, mod_self, Configuration, IsChecked, IsAccepted, period, main_level, Entry, WindowsAsAlone, StandsAgainAsAlone, ProcessesRepeat, alone, entries_of, KeepsToItself, WindowBegins, ProcessStandsAgain, own_window}
 use Rattle.dk_alone.proofs.Cycles.{begins-sum, begins-rest, begins-cycles}
 
 module _ (c : Configuration) (programs others : List (List ℕ)) (p s k : ℕ) (checked : IsChecked c) (accepted : IsAccepted c)

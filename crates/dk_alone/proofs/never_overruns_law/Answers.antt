@@ -1,5 +1,4 @@
-use Rattle.std.proofs.Common.{not, ◌∙◌, sym}
-use Rattle.dk_alone.specs.Again.{overruns, window_from, own_window}
+use Rattle.dk_alone.proofs.Names.{not, ◌∙◌, sym, overruns, window_from, own_window}
 use Rattle.dk_alone.proofs.Overruns.{own-overruns, not-true, not-false}
 use Rattle.dk_alone.proofs.never_overruns_law.Goals as goal
 

@@ -1,6 +1,4 @@
-use Rattle.std.proofs.Common.{[], ◌+◌, ◌*◌, sym, ap, ◌∙◌, subst}
-use Rattle.std.specs.Prelude.{slice_index_or, take}
-use Rattle.dk_alone.specs.Alone.{alone, entries_of, KeepsToItself}
+use Rattle.dk_alone.proofs.Names.{[], ◌+◌, ◌*◌, sym, ap, ◌∙◌, subst, slice_index_or, take, alone, entries_of, KeepsToItself}
 use Rattle.dk_alone.proofs.Cycles.{begins-sum, begins-far}
 use Rattle.dk_alone.proofs.own_repeat_law.Goals as goal
 

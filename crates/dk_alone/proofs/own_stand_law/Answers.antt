@@ -1,7 +1,4 @@
-use Rattle.std.proofs.Common.{◌+◌, ◌*◌, sym, subst}
-use Rattle.dk_alone.specs.Alone.{alone, KeepsToItself}
-use Rattle.dk_alone.specs.Again.{ProcessStandsAlike}
-use Rattle.dk_world.specs.Run.{world}
+use Rattle.dk_alone.proofs.Names.{◌+◌, ◌*◌, sym, subst, alone, KeepsToItself, ProcessStandsAlike, world}
 use Rattle.dk_alone.proofs.Cycles.{as-alone, stands-always, begins-far}
 use Rattle.dk_alone.proofs.own_stand_law.Goals as goal
 

@@ -1,7 +1,4 @@
-use Rattle.std.proofs.Common.{ℕ, suc, ◌≡◌, ◌+◌, ◌*◌, List, subst}
-use Rattle.std.specs.Prelude.{take, replicate}
-use Rattle.dk_alone.specs.Alone.{alone, KeepsToItself}
-use Rattle.dk_alone.specs.Again.{StandsAgainAlone}
+use Rattle.dk_alone.proofs.Names.{ℕ, suc, ◌≡◌, ◌+◌, ◌*◌, List, subst, take, replicate, alone, KeepsToItself, StandsAgainAlone}
 use Rattle.dk_alone.proofs.Cycles.{program-there, cycles-alone}
 use Rattle.dk_alone.proofs.repeat_alone_law.Goals as goal
 

@@ -1,7 +1,4 @@
-use Rattle.std.proofs.Common.{ℕ, suc, ◌+◌, ◌*◌, List, subst}
-use Rattle.std.specs.Prelude.{replicate}
-use Rattle.dk_alone.specs.Alone.{alone, KeepsToItself}
-use Rattle.dk_alone.specs.Again.{ProcessStandsAlike, StandsAgainAlone}
+use Rattle.dk_alone.proofs.Names.{ℕ, suc, ◌+◌, ◌*◌, List, subst, replicate, alone, KeepsToItself, ProcessStandsAlike, StandsAgainAlone}
 use Rattle.dk_alone.proofs.Cycles.{program-there, stands-alone}
 use Rattle.dk_alone.proofs.stand_alone_law.Goals as goal
 

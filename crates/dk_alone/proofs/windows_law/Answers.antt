@@ -1,5 +1,4 @@
-use Rattle.std.proofs.Common.{[], ◌+◌}
-use Rattle.std.specs.Prelude.{slice_index_or}
+use Rattle.dk_alone.proofs.Names.{[], ◌+◌, slice_index_or}
 use Rattle.dk_alone.proofs.Cycles.{windows-as-alone}
 use Rattle.dk_alone.proofs.windows_law.Goals as goal
 
