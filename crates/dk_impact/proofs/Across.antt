@@ -1,35 +1,5 @@
 -- By itself a process runs the same in two configurations of which it sees the same but the period, tick by tick of a window.
-use Rattle.std.proofs.Common.{ℕ, zero, suc, ◌≡◌, ◌+◌, ◌-◌, ◌*◌, ◌%◌, ◌<◌, ◌≤◌, ◌⊎◌, inl, inr, Bool, true, false, cond, not, ◌&&◌, ◌||◌, List, [], ◌∷◌, length, map, Option, Some, None, refl, sym, ap, ◌∙◌, subst, arith}
-use Rattle.std.specs.Prelude.{replicate}
-use Rattle.std.proofs.lemmas.Bool.{cases_Bool, cases_lt}
-use Rattle.std.proofs.Math.Nat.{mod-eq_of_lt}
-use Rattle.dk_config.specs.Configuration.{Configuration}
-use Rattle.dk_config.specs.Checked.{IsChecked, IsAccepted}
-use Rattle.dk_config.specs.Windows.{period, main_level, budget}
-use Rattle.dk_trace.specs.declared.Phase.{Phase}
-use Rattle.dk_trace.specs.declared.Choice.{Choice}
-use Rattle.dk_trace.specs.declared.Label.{Label}
-use Rattle.dk_trace.specs.declared.Event.{Event}
-use Rattle.dk_trace.specs.declared.Entry.{Entry}
-use Rattle.dk_trace.specs.Entries.{is_wait, is_end, has_event, is_of, is_budget_of, is_out_of, does}
-use Rattle.dk_trace.specs.Jobs.{Job, phase, rem}
-use Rattle.dk_trace.specs.Holds.{Hold, aged, held_after, held_by}
-use Rattle.dk_trace.proofs.Windows.{mod-next}
-use Rattle.dk_trace.proofs.Mains.{main_id}
-use Rattle.dk_trace.proofs.Charged.{the_job}
-use Rattle.dk_cpu.specs.declared.Outcome.{Outcome}
-use Rattle.dk_cpu.specs.declared.kernel_call.KernelCall.{KernelCall}
-use Rattle.dk_cpu.specs.Machine.{Tick, body_tick}
-use Rattle.dk_cpu.specs.State.{zero_context}
-use Rattle.dk_world.specs.Run.{Image, World, Turn, quiet_entry, quiet_step, thread_turn, tick_in, step_of}
-use Rattle.dk_world.proofs.Limits.{budget_period}
-use Rattle.dk_world.proofs.Refused.{update-same}
-use Rattle.dk_alone.specs.Alone.{alone, choice_alone, is_of_process, entries_of, KeepsToItself}
-use Rattle.dk_alone.proofs.Own.{Own, own, booked, after, fresh, IsPlainEvent, Plain, filter-in, filter-out, booked-after, own-within, own-begins}
-use Rattle.dk_alone.proofs.Steps.{alone-works, alone-rests}
-use Rattle.dk_alone.proofs.Ties.{alone-long}
-use Rattle.dk_alone.proofs.Again.{on}
-use Rattle.dk_impact.specs.Impact.{SeesTheSameButPeriod, renamed, IsSameAcross}
+use Rattle.dk_impact.proofs.Names.{ℕ, zero, suc, ◌≡◌, ◌+◌, ◌-◌, ◌*◌, ◌%◌, ◌<◌, ◌≤◌, ◌⊎◌, inl, inr, Bool, true, false, cond, not, ◌&&◌, ◌||◌, List, [], ◌∷◌, length, map, Option, Some, None, refl, sym, ap, ◌∙◌, subst, arith, replicate, cases_Bool, cases_lt, mod-eq_of_lt, Configuration, IsChecked, IsAccepted, period, main_level, budget, Phase, Choice, Label, Event, Entry, is_wait, is_end, has_event, is_of, is_budget_of, is_out_of, does, Job, phase, rem, Hold, aged, held_after, held_by, mod-next, main_id, the_job, Outcome, KernelCall, Tick, body_tick, zero_context, Image, World, Turn, quiet_entry, quiet_step, thread_turn, tick_in, step_of, budget_period, update-same, alone, choice_alone, is_of_process, entries_of, KeepsToItself, Own, own, booked, after, fresh, IsPlainEvent, Plain, filter-in, filter-out, booked-after, own-within, own-begins, alone-works, alone-rests, alone-long, on, SeesTheSameButPeriod, renamed, IsSameAcross}
 use Rattle.dk_impact.proofs.Seen.{Users, users-next, IsOwnEvent, Whose, SameLevels, Turns, turns}
 use Rattle.dk_impact.proofs.Spent.{moves-on, start_of, start-is, start-begins, finish}
 use Rattle.dk_impact.proofs.Whose.{whose-in, whose-out, whose-idle, whose-body, time-number, create-number, not-done}

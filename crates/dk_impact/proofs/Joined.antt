@@ -1,8 +1,5 @@
 -- From two runs to the process by itself in both configurations.
-use Rattle.std.proofs.Common.{ℕ, map, ap, sym, ◌∙◌}
-use Rattle.dk_world.specs.Run.{World}
-use Rattle.dk_alone.specs.Alone.{IsSameFor}
-use Rattle.dk_impact.specs.Impact.{renamed, IsSameAcross}
+use Rattle.dk_impact.proofs.Names.{ℕ, map, ap, sym, ◌∙◌, World, IsSameFor, renamed, IsSameAcross}
 
 pub joined : (p p' : ℕ) (w v v' w' : World) → IsSameFor p w v → IsSameAcross p p' v v' → IsSameFor p' w' v' → IsSameAcross p p' w w'
 joined p p' w v v' w' first across second =

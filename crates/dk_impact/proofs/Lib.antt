@@ -1,3 +1,4 @@
+pub mod Names
 pub mod Seen
 pub mod Whose
 pub mod Spent

@@ -1,26 +1,6 @@
 -- Without any one of the things that a process must see unchanged the law is false: runs of one process in two configurations that differ in it alone.
-use Rattle.std.proofs.Common.{ℕ, zero, suc, ◌≡◌, ◌+◌, ◌*◌, ◌/◌, ◌%◌, ◌≤◌, inl, ◌⊎◌, true, false, List, [], ◌∷◌, length, map, Option, Some, None, refl, ap, sym, ◌∙◌, subst, arith}
-use Rattle.std.specs.Prelude.{slice_index_or}
-use Rattle.std.proofs.Math.Nat.{div-add-mod}
-use Rattle.dk_config.specs.Configuration.{Configuration}
-use Rattle.dk_config.specs.Mutex.{Mutex}
-use Rattle.dk_config.specs.declared.rows.LevelRow.{LevelRow}
-use Rattle.dk_config.specs.Windows.{period, main_level, max_level, budget, memory, longest_hold}
-use Rattle.dk_config.specs.Certification.{is_user}
-use Rattle.dk_config.specs.Checked.{IsChecked, IsAccepted}
-use Rattle.dk_config.specs.Tests.{first_broken}
+use Rattle.dk_impact.proofs.Names.{ℕ, zero, suc, ◌≡◌, ◌+◌, ◌*◌, ◌/◌, ◌%◌, ◌≤◌, inl, ◌⊎◌, true, false, List, [], ◌∷◌, length, map, Option, Some, None, refl, ap, sym, ◌∙◌, subst, arith, slice_index_or, div-add-mod, Configuration, Mutex, LevelRow, period, main_level, max_level, budget, memory, longest_hold, is_user, IsChecked, IsAccepted, first_broken, checked, Ld, Jmp, Trap, Event, Entry, number, world, trace, accepted, alone, entries_of, ReadsNoTick, KeepsToItself, program, call_of, earlier-call, MakesNoThread, SeesTheSameButPeriod, renamed, IsSameAcross, ChangesOfOthersHaveNoImpact}
 use Rattle.dk_config.specs.Rules.{all_tests, version_tests, count_tests, range_tests, period_tests, name_tests, again_tests, level_tests, budget_tests, user_tests, slowest_tests}
-use Rattle.dk_config.proofs.CheckedConfig.{checked}
-use Rattle.dk_isa.specs.declared.Instr.TheVariants.{Ld, Jmp, Trap}
-use Rattle.dk_trace.specs.declared.Event.{Event}
-use Rattle.dk_trace.specs.declared.Entry.{Entry}
-use Rattle.dk_trace.specs.Refusals.{number}
-use Rattle.dk_world.specs.Run.{world, trace}
-use Rattle.dk_bound.proofs.Accepted.{accepted}
-use Rattle.dk_alone.specs.Alone.{alone, entries_of, ReadsNoTick, KeepsToItself}
-use Rattle.dk_alone.proofs.Premises.{program, call_of, earlier-call}
-use Rattle.dk_impact.specs.Impact.{MakesNoThread, SeesTheSameButPeriod, renamed, IsSameAcross}
-use Rattle.dk_impact.specs.Laws.{ChangesOfOthersHaveNoImpact}
 
 -- one process, with a level for each of these periods, at the last of them
 abbrev frame : ℕ → ℕ → List LevelRow → ℕ → ℕ → ℕ → List Mutex → Configuration

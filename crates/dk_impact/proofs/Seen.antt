@@ -1,37 +1,6 @@
 -- What a process sees of a configuration decides what its kernel calls come to.
-use Rattle.std.proofs.Common.{ℕ, ◌≡◌, ◌-◌, ◌+◌, Bool, true, false, cond, not, ◌&&◌, ◌||◌, eqb, leb, ltb, List, [], ◌∷◌, length, map, Option, Some, None, refl, sym, ap, ◌∙◌, subst}
-use Rattle.std.specs.Prelude.{filter, sum_by, ◌*◌, ◌/◌}
-use Rattle.std.specs.List.{list_any}
-use Rattle.dk_config.specs.Configuration.{Configuration}
-use Rattle.dk_config.specs.Windows.{period, main_level, max_level, slots, budget, longest_hold, may_ask}
-use Rattle.dk_config.specs.Certification.{is_user}
-use Rattle.dk_isa.specs.declared.FaultKind.{FaultKind}
-use Rattle.dk_trace.specs.declared.Phase.{Phase}
-use Rattle.dk_trace.specs.declared.Work.{Work}
-use Rattle.dk_trace.specs.declared.Choice.{Choice}
-use Rattle.dk_trace.specs.declared.Label.{Label}
-use Rattle.dk_trace.specs.declared.Event.{Event}
-use Rattle.dk_trace.specs.declared.Refusal.{Refusal}
-use Rattle.dk_trace.specs.declared.Entry.{Entry}
-use Rattle.dk_trace.specs.Entries.{is_of, is_budget_of, is_out_of}
-use Rattle.dk_trace.specs.Threads.{Thread, family, is_main, is_void, is_ended_by}
-use Rattle.dk_trace.specs.Jobs.{Job, body_left, thread_body_left}
-use Rattle.dk_trace.specs.Holds.{Hold, aged, given_back, held_after, held_by, is_held, is_holding, is_innermost, innermost_left}
-use Rattle.dk_trace.specs.Audit.{label_of, next_serial}
-use Rattle.dk_trace.specs.Refusals.{first_refusal, standing_children, least_share, create_refusal, delete_refusal, lock_refusal, slack_refusal, is_running_child}
-use Rattle.dk_cpu.specs.declared.Context.{Context}
-use Rattle.dk_cpu.specs.declared.Outcome.{Outcome}
-use Rattle.dk_cpu.specs.declared.kernel_call.KernelCall.{KernelCall}
-use Rattle.dk_cpu.specs.Machine.{Tick, reg}
-use Rattle.dk_world.specs.Calls.{Effect, Reply, Child, effect, call_effect, or_refused, done, creates, answers}
-use Rattle.dk_world.specs.Run.{Image, Turn, quiet_entry, thread_at, thread_turn, breaks_hold, may_be_last, image_after, work_done}
-use Rattle.dk_trace.proofs.Mains.{main_id, main_row}
-use Rattle.dk_trace.proofs.Charged.{the_job, job-charged, family-charged}
-use Rattle.dk_alone.specs.Alone.{is_of_process, entries_of}
-use Rattle.dk_world.proofs.Audits.{held-quiet}
-use Rattle.dk_alone.proofs.Own.{own, Plain, family-alone}
-use Rattle.dk_alone.proofs.Same.{row-at}
-use Rattle.dk_impact.specs.Impact.{SeesTheSameButPeriod, renamed_label, renamed}
+use Rattle.dk_impact.proofs.Names.{ℕ, ◌≡◌, ◌-◌, ◌+◌, Bool, true, false, cond, not, ◌&&◌, ◌||◌, eqb, leb, ltb, List, [], ◌∷◌, length, map, Option, Some, None, refl, sym, ap, ◌∙◌, subst, filter, sum_by, list_any, Configuration, period, main_level, max_level, slots, budget, longest_hold, may_ask, is_user, FaultKind, Phase, Work, Choice, Label, Event, Refusal, Entry, is_of, is_budget_of, is_out_of, Thread, family, is_main, is_void, is_ended_by, Job, body_left, thread_body_left, Hold, aged, given_back, held_after, held_by, is_held, is_holding, is_innermost, innermost_left, label_of, next_serial, first_refusal, standing_children, least_share, create_refusal, delete_refusal, lock_refusal, slack_refusal, is_running_child, Context, Outcome, KernelCall, Tick, reg, Effect, Reply, Child, effect, call_effect, or_refused, done, creates, answers, Image, Turn, quiet_entry, thread_at, thread_turn, breaks_hold, may_be_last, image_after, work_done, main_id, main_row, the_job, job-charged, family-charged, is_of_process, entries_of, held-quiet, own, Plain, family-alone, row-at, SeesTheSameButPeriod, renamed_label, renamed}
+use Rattle.std.specs.Prelude.{◌*◌, ◌/◌}
 
 -- each mutex that is held is one that the process may lock
 abbrev pub Users : Configuration → ℕ → List Hold → Type 0

@@ -1,29 +1,5 @@
 -- By itself a process has nothing left once as many ticks of a window are over as its budget has, and rests to the window's end.
-use Rattle.std.proofs.Common.{ℕ, zero, suc, ◌≡◌, ◌+◌, ◌-◌, ◌*◌, ◌%◌, ◌<◌, ◌≤◌, inl, inr, Bool, true, false, cond, not, ◌&&◌, ◌||◌, List, ◌∷◌, refl, sym, ap, ◌∙◌, subst, arith}
-use Rattle.std.proofs.lemmas.Bool.{cases_lt}
-use Rattle.std.proofs.Math.Nat.{add-mod-mod, mod-eq_of_lt, mod_self}
-use Rattle.dk_config.specs.Configuration.{Configuration}
-use Rattle.dk_config.specs.Windows.{period, main_level, budget}
-use Rattle.dk_trace.specs.declared.Phase.{Phase}
-use Rattle.dk_trace.specs.declared.Work.{Work}
-use Rattle.dk_trace.specs.declared.Choice.{Choice}
-use Rattle.dk_trace.specs.declared.Label.{Label}
-use Rattle.dk_trace.specs.declared.Entry.{Entry}
-use Rattle.dk_trace.specs.Entries.{payer, is_out, is_budget_of, is_out_of, does, is_wait, is_end}
-use Rattle.dk_trace.specs.Jobs.{Job, phase, rem}
-use Rattle.dk_trace.specs.Audit.{label_of}
-use Rattle.dk_trace.proofs.Windows.{spent}
-use Rattle.dk_trace.proofs.Mains.{main_id}
-use Rattle.dk_trace.proofs.Charged.{the_job}
-use Rattle.dk_trace.proofs.Labels.{budget-labels, spent-payer}
-use Rattle.dk_trace.proofs.Orders.{InOrder, is_out_phase, charge-order, fresh-order}
-use Rattle.dk_trace.proofs.Same.{same-self}
-use Rattle.dk_world.specs.Run.{World, Turn, quiet_entry, step_of, thread_turn, tick_in, work_done}
-use Rattle.dk_alone.specs.Alone.{alone, choice_alone, step_alone, entries_of}
-use Rattle.dk_alone.proofs.Own.{Own, own, booked, after, fresh, Plain, booked-after, after-other, own-within, own-begins}
-use Rattle.dk_alone.proofs.Steps.{alone-works, alone-rests, turn-label}
-use Rattle.dk_alone.proofs.Ties.{alone-long, tail}
-use Rattle.dk_alone.proofs.Again.{entry-by, on, on-is}
+use Rattle.dk_impact.proofs.Names.{ℕ, zero, suc, ◌≡◌, ◌+◌, ◌-◌, ◌*◌, ◌%◌, ◌<◌, ◌≤◌, inl, inr, Bool, true, false, cond, not, ◌&&◌, ◌||◌, List, ◌∷◌, refl, sym, ap, ◌∙◌, subst, arith, cases_lt, add-mod-mod, mod-eq_of_lt, mod_self, Configuration, period, main_level, budget, Phase, Work, Choice, Label, Entry, payer, is_out, is_budget_of, is_out_of, does, is_wait, is_end, Job, phase, rem, label_of, spent, main_id, the_job, budget-labels, spent-payer, InOrder, is_out_phase, charge-order, fresh-order, same-self, World, Turn, quiet_entry, step_of, thread_turn, tick_in, work_done, alone, choice_alone, step_alone, entries_of, Own, own, booked, after, fresh, Plain, booked-after, after-other, own-within, own-begins, alone-works, alone-rests, turn-label, alone-long, tail, entry-by, on, on-is}
 
 -- where in its window the j-th tick after the start of a window is
 pub place : (P m j : ℕ) → m % P ≡ 0 → j < P → on j m % P ≡ j

@@ -1,20 +1,5 @@
 -- What the first change tells of what a process sees.
-use Rattle.std.proofs.Common.{ℕ, zero, suc, ◌≡◌, ◌+◌, ◌<◌, ◌≤◌, ◌⊎◌, inl, inr, Bool, true, false, cond, List, length, Option, Some, None, refl, sym, ap, ◌∙◌, subst, arith}
-use Rattle.std.specs.Prelude.{slice_get}
-use Rattle.std.specs.Option.{option_map_or, option_or}
-use Rattle.std.proofs.lemmas.Bool.{cases_lt}
-use Rattle.std.proofs.lemmas.Bool.Decides.{eqb_tells}
-use Rattle.std.proofs.lemmas.Option.{slice_get_past}
-use Rattle.dk_config.specs.declared.TheConstants.{MAX_MUTEXES}
-use Rattle.dk_config.specs.Configuration.{Configuration}
-use Rattle.dk_config.specs.Checked.{IsWithinLimits}
-use Rattle.dk_config.specs.Sums.{numbers, first_of}
-use Rattle.dk_config.specs.Mutex.{Mutex}
-use Rattle.dk_config.specs.Windows.{period, main_level, max_level, budget, memory, longest_hold}
-use Rattle.dk_config.specs.Certification.{is_user, uses}
-use Rattle.dk_impact.specs.declared.change.Change.{Change}
-use Rattle.dk_impact.specs.Impact.{MakesNoThread, SeesTheSame}
-use Rattle.dk_impact.specs.Changes.{differs, use_of, mutex_change, first_change, Tells}
+use Rattle.dk_impact.proofs.Names.{ℕ, zero, suc, ◌≡◌, ◌+◌, ◌<◌, ◌≤◌, ◌⊎◌, inl, inr, Bool, true, false, cond, List, length, Option, Some, None, refl, sym, ap, ◌∙◌, subst, arith, slice_get, option_map_or, option_or, cases_lt, eqb_tells, slice_get_past, MAX_MUTEXES, Configuration, IsWithinLimits, numbers, first_of, Mutex, period, main_level, max_level, budget, memory, longest_hold, is_user, uses, Change, MakesNoThread, SeesTheSame, differs, use_of, mutex_change, first_change, Tells}
 
 -- the numbers differ, or the search goes on
 step : (P : Option Change → Type 0) (change : Change) (a b : ℕ) (rest : Option Change) → ((a ≡ b → ⊥) → P (Some change)) → (a ≡ b → P rest)

@@ -1,23 +1,6 @@
 -- Two labels that are the same but for the process, and calls that no instruction of a program is.
-use Rattle.std.proofs.Common.{ℕ, ◌≡◌, ◌+◌, ◌*◌, ◌≤◌, inl, inr, Bool, true, false, cond, ◌&&◌, eqb, ltb, List, length, Option, Some, None, refl, sym, ap, ◌∙◌, subst, arith}
-use Rattle.std.specs.Prelude.{slice_range}
-use Rattle.std.proofs.lemmas.Bool.{cases_lt, eq-eqb}
-use Rattle.std.proofs.lemmas.Bool.Decides.{nat_tests, eqb_tells}
-use Rattle.dk_config.specs.Configuration.{Configuration}
-use Rattle.dk_isa.specs.declared.FaultKind.{FaultKind}
-use Rattle.dk_isa.specs.declared.Instr.{Instr}
-use Rattle.dk_isa.specs.Table.{instruction_of}
-use Rattle.dk_trace.specs.declared.Phase.{Phase}
-use Rattle.dk_trace.specs.declared.Work.{Work}
-use Rattle.dk_trace.specs.declared.Choice.{Choice}
-use Rattle.dk_trace.specs.declared.Label.{Label}
-use Rattle.dk_trace.specs.Audit.{label_of}
-use Rattle.dk_cpu.specs.declared.Outcome.{Outcome}
-use Rattle.dk_cpu.specs.declared.kernel_call.KernelCall.{KernelCall}
+use Rattle.dk_impact.proofs.Names.{ℕ, ◌≡◌, ◌+◌, ◌*◌, ◌≤◌, inl, inr, Bool, true, false, cond, ◌&&◌, eqb, ltb, List, length, Option, Some, None, refl, sym, ap, ◌∙◌, subst, arith, slice_range, cases_lt, eq-eqb, nat_tests, eqb_tells, Configuration, FaultKind, Instr, instruction_of, Phase, Work, Choice, Label, label_of, Outcome, KernelCall, Image, tick_in, own-tick, main_id}
 use Rattle.dk_cpu.specs.Machine.{call_of}
-use Rattle.dk_world.specs.Run.{Image, tick_in}
-use Rattle.dk_world.proofs.Outcomes.{own-tick}
-use Rattle.dk_trace.proofs.Mains.{main_id}
 use Rattle.dk_impact.proofs.Seen.{Whose}
 
 same-self : (p p' : ℕ) → (eqb p p && true) ≡ (eqb p' p' && true)

@@ -1,17 +1,5 @@
 -- The entries of a process in whole windows of two runs that number it differently.
-use Rattle.std.proofs.Common.{ℕ, zero, suc, ◌≡◌, ◌+◌, ◌*◌, List, [], ◌∷◌, ◌++◌, map, refl, sym, ap, ◌∙◌, subst, arith}
-use Rattle.std.specs.Prelude.{take}
-use Rattle.std.proofs.lemmas.List.{append_cancel_right}
-use Rattle.std.proofs.lemmas.List.Elements.{filter-append}
-use Rattle.dk_config.specs.Configuration.{Configuration}
-use Rattle.dk_config.specs.Windows.{period, main_level}
-use Rattle.dk_trace.specs.declared.Entry.{Entry}
-use Rattle.dk_trace.specs.Choices.{chosen}
-use Rattle.dk_world.specs.Run.{trace, world}
-use Rattle.dk_alone.specs.Alone.{entries_of, is_of_process}
-use Rattle.dk_alone.specs.Again.{own_window}
-use Rattle.dk_alone.proofs.Again.{entry-by, on, on-is}
-use Rattle.dk_impact.specs.Impact.{renamed, IsSameAcross}
+use Rattle.dk_impact.proofs.Names.{ℕ, zero, suc, ◌≡◌, ◌+◌, ◌*◌, List, [], ◌∷◌, ◌++◌, map, refl, sym, ap, ◌∙◌, subst, arith, take, append_cancel_right, filter-append, Configuration, period, main_level, Entry, chosen, trace, world, entries_of, is_of_process, own_window, entry-by, on, on-is, renamed, IsSameAcross}
 
 -- the entries of the last ticks stand before those up to an earlier tick
 last-ticks : (c : Configuration) (programs : List (List ℕ)) (t n : ℕ) → trace c programs (on n t) ≡ take n (trace c programs (on n t)) ++ trace c programs t

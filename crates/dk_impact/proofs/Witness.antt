@@ -1,24 +1,6 @@
 -- The premises can be met all at once by configurations that differ in much: a level before and one after, a process before and one after, another user of the mutex and another ceiling.
-use Rattle.std.proofs.Common.{ℕ, zero, suc, ◌≡◌, ◌+◌, ◌*◌, ◌%◌, ◌≤◌, ◌<◌, ◌⊎◌, inl, inr, None, Bool, true, false, not, List, [], ◌∷◌, map, refl, ap, subst, arith}
-use Rattle.std.specs.Prelude.{slice_index_or}
-use Rattle.std.specs.List.{list_any}
-use Rattle.std.proofs.lemmas.Bool.{cases_lt}
-use Rattle.dk_config.specs.Configuration.{Configuration}
-use Rattle.dk_config.specs.Windows.{longest_hold}
-use Rattle.dk_config.specs.Certification.{is_user}
-use Rattle.dk_config.specs.Tests.{first_broken}
+use Rattle.dk_impact.proofs.Names.{ℕ, zero, suc, ◌≡◌, ◌+◌, ◌*◌, ◌%◌, ◌≤◌, ◌<◌, ◌⊎◌, inl, inr, None, Bool, true, false, not, List, [], ◌∷◌, map, refl, ap, subst, arith, slice_index_or, list_any, cases_lt, Configuration, longest_hold, is_user, first_broken, checked, Jmp, Trap, Entry, stops, world, accepted, KeepsToItself, ReadsNoTick, ProcessStandsAgain, own_window, program, spinner, call_of, SeesTheSame, SeesTheSameButPeriod, MakesNoThread, IsSameAcross, renamed, ChangesOfOthersHaveNoImpact, ChangesOfPeriodHaveNoImpact, FirstWindowsTellAcross, FirstWindowsTellAtAnyPeriod}
 use Rattle.dk_config.specs.Rules.{all_tests, version_tests, count_tests, range_tests, period_tests, name_tests, again_tests, level_tests, budget_tests, user_tests, slowest_tests}
-use Rattle.dk_config.proofs.CheckedConfig.{checked}
-use Rattle.dk_isa.specs.declared.Instr.TheVariants.{Jmp, Trap}
-use Rattle.dk_trace.specs.declared.Entry.{Entry}
-use Rattle.dk_trace.specs.Entries.{stops}
-use Rattle.dk_world.specs.Run.{world}
-use Rattle.dk_bound.proofs.Accepted.{accepted}
-use Rattle.dk_alone.specs.Alone.{KeepsToItself, ReadsNoTick}
-use Rattle.dk_alone.specs.Again.{ProcessStandsAgain, own_window}
-use Rattle.dk_alone.proofs.Premises.{program, spinner, call_of}
-use Rattle.dk_impact.specs.Impact.{SeesTheSame, SeesTheSameButPeriod, MakesNoThread, IsSameAcross, renamed}
-use Rattle.dk_impact.specs.Laws.{ChangesOfOthersHaveNoImpact, ChangesOfPeriodHaveNoImpact, FirstWindowsTellAcross, FirstWindowsTellAtAnyPeriod}
 
 abbrev old_at : ℕ → Configuration
 old_at ticks = record {

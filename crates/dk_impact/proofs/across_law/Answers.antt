@@ -1,4 +1,4 @@
-use Rattle.dk_config.specs.Windows.{main_level}
+use Rattle.dk_impact.proofs.Names.{main_level}
 use Rattle.dk_impact.proofs.Across.{across}
 use Rattle.dk_impact.proofs.across_law.Goals as goal
 

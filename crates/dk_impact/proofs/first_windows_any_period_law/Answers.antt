@@ -1,8 +1,4 @@
-use Rattle.std.proofs.Common.{◌≡◌, ◌*◌, ◌+◌, ◌/◌, ◌%◌, ◌∙◌, true, ap, arith, map, refl, sym, subst}
-use Rattle.std.proofs.Math.Nat.{div-add-mod, mul-mod_left}
-use Rattle.dk_config.specs.Windows.{period, main_level}
-use Rattle.dk_alone.specs.Again.{own_window}
-use Rattle.dk_impact.specs.Impact.{renamed}
+use Rattle.dk_impact.proofs.Names.{◌≡◌, ◌*◌, ◌+◌, ◌/◌, ◌%◌, ◌∙◌, true, ap, arith, map, refl, sym, subst, div-add-mod, mul-mod_left, period, main_level, own_window, renamed}
 use Rattle.dk_impact.proofs.first_windows_any_period_law.Goals as goal
 
 pub returns : goal.returns

@@ -1,8 +1,4 @@
-use Rattle.std.proofs.Common.{◌≡◌, ◌%◌, ◌∙◌, [], ap, sym, subst}
-use Rattle.std.specs.Prelude.{slice_index_or}
-use Rattle.dk_config.specs.Windows.{period, main_level}
-use Rattle.dk_alone.specs.Alone.{alone, KeepsToItself, IsSameFor}
-use Rattle.dk_world.specs.Run.{world}
+use Rattle.dk_impact.proofs.Names.{◌≡◌, ◌%◌, ◌∙◌, [], ap, sym, subst, slice_index_or, period, main_level, alone, KeepsToItself, IsSameFor, world}
 use Rattle.dk_impact.proofs.Joined.{joined}
 use Rattle.dk_impact.proofs.impact_law.Goals as goal
 

@@ -1,9 +1,4 @@
-use Rattle.std.proofs.Common.{◌*◌, [], sym, subst}
-use Rattle.std.specs.Prelude.{slice_index_or}
-use Rattle.std.proofs.Math.Nat.{mul-mod_left}
-use Rattle.dk_config.specs.Windows.{period, main_level}
-use Rattle.dk_alone.specs.Alone.{alone, KeepsToItself, IsSameFor}
-use Rattle.dk_world.specs.Run.{world}
+use Rattle.dk_impact.proofs.Names.{◌*◌, [], sym, subst, slice_index_or, mul-mod_left, period, main_level, alone, KeepsToItself, IsSameFor, world}
 use Rattle.dk_impact.proofs.Joined.{joined}
 use Rattle.dk_impact.proofs.period_impact_law.Goals as goal
 

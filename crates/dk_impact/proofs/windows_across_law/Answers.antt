@@ -1,4 +1,4 @@
-use Rattle.std.proofs.Common.{◌+◌}
+use Rattle.dk_impact.proofs.Names.{◌+◌}
 use Rattle.dk_impact.proofs.Windows.{windows-across}
 use Rattle.dk_impact.proofs.windows_across_law.Goals as goal
 

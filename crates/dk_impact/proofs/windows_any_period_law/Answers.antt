@@ -1,4 +1,4 @@
-use Rattle.std.proofs.Common.{suc}
+use Rattle.dk_impact.proofs.Names.{suc}
 use Rattle.dk_impact.proofs.Windows.{windows-any-period}
 use Rattle.dk_impact.proofs.windows_any_period_law.Goals as goal
 

@@ -1,5 +1,4 @@
-use Rattle.std.proofs.Common.{sym, subst}
-use Rattle.dk_impact.specs.Changes.{Tells}
+use Rattle.dk_impact.proofs.Names.{sym, subst, Tells}
 use Rattle.dk_impact.proofs.Told.{told}
 use Rattle.dk_impact.proofs.changes.first_change.Goals as goal
 

@@ -1,7 +1,4 @@
-use Rattle.std.proofs.Common.{sym, ◌∙◌, rules}
-use Rattle.dk_config.specs.declared.TheConstants.{MAX_MUTEXES}
-use Rattle.dk_config.proofs.FirstOf.{first-at}
-use Rattle.dk_impact.specs.Changes.{mutex_change}
+use Rattle.dk_impact.proofs.Names.{sym, ◌∙◌, rules, MAX_MUTEXES, first-at, mutex_change}
 use Rattle.dk_impact.proofs.changes.mutexes_change.Goals as goal
 
 pub returns-in-Some : goal.returns-in-Some

@@ -1,5 +1,5 @@
+use Rattle.dk_impact.proofs.Names.{mutex_change}
 use Rattle.std.specs.Prelude.{ℕ, ◌≡◌, ◌<◌, None}
-use Rattle.dk_impact.specs.Changes.{mutex_change}
 use Rattle.dk_impact.proofs.changes.mutexes_change.Given as goal
 
 abbrev pub invariant-loop-mutex : goal.invariant-loop-mutex
