@@ -1,5 +1,5 @@
 -- No field of a table has a byte that parts fields or records, so its text is its fields with commas between them.
-use Rattle.std.proofs.Common.{ℕ, ◌≡◌, ◌∙◌, ◌+◌, ◌++◌, [], ◌∷◌, List, length, map, sym, ap, refl, arith, length-append}
+use Rattle.std.proofs.Common.{ℕ, ◌≡◌, ◌∙◌, ◌++◌, [], ◌∷◌, List, length, map, sym, ap, refl, arith, length-append}
 use Rattle.std.specs.Prelude.{true, flat_map, Option, Some, None}
 use Rattle.std.proofs.lemmas.Bool.Decides.{nat_tests}
 use Rattle.std.specs.List.{AllByRecursion}
@@ -9,11 +9,12 @@ use Rattle.dk_trace.specs.declared.Entry.{Entry}
 use Rattle.dk_ledger.specs.declared.line.LedgerLine.{LedgerLine}
 use Rattle.dk_ledger.specs.Heading.{Heading}
 use Rattle.dk_ledger.specs.Readable.{IsReadable, IsReadableHeading}
-use Rattle.dk_ledger.proofs.EntryLists.{IsReadableLine}
 use Rattle.dk_ledger.proofs.WordBytes.{all_more}
 use Rattle.dk_groups.specs.Groups.{groups}
-use Rattle.dk_groups.proofs.Readable.{groups_readable}
-use Rattle.dk_csv.specs.Rows.{columns, csv_text, event_fields, fields, owner_fields, record_text, rows_text, source_fields}
+use Rattle.dk_entry_words.specs.declared.arguments.Arguments.{Arguments}
+use Rattle.dk_entry_words.specs.Arguments.{arguments_of, word_of}
+use Rattle.dk_entry_words.proofs.ReadBack.{printable}
+use Rattle.dk_csv.specs.Rows.{columns, csv_text, event_fields, fields, owner_fields, padded, record_text, rows_text, source_fields}
 use Rattle.dk_csv.specs.Laws.{is_bare, IsBare, IsRecord, joined, records}
 use Rattle.dk_csv.proofs.PlainRows.{Plains, fields_are_plain, is_plain}
 use Rattle.dk_csv.proofs.ReadBack.{owner_length, source_length}
@@ -25,23 +26,20 @@ all_bare : (fs : List (List ℕ)) → Plains fs → AllByRecursion IsBare fs
 all_bare [] all = tt
 all_bare (f ∷ fs) all = (all_more is_plain is_bare plain_bare f all.0, all_bare fs all.1)
 
+padded_length : (word : List ℕ) (arguments : Arguments) → length (padded word arguments) ≡ 4
+padded_length word Arguments.Nothing = refl
+padded_length word (Arguments.Kind kind) = refl
+padded_length word (Arguments.One n) = refl
+padded_length word (Arguments.Three a b c) = refl
+
 event_length : (event : Option Event) → length (event_fields event) ≡ 4
 event_length None = refl
-event_length (Some Event.Wait) = refl
-event_length (Some Event.Exit) = refl
-event_length (Some (Event.Fault kind)) = refl
-event_length (Some (Event.Create serial level quota)) = refl
-event_length (Some (Event.Delete serial)) = refl
-event_length (Some (Event.Lock m)) = refl
-event_length (Some (Event.Unlock m)) = refl
-event_length (Some (Event.Slack amount)) = refl
-event_length (Some (Event.Put value)) = refl
-event_length (Some (Event.Refused refusal)) = refl
+event_length (Some e) = padded_length (word_of e) (arguments_of e)
 
 module _ (h : Heading) (is : IsReadableHeading h) where
-  row_is_record : (g : LedgerLine) → IsReadableLine h g → IsRecord (fields h g)
-  row_is_record g fits =
-      let plain = fields_are_plain h is g fits.label fits.event fits.short in
+  row_is_record : (g : LedgerLine) → IsRecord (fields h g)
+  row_is_record g =
+      let plain = fields_are_plain h (printable h is) g in
       let owner = owner_length h g.label in
       let source = source_length g.label in
       let event = event_length g.event in
@@ -49,15 +47,15 @@ module _ (h : Heading) (is : IsReadableHeading h) where
       let all = length-append (owner_fields h g.label) (source_fields g.label ++ event_fields g.event) in
       record { count = omega (arith, owner, source, event, back, all); bare = all_bare (fields h g) (plain.0, plain.1) }
 
-  rows_are_records : (gs : List LedgerLine) → AllByRecursion (IsReadableLine h) gs → AllByRecursion IsRecord (map (fields h) gs)
-  rows_are_records [] fits = tt
-  rows_are_records (g ∷ gs) fits = (row_is_record g fits.0, rows_are_records gs fits.1)
+  rows_are_records : (gs : List LedgerLine) → AllByRecursion IsRecord (map (fields h) gs)
+  rows_are_records [] = tt
+  rows_are_records (g ∷ gs) = (row_is_record g, rows_are_records gs)
 
-  rows_joined : (gs : List LedgerLine) → AllByRecursion (IsReadableLine h) gs → rows_text h gs ≡ flat_map joined (map (fields h) gs)
-  rows_joined [] fits = refl
-  rows_joined (g ∷ gs) fits =
-      ap (λ t. t ++ rows_text h gs) (sym (fields_are_plain h is g fits.0.label fits.0.event fits.0.short).2)
-      ∙ ap (λ t. joined (fields h g) ++ t) (rows_joined gs fits.1)
+  rows_joined : (gs : List LedgerLine) → rows_text h gs ≡ flat_map joined (map (fields h) gs)
+  rows_joined [] = refl
+  rows_joined (g ∷ gs) =
+      ap (λ t. t ++ rows_text h gs) (sym (fields_are_plain h (printable h is) g).2)
+      ∙ ap (λ t. joined (fields h g) ++ t) (rows_joined gs)
 
 columns_joined : record_text columns ≡ joined columns
 unfolding fields_text is_blank
@@ -70,9 +68,9 @@ names_are_record = record {
 }
 
 pub all_records : (h : Heading) (from to : ℕ) (es : List Entry) → IsReadable (record { heading = h; entries = es }) → AllByRecursion IsRecord (records from to h es)
-all_records h from to es is = (names_are_record, rows_are_records h is.heading (groups from to es) (groups_readable h from to es is))
+all_records h from to es is = (names_are_record, rows_are_records h is.heading (groups from to es))
 
 pub all_joined : (h : Heading) (from to : ℕ) (es : List Entry) → IsReadable (record { heading = h; entries = es }) → csv_text from to h es ≡ flat_map joined (records from to h es)
 all_joined h from to es is =
     ap (λ t. t ++ rows_text h (groups from to es)) columns_joined
-    ∙ ap (λ t. joined columns ++ t) (rows_joined h is.heading (groups from to es) (groups_readable h from to es is))
+    ∙ ap (λ t. joined columns ++ t) (rows_joined h is.heading (groups from to es))

@@ -1,30 +1,27 @@
 -- A row has no field that calls for quotes, so it is its fields with commas between them.
-use Rattle.std.proofs.Common.{ℕ, ◌≡◌, ◌∙◌, ◌+◌, ◌<◌, ◌≤◌, ◌^◌, ◌++◌, [], ◌∷◌, List, length, sym, ap, refl, arith, codes}
+use Rattle.std.proofs.Common.{ℕ, ◌≡◌, ◌∙◌, ◌++◌, [], ◌∷◌, List, sym, ap, refl, arith, codes}
 use Rattle.std.specs.Prelude.{Bool, true, false, not, decimal, Option, Some, None, if◌then◌else◌, ◌&&◌, ◌||◌}
 use Rattle.std.proofs.lemmas.Bool.Decides.{nat_tests}
-use Rattle.std.specs.Char.{is_ascii_digit}
 use Rattle.std.specs.List.{AllByRecursion, list_all, list_any}
 use Rattle.csv.specs.Quoting.{needs_byte}
 use Rattle.csv.specs.Writing.{default_writer, fields_text, field_text, is_blank, quoted}
-use Rattle.dk_config.specs.Rules.{is_word}
 use Rattle.dk_isa.specs.declared.FaultKind.{FaultKind}
 use Rattle.dk_trace.specs.declared.ThreadId.{ThreadId}
 use Rattle.dk_trace.specs.declared.Source.{Source}
 use Rattle.dk_trace.specs.declared.Work.{Work}
 use Rattle.dk_trace.specs.declared.Label.{Label}
 use Rattle.dk_trace.specs.declared.Event.{Event}
-use Rattle.dk_trace.specs.Ranges.{HasLabel, HasOwnEvent, HasThread}
-use Rattle.dk_trace.specs.Refusals.{number}
 use Rattle.dk_ledger.specs.declared.line.LedgerLine.{LedgerLine}
-use Rattle.dk_ledger.specs.Heading.{Heading, name_of}
+use Rattle.dk_ledger.specs.Heading.{Heading, IsPrintable, name_of}
 use Rattle.dk_ledger.specs.LineText.{fault_text}
-use Rattle.dk_ledger.specs.Readable.{IsReadableHeading, size_in}
-use Rattle.dk_ledger.proofs.Split.{refusal_small}
-use Rattle.dk_ledger.proofs.WordBytes.{all_more}
-use Rattle.dk_groups.specs.Cutting.{IsGroupIn}
-use Rattle.dk_groups.proofs.Names.{line_at}
-use Rattle.dk_groups.proofs.Until.{decimal_digits}
-use Rattle.dk_csv.specs.Rows.{behind_comma, event_fields, fields, kind_text, level_of, owner_fields, plain_row, record_text, source_fields, thread_fields}
+use Rattle.dk_ledger.specs.Readable.{IsReadableHeading}
+use Rattle.dk_ledger.proofs.Split.{all_append}
+use Rattle.dk_entry_words.specs.declared.arguments.Arguments.{Arguments}
+use Rattle.dk_entry_words.specs.Arguments.{arguments_of, word_of}
+use Rattle.dk_entry_words.specs.Laws.{IsSpelled, is_spelled}
+use Rattle.dk_entry_words.proofs.ReadBack.{printable}
+use Rattle.dk_entry_words.proofs.Spelled.{event_spelled, number_spelled, process_spelled, word_all, word_of_spelled}
+use Rattle.dk_csv.specs.Rows.{behind_comma, event_fields, fields, kind_text, level_of, owner_fields, padded, plain_row, record_text, source_fields, thread_fields}
 
 -- a byte that calls for no quotes
 abbrev pub is_plain : ℕ → Bool
@@ -65,14 +62,14 @@ row_plain first second rest plain all =
     sym (ap (λ t. (t ++ fields_text default_writer (second ∷ rest)) ++ 10 ∷ []) (field_plain first plain)
     ∙ ap (λ t. (first ++ t) ++ 10 ∷ []) (fields_plain (second ∷ rest) all))
 
-word_plain : (b : ℕ) → is_word b ≡ true → is_plain b ≡ true
-word_plain b h = grind (arith, nat_tests)
+spelled_plain : (b : ℕ) → is_spelled b ≡ true → is_plain b ≡ true
+spelled_plain b h = grind (arith, nat_tests)
 
-digit_plain : (b : ℕ) → is_ascii_digit b ≡ true → is_plain b ≡ true
-digit_plain b h = grind (arith, nat_tests)
+spelled : (w : List ℕ) → IsSpelled w → Plain w
+spelled = word_all is_plain spelled_plain
 
-pub number_plain : (n : ℕ) → n < 2 ^ 64 → Plain (decimal n)
-number_plain n h = all_more is_ascii_digit is_plain digit_plain (decimal n) (decimal_digits n h)
+number_plain : (n : ℕ) → Plain (decimal n)
+number_plain n = spelled (decimal n) (number_spelled n)
 
 kind_plain : (label : Label) → Plain (kind_text label)
 kind_plain (Label.Kernel j) = refl
@@ -85,83 +82,58 @@ kind_plain (Label.Slack x source Work.Run) = refl
 kind_plain (Label.Slack x source Work.Call) = refl
 kind_plain Label.Idle = refl
 
-module _ (h : Heading) (is : IsReadableHeading h) where
-  few_levels : length h.levels ≤ 12
-  few_levels = is.few_levels
+source_plain : (label : Label) → Plains (source_fields label)
+source_plain (Label.Kernel j) = (refl, (refl, tt))
+source_plain (Label.In x) = (refl, (refl, tt))
+source_plain (Label.Run x) = (refl, (refl, tt))
+source_plain (Label.Call x) = (refl, (refl, tt))
+source_plain (Label.Out x) = (refl, (refl, tt))
+source_plain (Label.Slack x Source.Timeline work) = (refl, (refl, tt))
+source_plain (Label.Slack x (Source.Reclaimed j) work) = (refl, (number_plain j, tt))
+source_plain Label.Idle = (refl, (refl, tt))
 
-  thread_plain : (x : ThreadId) → HasThread (size_in h) x → Plains (thread_fields h x)
-  thread_plain x known =
-      let at = line_at h.processes (length h.levels) x.process is.processes in
-      let level = at.1 in
-      let few = few_levels in
-      let serial = known.1 in (
-        all_more is_word is_plain word_plain (name_of h x.process) at.0,
-        (number_plain x.serial (omega (arith, serial)), (number_plain (level_of h x.process) (omega (arith, level, few)), tt)),
-      )
+fault_plain : (kind : FaultKind) → Plain (fault_text kind)
+fault_plain kind = spelled (fault_text kind) (event_spelled (Some (Event.Fault kind))).1.0
 
-  owner_plain : (label : Label) → HasLabel (size_in h) label → Plains (owner_fields h label)
-  owner_plain (Label.Kernel j) known = (refl, (refl, (number_plain j (let few = few_levels in omega (arith, known, few)), tt)))
-  owner_plain (Label.In x) known = thread_plain x known
-  owner_plain (Label.Run x) known = thread_plain x known
-  owner_plain (Label.Call x) known = thread_plain x known
-  owner_plain (Label.Out x) known = thread_plain x known
-  owner_plain (Label.Slack x source work) known = thread_plain x known.0
-  owner_plain Label.Idle known = (refl, (refl, (refl, tt)))
+padded_plain : (word : List ℕ) (arguments : Arguments) → Plain word → Plains (padded word arguments)
+padded_plain word Arguments.Nothing plain = (plain, (refl, (refl, (refl, tt))))
+padded_plain word (Arguments.Kind kind) plain =
+    (all_append is_plain (word ++ codes " ") (fault_text kind) (all_append is_plain word (codes " ") plain refl) (fault_plain kind), (refl, (refl, (refl, tt))))
+padded_plain word (Arguments.One n) plain = (plain, (number_plain n, (refl, (refl, tt))))
+padded_plain word (Arguments.Three a b c) plain = (plain, (number_plain a, (number_plain b, (number_plain c, tt))))
 
-  source_plain : (label : Label) → HasLabel (size_in h) label → Plains (source_fields label)
-  source_plain (Label.Kernel j) known = (refl, (refl, tt))
-  source_plain (Label.In x) known = (refl, (refl, tt))
-  source_plain (Label.Run x) known = (refl, (refl, tt))
-  source_plain (Label.Call x) known = (refl, (refl, tt))
-  source_plain (Label.Out x) known = (refl, (refl, tt))
-  source_plain (Label.Slack x Source.Timeline work) known = (refl, (refl, tt))
-  source_plain (Label.Slack x (Source.Reclaimed j) work) known =
-      let small = known.1 in
-      let few = few_levels in
-      (refl, (number_plain j (omega (arith, small, few)), tt))
-  source_plain Label.Idle known = (refl, (refl, tt))
+event_plain : (event : Option Event) → Plains (event_fields event)
+event_plain None = (refl, (refl, (refl, (refl, tt))))
+event_plain (Some e) = padded_plain (word_of e) (arguments_of e) (spelled (word_of e) (word_of_spelled e))
 
-  fault_plain : (kind : FaultKind) → Plain (codes "fault " ++ fault_text kind)
-  fault_plain FaultKind.Fetch = refl
-  fault_plain FaultKind.Decode = refl
-  fault_plain FaultKind.Memory = refl
-  fault_plain FaultKind.Divide = refl
-  fault_plain FaultKind.Call = refl
-  fault_plain FaultKind.Hold = refl
+module _ (h : Heading) (is : IsPrintable h) where
+  thread_plain : (x : ThreadId) → Plains (thread_fields h x)
+  thread_plain x = (spelled (name_of h x.process) (process_spelled h is x.process), (number_plain x.serial, (number_plain (level_of h x.process), tt)))
 
-  event_plain : (label : Label) (event : Option Event) → HasOwnEvent (size_in h) label event → Plains (event_fields event)
-  event_plain label None known = (refl, (refl, (refl, (refl, tt))))
-  event_plain label (Some Event.Wait) known = (refl, (refl, (refl, (refl, tt))))
-  event_plain label (Some Event.Exit) known = (refl, (refl, (refl, (refl, tt))))
-  event_plain label (Some (Event.Fault kind)) known = (fault_plain kind, (refl, (refl, (refl, tt))))
-  event_plain label (Some (Event.Create serial level quota)) known =
-      let own_serial = known.1.0 in
-      let own_level = known.1.1 in
-      let own_quota = known.1.2 in
-      let few = few_levels in
-      (refl, (number_plain serial (omega (arith, own_serial)), (number_plain level (omega (arith, own_level, few)), (number_plain quota (omega (arith, own_quota)), tt))))
-  event_plain label (Some (Event.Delete serial)) known = let small = known.1 in (refl, (number_plain serial (omega (arith, small)), (refl, (refl, tt))))
-  event_plain label (Some (Event.Lock m)) known = let small = known.1 in (refl, (number_plain m (omega (arith, small)), (refl, (refl, tt))))
-  event_plain label (Some (Event.Unlock m)) known = let small = known.1 in (refl, (number_plain m (omega (arith, small)), (refl, (refl, tt))))
-  event_plain label (Some (Event.Slack amount)) known = let small = known.1 in (refl, (number_plain amount (omega (arith, small)), (refl, (refl, tt))))
-  event_plain label (Some (Event.Put value)) known = let small = known.1 in (refl, (number_plain value (omega (arith, small)), (refl, (refl, tt))))
-  event_plain label (Some (Event.Refused refusal)) known = let small = refusal_small refusal in (refl, (number_plain (number refusal) (omega (arith, small)), (refl, (refl, tt))))
+  owner_plain : (label : Label) → Plains (owner_fields h label)
+  owner_plain (Label.Kernel j) = (refl, (refl, (number_plain j, tt)))
+  owner_plain (Label.In x) = thread_plain x
+  owner_plain (Label.Run x) = thread_plain x
+  owner_plain (Label.Call x) = thread_plain x
+  owner_plain (Label.Out x) = thread_plain x
+  owner_plain (Label.Slack x source work) = thread_plain x
+  owner_plain Label.Idle = (refl, (refl, (refl, tt)))
 
   -- no field calls for quotes, and so the row is the record of its fields
-  pub fields_are_plain : (g : LedgerLine) → HasLabel (size_in h) g.label → HasOwnEvent (size_in h) g.label g.event → g.start + g.count ≤ 10000000
+  pub fields_are_plain : (g : LedgerLine)
       → Plain (decimal g.start) × Plains (decimal g.count ∷ kind_text g.label ∷ (owner_fields h g.label ++ (source_fields g.label ++ event_fields g.event)))
       × (plain_row h g ++ 10 ∷ [] ≡ record_text (fields h g))
-  fields_are_plain g label event short =
-      let start = number_plain g.start (omega (arith, short)) in
+  fields_are_plain g =
+      let start = number_plain g.start in
       let rest : Plains (decimal g.count ∷ kind_text g.label ∷ (owner_fields h g.label ++ (source_fields g.label ++ event_fields g.event))) = (
-        number_plain g.count (omega (arith, short)),
+        number_plain g.count,
         (
           kind_plain g.label,
-          plains_both (owner_fields h g.label) (source_fields g.label ++ event_fields g.event) (owner_plain g.label label)
-              (plains_both (source_fields g.label) (event_fields g.event) (source_plain g.label label) (event_plain g.label g.event event)),
+          plains_both (owner_fields h g.label) (source_fields g.label ++ event_fields g.event) (owner_plain g.label)
+              (plains_both (source_fields g.label) (event_fields g.event) (source_plain g.label) (event_plain g.event)),
         ),
       ) in
       (start, rest, row_plain (decimal g.start) (decimal g.count) (kind_text g.label ∷ (owner_fields h g.label ++ (source_fields g.label ++ event_fields g.event))) start rest)
 
-  pub row_is : (from to : ℕ) (g : LedgerLine) → IsGroupIn h from to g → plain_row h g ++ 10 ∷ [] ≡ record_text (fields h g)
-  row_is from to g fits = (fields_are_plain g fits.label fits.event fits.short).2
+pub row_is : (h : Heading) → IsReadableHeading h → (g : LedgerLine) → plain_row h g ++ 10 ∷ [] ≡ record_text (fields h g)
+row_is h is g = (fields_are_plain h (printable h is) g).2

@@ -1,6 +1,6 @@
 -- The rows of a table can be read back.
 use Rattle.std.proofs.Common.{ℕ, ◌≡◌, ◌∙◌, ◌<◌, ◌≤◌, ◌^◌, ◌++◌, [], ◌∷◌, List, length, sym, ap, refl, arith, codes, append_assoc, length-append}
-use Rattle.std.specs.Prelude.{false, decimal, flat_map, Option, Some, None, if◌then◌else◌, ◌==◌}
+use Rattle.std.specs.Prelude.{decimal, flat_map, Option, Some, None, if◌then◌else◌, ◌==◌}
 use Rattle.std.specs.List.{AllByRecursion}
 use Rattle.std.proofs.lemmas.List.{append_cancel_left}
 use Rattle.std.proofs.lemmas.Fmt.{decimal_is_IsNumeral}
@@ -25,9 +25,9 @@ use Rattle.dk_groups.specs.Groups.{groups, slice}
 use Rattle.dk_groups.proofs.Slices.{whole_slice}
 use Rattle.dk_groups.proofs.Readable.{groups_readable, whole_all}
 use Rattle.dk_groups.proofs.ListParts.{first_same, rest_same}
-use Rattle.dk_groups.proofs.Until.{until}
-use Rattle.dk_csv.specs.Rows.{behind_comma, columns, csv_text, event_fields, fields, kind_text, owner_fields, plain_row, record_text, rows_text, source_fields}
-use Rattle.dk_csv.proofs.PlainRows.{Plain, Plains, fields_are_plain, is_plain}
+use Rattle.dk_entry_words.proofs.ReadBack.{parted_same, printable}
+use Rattle.dk_csv.specs.Rows.{columns, csv_text, event_fields, fields, kind_text, owner_fields, plain_row, record_text, rows_text, source_fields}
+use Rattle.dk_csv.proofs.PlainRows.{fields_are_plain, is_plain}
 
 both_same : (fs gs x y : List (List ℕ)) → length fs ≡ length gs → fs ++ x ≡ gs ++ y → (fs ≡ gs) × (x ≡ y)
 both_same [] [] x y same e = (refl, e)
@@ -37,34 +37,6 @@ both_same (a ∷ fs) (b ∷ gs) x y same e =
     let first = first_same e in
     let rest = both_same fs gs x y (omega arith) (rest_same e) in
     (ap (λ t. t ∷ fs) first ∙ ap (λ ts. b ∷ ts) rest.0, rest.1)
-
--- ---- where a field and a row end
-
--- behind a field comes a comma or the end of the row
-record Stop (t : List ℕ) : Type 0 where
-  at : ℕ
-  behind : List ℕ
-  is : t ≡ at ∷ behind
-  stopped : is_plain at ≡ false
-
-stop_behind : (fs : List (List ℕ)) (r : List ℕ) → Stop (behind_comma fs ++ 10 ∷ r)
-stop_behind [] r = record { at = 10; behind = r; is = refl; stopped = refl }
-stop_behind (f ∷ fs) r = record { at = 44; behind = (f ++ behind_comma fs) ++ 10 ∷ r; is = refl; stopped = refl }
-
-field_before : (f g t u : List ℕ) → Plain f → Plain g → Stop t → Stop u → f ++ t ≡ g ++ u → (f ≡ g) × (t ≡ u)
-field_before f g t u pf pg st su e =
-    let both = until is_plain f g st.at su.at st.behind su.behind pf pg st.stopped su.stopped (ap (λ x. f ++ x) (sym st.is) ∙ e ∙ ap (λ x. g ++ x) su.is) in
-    (both.0, st.is ∙ both.1 ∙ sym su.is)
-
-rest_of_row : (fs gs : List (List ℕ)) (r s : List ℕ) → Plains fs → Plains gs → behind_comma fs ++ 10 ∷ r ≡ behind_comma gs ++ 10 ∷ s → (fs ≡ gs) × (r ≡ s)
-rest_of_row [] [] r s pf pg e = (refl, rest_same e)
-rest_of_row [] (g ∷ gs) r s pf pg e = absurd (let bad = first_same e in omega (arith, bad))
-rest_of_row (f ∷ fs) [] r s pf pg e = absurd (let bad = first_same e in omega (arith, bad))
-rest_of_row (f ∷ fs) (g ∷ gs) r s pf pg e =
-    let own = sym (append_assoc f (behind_comma fs) (10 ∷ r)) ∙ rest_same e ∙ append_assoc g (behind_comma gs) (10 ∷ s) in
-    let first = field_before f g (behind_comma fs ++ 10 ∷ r) (behind_comma gs ++ 10 ∷ s) pf.0 pg.0 (stop_behind fs r) (stop_behind gs s) own in
-    let rest = rest_of_row fs gs r s pf.1 pg.1 first.1 in
-    (ap (λ t. t ∷ fs) first.0 ∙ ap (λ ts. g ∷ ts) rest.0, rest.1)
 
 -- ---- a line from its fields
 
@@ -215,31 +187,26 @@ module _ (h : Heading) (is : IsReadableHeading h) where
       ∙ ap (λ t. decimal b.start ++ codes " " ++ decimal b.count ++ codes " " ++ t ++ event_part a.event) label
       ∙ ap (λ t. decimal b.start ++ codes " " ++ decimal b.count ++ codes " " ++ label_text h b.label ++ t) event)
 
-  row_text_is : (g : LedgerLine) → IsReadableLine h g → (r : List ℕ) → record_text (fields h g) ++ r ≡ decimal g.start ++ (behind_comma (decimal g.count ∷ kind_text g.label
-      ∷ (owner_fields h g.label ++ (source_fields g.label ++ event_fields g.event))) ++ 10 ∷ r)
-  row_text_is g fits r =
-      ap (λ t. t ++ r) (sym (fields_are_plain h is g fits.label fits.event fits.short).2)
-      ∙ append_assoc (plain_row h g) (10 ∷ []) r ∙ append_assoc (decimal g.start) _ (10 ∷ r)
+  row_text_is : (g : LedgerLine) (r : List ℕ) → record_text (fields h g) ++ r ≡ plain_row h g ++ 10 ∷ r
+  row_text_is g r = ap (λ t. t ++ r) (sym (fields_are_plain h (printable h is) g).2) ∙ append_assoc (plain_row h g) (10 ∷ []) r
 
-  no_row : (k : LedgerLine) (r : List ℕ) → IsReadableLine h k → [] ≡ record_text (fields h k) ++ r → ⊥
-  no_row k r fits e =
-      let all = ap length (e ∙ row_text_is k fits r) in
-      let a = length-append (decimal k.start) (behind_comma (decimal k.count ∷ kind_text k.label ∷ (owner_fields h k.label ++ (source_fields k.label ++ event_fields k.event))) ++ 10 ∷ r) in
-      let b = length-append (behind_comma (decimal k.count ∷ kind_text k.label ∷ (owner_fields h k.label ++ (source_fields k.label ++ event_fields k.event)))) (10 ∷ r) in
-      omega (arith, all, a, b)
+  no_row : (k : LedgerLine) (r : List ℕ) → [] ≡ record_text (fields h k) ++ r → ⊥
+  no_row k r e =
+      let all = ap length (e ∙ row_text_is k r) in
+      let parts = length-append (plain_row h k) (10 ∷ r) in
+      omega (arith, all, parts)
 
   rows_same : (gs ks : List LedgerLine) → AllByRecursion (IsReadableLine h) gs → AllByRecursion (IsReadableLine h) ks → rows_text h gs ≡ rows_text h ks → gs ≡ ks
   rows_same [] [] pg pk e = refl
-  rows_same [] (k ∷ ks) pg pk e = absurd (no_row k (rows_text h ks) pk.0 e)
-  rows_same (g ∷ gs) [] pg pk e = absurd (no_row g (rows_text h gs) pg.0 (sym e))
+  rows_same [] (k ∷ ks) pg pk e = absurd (no_row k (rows_text h ks) e)
+  rows_same (g ∷ gs) [] pg pk e = absurd (no_row g (rows_text h gs) (sym e))
   rows_same (g ∷ gs) (k ∷ ks) pg pk e =
-      let gp = fields_are_plain h is g pg.0.label pg.0.event pg.0.short in
-      let kp = fields_are_plain h is k pk.0.label pk.0.event pk.0.short in
-      let both = sym (row_text_is g pg.0 (rows_text h gs)) ∙ e ∙ row_text_is k pk.0 (rows_text h ks) in
-      let start = field_before (decimal g.start) (decimal k.start) (behind_comma (rest_fields h g) ++ 10 ∷ rows_text h gs) (behind_comma (rest_fields h k) ++ 10 ∷ rows_text h ks) gp.0 kp.0 (stop_behind (rest_fields h g) (rows_text h gs)) (stop_behind (rest_fields h k) (rows_text h ks)) both in
-      let rest = rest_of_row (rest_fields h g) (rest_fields h k) (rows_text h gs) (rows_text h ks) gp.1 kp.1 start.1 in
-      let same = one_group g k pg.0 pk.0 (ap (λ t. t ∷ rest_fields h g) start.0 ∙ ap (λ ts. decimal k.start ∷ ts) rest.0) in
-      ap (λ t. t ∷ gs) same ∙ ap (λ ts. k ∷ ts) (rows_same gs ks pg.1 pk.1 rest.1)
+      let own = fields_are_plain h (printable h is) g in
+      let theirs = fields_are_plain h (printable h is) k in
+      let both = sym (row_text_is g (rows_text h gs)) ∙ e ∙ row_text_is k (rows_text h ks) in
+      let words = parted_same is_plain 44 10 refl refl (λ n. absurd (omega (arith, n))) (decimal g.start) (decimal k.start) (rest_fields h g) (rest_fields h k) (rows_text h gs) (rows_text h ks) (own.0, own.1) (theirs.0, theirs.1) both in
+      let same = one_group g k pg.0 pk.0 words.0 in
+      ap (λ t. t ∷ gs) same ∙ ap (λ ts. k ∷ ts) (rows_same gs ks pg.1 pk.1 words.1)
 
 -- two ledgers of one header whose tables of these ranges are the same have the same entries in them
 pub tables_same : (h : Heading) (from to lo hi : ℕ) (es fs : List Entry) → IsReadable (record { heading = h; entries = es }) → IsReadable (record { heading = h; entries = fs })

@@ -12,4 +12,4 @@ use Rattle.dk_csv.proofs.PlainRows.{row_is}
 pub row_of_next : (j : Journal) (gs : List LedgerLine) (g : LedgerLine) (c : Cutting) → IsReadable j → ComesNext j gs (Some g) c
     → (h : Heading) (row : List ℕ) → h ≡ c.reading.kept.heading → row ≡ plain_row h g → row ++ 10 ∷ [] ≡ record_text (fields j.heading g)
 row_of_next j gs g c readable comes h row is text =
-    ap (λ t. t ++ 10 ∷ []) (text ∙ ap (λ k. plain_row k g) (is ∙ comes.1)) ∙ row_is j.heading readable.heading c.from c.to g comes.2
+    ap (λ t. t ++ 10 ∷ []) (text ∙ ap (λ k. plain_row k g) (is ∙ comes.1)) ∙ row_is j.heading readable.heading g

@@ -7,11 +7,13 @@ use Rattle.dk_trace.specs.declared.Source.{Source}
 use Rattle.dk_trace.specs.declared.Label.{Label}
 use Rattle.dk_trace.specs.declared.Event.{Event}
 use Rattle.dk_trace.specs.declared.Entry.{Entry}
-use Rattle.dk_trace.specs.Refusals.{number}
 use Rattle.dk_ledger.specs.declared.line.LedgerLine.{LedgerLine}
 use Rattle.dk_ledger.specs.Heading.{Heading, name_of}
 use Rattle.dk_ledger.specs.LineText.{work_text, fault_text}
 use Rattle.dk_groups.specs.Groups.{groups}
+use Rattle.dk_entry_words.specs.declared.arguments.Arguments.{Arguments}
+use Rattle.dk_entry_words.specs.Arguments.{arguments_of, word_of}
+use Rattle.dk_entry_words.specs.Parted.{behind}
 
 -- the names of the columns
 abbrev pub columns : List (List ℕ)
@@ -51,20 +53,17 @@ source_fields (Label.Slack x Source.Timeline work) = codes "timeline" ∷ [] ∷
 source_fields (Label.Slack x (Source.Reclaimed j) work) = codes "reclaimed" ∷ decimal j ∷ []
 source_fields _ = [] ∷ [] ∷ []
 
+-- the word of an event and its arguments, each in a field of its own but the kind of a fault
+abbrev pub padded : List ℕ → Arguments → List (List ℕ)
+padded word Arguments.Nothing = word ∷ [] ∷ [] ∷ [] ∷ []
+padded word (Arguments.Kind kind) = (word ++ codes " " ++ fault_text kind) ∷ [] ∷ [] ∷ [] ∷ []
+padded word (Arguments.One n) = word ∷ decimal n ∷ [] ∷ [] ∷ []
+padded word (Arguments.Three a b c) = word ∷ decimal a ∷ decimal b ∷ decimal c ∷ []
+
 -- event, arg1, arg2, arg3
 abbrev pub event_fields : Option Event → List (List ℕ)
 event_fields None = [] ∷ [] ∷ [] ∷ [] ∷ []
-event_fields (Some Event.Wait) = codes "wait" ∷ [] ∷ [] ∷ [] ∷ []
-event_fields (Some Event.Exit) = codes "exit" ∷ [] ∷ [] ∷ [] ∷ []
-event_fields (Some (Event.Fault kind)) = (codes "fault " ++ fault_text kind) ∷ [] ∷ [] ∷ [] ∷ []
-event_fields (Some (Event.Create serial level quota)) =
-    codes "create" ∷ decimal serial ∷ decimal level ∷ decimal quota ∷ []
-event_fields (Some (Event.Delete serial)) = codes "delete" ∷ decimal serial ∷ [] ∷ [] ∷ []
-event_fields (Some (Event.Lock m)) = codes "lock" ∷ decimal m ∷ [] ∷ [] ∷ []
-event_fields (Some (Event.Unlock m)) = codes "unlock" ∷ decimal m ∷ [] ∷ [] ∷ []
-event_fields (Some (Event.Slack amount)) = codes "slack" ∷ decimal amount ∷ [] ∷ [] ∷ []
-event_fields (Some (Event.Put value)) = codes "put" ∷ decimal value ∷ [] ∷ [] ∷ []
-event_fields (Some (Event.Refused refusal)) = codes "refused" ∷ decimal (number refusal) ∷ [] ∷ [] ∷ []
+event_fields (Some e) = padded (word_of e) (arguments_of e)
 
 -- a row, by its columns
 abbrev pub fields : Heading → LedgerLine → List (List ℕ)
@@ -84,7 +83,7 @@ csv_text from to h es = record_text columns ++ rows_text h (groups from to es)
 
 -- fields behind others, where none calls for quotes
 abbrev pub behind_comma : List (List ℕ) → List ℕ
-behind_comma fs = flat_map (λ f. 44 ∷ f) fs
+behind_comma fs = behind 44 fs
 
 -- a row without its line feed, where no field calls for quotes
 abbrev pub plain_row : Heading → LedgerLine → List ℕ

@@ -1,11 +1,11 @@
 //! The rows of the table. No field has a byte that calls for quotes, so each is its fields with commas between them.
-ghost use Rattle.std.specs.Prelude.{◌≡◌, ◌+◌, ◌<◌, ◌≤◌, ◌++◌, ◌∷◌, [], length, decimal, codes};
+ghost use Rattle.std.specs.Prelude.{◌≡◌, ◌+◌, ◌<◌, ◌≤◌, ◌++◌, ◌∷◌, [], length, decimal};
 ghost use Rattle.dk_ledger.specs.Heading.{IsPrintable};
-ghost use Rattle.dk_ledger.specs.LineText.{IsNamed, fault_text};
-ghost use Rattle.dk_csv.specs.Rows.{behind_comma, event_fields, kind_text, level_of, owner_fields, plain_row, source_fields, thread_fields};
+ghost use Rattle.dk_ledger.specs.LineText.{IsNamed};
+ghost use Rattle.dk_csv.specs.Rows.{behind_comma, event_fields, kind_text, level_of, owner_fields, padded, plain_row, source_fields, thread_fields};
 
+use dk_entry_words::{Arguments, arguments_of, event_word};
 use dk_groups::fault_word;
-use dk_isa::FaultKind;
 use dk_ledger::{Header, LedgerLine, TextLine};
 use dk_trace::{Event, Label, Source, ThreadId, Work};
 
@@ -113,74 +113,41 @@ fn push_source(text: &mut TextLine, label: Label)
     }
 }
 
-/// An event without arguments, and the empty fields for them.
-fn push_lone(text: &mut TextLine, word: &str)
-    requires short { length word.now ≤ 12 }
-    requires room { length text.old + 16 ≤ 200 }
-    ensures bytes { text.new ≡ text.old ++ behind_comma (word.now ∷ [] ∷ [] ∷ [] ∷ []) }
-    ensures len { length text.new ≤ length text.old + 16 }
+/// An event's word and its arguments, and empty fields up to four.
+fn push_padded(text: &mut TextLine, word: &str, arguments: Arguments)
+    requires short { length word.now ≤ 7 }
+    requires room { length text.old + 41 ≤ 200 }
+    ensures bytes { text.new ≡ text.old ++ behind_comma (padded word.now arguments) }
+    ensures len { length text.new ≤ length text.old + 41 }
 {
     push_word(text, word);
-    text.word(",,,");
-}
-
-/// An event with one argument, and the empty fields for the others.
-fn push_counted(text: &mut TextLine, word: &str, number: u32)
-    requires short { length word.now ≤ 12 }
-    requires room { length text.old + 26 ≤ 200 }
-    ensures bytes { text.new ≡ text.old ++ behind_comma (word.now ∷ decimal number ∷ [] ∷ [] ∷ []) }
-    ensures len { length text.new ≤ length text.old + 26 }
-{
-    push_word(text, word);
-    push_number(text, number);
-    text.word(",,");
-}
-
-fn push_fault(text: &mut TextLine, kind: FaultKind)
-    requires { length text.old + 16 ≤ 200 }
-    ensures bytes { text.new ≡ text.old ++ behind_comma ((codes "fault " ++ fault_text kind) ∷ [] ∷ [] ∷ [] ∷ []) }
-    ensures len { length text.new ≤ length text.old + 16 }
-{
-    text.word(",fault ");
-    text.word(fault_word(kind));
-    text.word(",,,");
-}
-
-fn push_create(text: &mut TextLine, serial: u32, level: u8, quota: u32)
-    requires { length text.old + 40 ≤ 200 }
-    ensures bytes { text.new ≡ text.old
-        ++ behind_comma (codes "create" ∷ decimal serial ∷ decimal level ∷ decimal quota ∷ []) }
-    ensures len { length text.new ≤ length text.old + 40 }
-{
-    push_word(text, "create");
-    push_number(text, serial);
-    push_number(text, level as u32);
-    push_number(text, quota);
+    match arguments {
+        Arguments::Nothing => text.word(",,,"),
+        Arguments::Kind(kind) => {
+            text.word(" ");
+            text.word(fault_word(kind));
+            text.word(",,,");
+        }
+        Arguments::One(number) => {
+            push_number(text, number);
+            text.word(",,");
+        }
+        Arguments::Three(first, second, third) => {
+            push_number(text, first);
+            push_number(text, second);
+            push_number(text, third);
+        }
+    }
 }
 
 fn push_event(text: &mut TextLine, event: Option<Event>)
-    requires { length text.old + 40 ≤ 200 }
+    requires { length text.old + 41 ≤ 200 }
     ensures bytes { text.new ≡ text.old ++ behind_comma (event_fields event) }
-    ensures len { length text.new ≤ length text.old + 40 }
+    ensures len { length text.new ≤ length text.old + 41 }
 {
     match event {
         None => text.word(",,,,"),
-        Some(Event::Wait) => push_lone(text, "wait"),
-        Some(Event::Exit) => push_lone(text, "exit"),
-        Some(Event::Fault(kind)) => push_fault(text, kind),
-        Some(
-            Event::Create {
-                serial,
-                level,
-                quota,
-            },
-        ) => push_create(text, serial, level, quota),
-        Some(Event::Delete(serial)) => push_counted(text, "delete", serial),
-        Some(Event::Lock(mutex)) => push_counted(text, "lock", mutex as u32),
-        Some(Event::Unlock(mutex)) => push_counted(text, "unlock", mutex as u32),
-        Some(Event::Slack(amount)) => push_counted(text, "slack", amount),
-        Some(Event::Put(value)) => push_counted(text, "put", value),
-        Some(Event::Refused(refusal)) => push_counted(text, "refused", refusal.number() as u32),
+        Some(event) => push_padded(text, event_word(event), arguments_of(event)),
     }
 }
 

@@ -1,4 +1,4 @@
-use Rattle.std.proofs.Common.{◌∙◌, ◌++◌, [], ◌∷◌, ap, sym, subst, rules, arith}
+use Rattle.std.proofs.Common.{◌∙◌, ◌++◌, [], ◌∷◌, ap, sym, subst, rules}
 use Rattle.std.specs.Prelude.{IsErr}
 use Rattle.dk_ledger.specs.Heading.{IsPrintable}
 use Rattle.dk_ledger.proofs.NextItem.{if_ok}

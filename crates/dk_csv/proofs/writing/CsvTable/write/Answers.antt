@@ -1,4 +1,4 @@
-use Rattle.std.proofs.Common.{◌≡◌, ◌∙◌, ◌++◌, [], ◌∷◌, ap, sym, subst, refl, rules, arith}
+use Rattle.std.proofs.Common.{◌≡◌, ◌∙◌, ◌++◌, [], ◌∷◌, ap, sym, subst, refl}
 use Rattle.dk_groups.specs.Groups.{groups}
 use Rattle.dk_groups.specs.Cutting.{Cutting, ComesNext}
 use Rattle.dk_groups.specs.Writing.{Puts}
