@@ -1,4 +1,4 @@
-use Rattle.std.proofs.Common.{◌++◌, refl, rules}
+use Rattle.std.proofs.Common.{◌++◌, refl}
 use Rattle.std.specs.Prelude.{None}
 use Rattle.dk_groups.specs.Groups.{groups}
 use Rattle.dk_groups.proofs.Puts.{put_ends, put_fails}

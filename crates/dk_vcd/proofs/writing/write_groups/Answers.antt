@@ -1,4 +1,4 @@
-use Rattle.std.proofs.Common.{◌≡◌, ◌∙◌, ◌++◌, [], ◌∷◌, List, take, reverse, ap, sym, refl, subst, rules, arith, append-nil}
+use Rattle.std.proofs.Common.{◌≡◌, ◌∙◌, ◌++◌, [], ◌∷◌, List, take, reverse, ap, sym, refl, subst, rules, append-nil}
 use Rattle.std.specs.Prelude.{IsErr, None, flat_map}
 use Rattle.dk_trace.specs.declared.Entry.{Entry}
 use Rattle.dk_ledger.specs.Cuts.{entries_of}
