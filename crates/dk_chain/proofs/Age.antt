@@ -14,11 +14,11 @@ use Rattle.dk_chain.proofs.Chain.{Knows, window-positive, first-there, rest-ther
 use Rattle.std.proofs.lemmas.Bool.Decides.{nat_tests}
 
 -- the window of the last process to which the windows of a chain lead
-abbrev final : Configuration → (ℕ → ℕ) → ℕ → ℕ → List ℕ → ℕ
+abbrev pub final : Configuration → (ℕ → ℕ) → ℕ → ℕ → List ℕ → ℕ
 final c done p s [] = s
 final c done p s (q ∷ rest) = final c done q (next_start c q (free_from c done p q s)) rest
 
-through-final : (c : Configuration) (done : ℕ → ℕ) (p s : ℕ) (rest : List ℕ) → through c done p s rest ≡ final c done p s rest + done (last_of p rest)
+pub through-final : (c : Configuration) (done : ℕ → ℕ) (p s : ℕ) (rest : List ℕ) → through c done p s rest ≡ final c done p s rest + done (last_of p rest)
 through-final c done p s [] = refl
 through-final c done p s (q ∷ rest) = through-final c done q (next_start c q (free_from c done p q s)) rest
 
@@ -34,7 +34,7 @@ final-above c done p s (q ∷ rest) checked there =
     let more = final-above c done q (next_start c q (free_from c done p q s)) rest checked (rest-there c q rest there) in
     omega (arith, free, up, more)
 
-final-starts : (c : Configuration) (done : ℕ → ℕ) (p s : ℕ) (rest : List ℕ) → s % window_length c p ≡ 0 → final c done p s rest % window_length c (last_of p rest) ≡ 0
+pub final-starts : (c : Configuration) (done : ℕ → ℕ) (p s : ℕ) (rest : List ℕ) → s % window_length c p ≡ 0 → final c done p s rest % window_length c (last_of p rest) ≡ 0
 final-starts c done p s [] begins = begins
 final-starts c done p s (q ∷ rest) begins = grind (arith, nat_tests, mod-eq-zero_of_dvd, round-divides, final-starts c done q (next_start c q (free_from c done p q s)) rest)
 

@@ -4,5 +4,6 @@ pub mod Chain
 pub mod Pace
 pub mod Paced
 pub mod Age
+pub mod Oldest
 pub mod KernelFirst
 pub mod Releases

@@ -66,7 +66,7 @@ pub course-of : (c : Configuration) (first : ℕ) (rest : List ℕ) (at last : �
     → at ≤ MAX_PROCESSES → IsCourse c first rest (record { pace = pace; last = last })
 course-of c first rest at last pace paced end short = grind (arith, nat_tests)
 
-shape : (c : Configuration) (first : ℕ) (rest : List ℕ) (course : Course) (done : ℕ → ℕ) → IsCourse c first rest course → AreDone c done → (t : ℕ)
+pub shape : (c : Configuration) (first : ℕ) (rest : List ℕ) (course : Course) (done : ℕ → ℕ) → IsCourse c first rest course → AreDone c done → (t : ℕ)
     → answered c done (first ∷ rest) t ≡ round_up (t + course.pace.before) (period c course.pace.level) + (course.pace.lag + done course.last)
 shape c first rest course done is are t = let w = is.answers done are t in omega (arith, w)
 

@@ -14,6 +14,15 @@ last_of p (q ∷ rest) = last_of q rest
 abbrev pub IsAge : Configuration → ℕ → List ℕ → ℕ → ℕ → Type 0
 IsAge c p rest reaction age = age + window_length c (last_of p rest) ≡ reaction + 1
 
+-- The age is met: at a window of the last process that starts at u, once a chain from tick 0 has come so far, each job of the
+-- first from which the chain surely comes to it is of a window that started the whole age or more before this one is done.
+pub record IsMet (c : Configuration) (done : ℕ → ℕ) (p : ℕ) (rest : List ℕ) (age : ℕ) : Type 0 where
+  pub u : ℕ
+  pub starts : u % window_length c (last_of p rest) ≡ 0
+  pub come : through c done p 0 rest ≤ u + done (last_of p rest)
+  pub met : (s : ℕ) → s % window_length c p ≡ 0 → through c done p s rest ≤ u + done (last_of p rest)
+      → s + age ≤ u + done (last_of p rest)
+
 -- From the job of p in the window from s the chain comes to the window of its last process that starts at u: the job of each next
 -- process begins only when the one before is over.
 abbrev pub ComesTo : Configuration → List Entry → ℕ → ℕ → List ℕ → ℕ → Type 0

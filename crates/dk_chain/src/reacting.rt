@@ -3,7 +3,7 @@ ghost use Rattle.std.specs.Prelude.{ℕ, ◌≡◌, ◌+◌, ◌*◌, ◌<◌, �
 ghost use Rattle.dk_config.specs.Checked.{IsChecked, IsWithinLimits};
 ghost use Rattle.dk_config.specs.Ahead.{comes_before};
 ghost use Rattle.dk_config.specs.Windows.{main_level};
-ghost use Rattle.dk_chain.specs.Age.{IsAge};
+ghost use Rattle.dk_chain.specs.Age.{IsAge, IsMet};
 ghost use Rattle.dk_chain.specs.Chain.{AreDone, AreThere, IsReaction, answered, free_from, next_start};
 ghost use Rattle.dk_chain.specs.Pace.{most_wait, start_by, IsCourse};
 ghost use Rattle.dk_chain.specs.Rounding.{round_up};
@@ -159,8 +159,8 @@ pub fn reaction(config: &Config, first: u32, rest: &[u32]) -> u64
 }
 
 /// The age of the data that the last process of the chain works with: from the start of the window in which the first made
-/// it to the tick by which the last one's job is done, at most. It is the reaction time and one tick, less a window of the
-/// last process. It needs no memory.
+/// it to the tick by which the last one's job is done, at most, and no smaller number will do for the windows that each
+/// job surely has. It is the reaction time and one tick, less a window of the last process. It needs no memory.
 pub fn data_age(config: &Config, first: u32, rest: &[u32]) -> u64
     requires checked { IsChecked config.now }
     requires limits { IsWithinLimits config.now }
@@ -168,6 +168,8 @@ pub fn data_age(config: &Config, first: u32, rest: &[u32]) -> u64
     requires few { length rest.now < MAX_PROCESSES }
     ensures age { (done : ℕ → ℕ) (reaction : ℕ) → AreDone config.now done
         → IsReaction config.now done (first ∷ rest.now) reaction → IsAge config.now first rest.now reaction result }
+    ensures met { (done : ℕ → ℕ) (reaction : ℕ) → AreDone config.now done
+        → IsReaction config.now done (first ∷ rest.now) reaction → IsMet config.now done first rest.now result }
     ensures few { result ≤ most_wait + 2 * MAX_SPAN }
 {
     let whole = course_of(config, first, rest);

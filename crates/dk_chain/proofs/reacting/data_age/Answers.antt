@@ -2,6 +2,7 @@ use Rattle.std.proofs.Common.{◌≡◌, ◌+◌, ◌-◌, ◌≤◌, ◌∙◌,
 use Rattle.std.proofs.lemmas.Nat.Gcd.{le_of_dvd}
 use Rattle.dk_config.specs.Windows.{period, main_level}
 use Rattle.dk_chain.specs.Chain.{window_length}
+use Rattle.dk_chain.proofs.Oldest.{met-age}
 use Rattle.dk_chain.proofs.Paced.{age-of}
 use Rattle.dk_chain.proofs.reacting.data_age.Goals as goal
 
@@ -23,3 +24,14 @@ returns-clause-age c done reaction are is =
     age-of config c.args.first c.args.rest.now whole done c.done_by.result reaction
     (pace.before + pace.lag + (c.level_row-slowest.result.period - c.level_row-own.result.period) + c.done_by.result) checked course are by is shorter
     (omega (arith, own, slowest, shorter))
+
+pub returns-clause-met : goal.returns-clause-met
+returns-clause-met c done reaction are is =
+    let config = c.args.config.now in
+    let whole = c.course_of-whole.result in
+    let course = c.course_of-whole.ensures.course in
+    let checked = c.requires.checked in
+    let shorter : window_length config whole.last ≤ period config whole.pace.level =
+    le_of_dvd (checked.positive whole.pace.level course.level) (checked.divides (main_level config whole.last) whole.pace.level course.within course.level) in
+    met-age config c.args.first c.args.rest.now whole done reaction _ checked c.requires.there course are is shorter
+    (returns-clause-age c done reaction are is)
