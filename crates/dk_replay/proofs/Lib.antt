@@ -1,0 +1,5 @@
+pub mod Sizes
+pub mod Work
+pub mod Calls
+pub mod Places
+pub mod Back

@@ -1,0 +1,32 @@
+//! The laws of the ticks that a program takes.
+ghost use Rattle.dk_replay.specs.Laws.{CallTakes, HasSteps, LoadsItsNumber, WaitsAtOnce, WorkIsDone, WorkTakes};
+
+/// The code of n ticks of work takes exactly n ticks, whatever the memory, the registers and the cost of a call are.
+pub fn work_law()
+    ensures { WorkTakes }
+{}
+
+/// A call takes exactly as many ticks as it costs, and is done in the last of them.
+pub fn call_law()
+    ensures { CallTakes }
+{}
+
+/// The program of steps has the code of each of them at its place.
+pub fn steps_law()
+    ensures { HasSteps }
+{}
+
+/// So each work of a profile takes in its program exactly its ticks, from its place to that of the next step.
+pub fn done_law()
+    ensures { WorkIsDone }
+{}
+
+/// A step with a number loads it in one tick, and then stands at its call.
+pub fn load_law()
+    ensures { LoadsItsNumber }
+{}
+
+/// A wait stands at its call.
+pub fn wait_law()
+    ensures { WaitsAtOnce }
+{}

@@ -1,0 +1,13 @@
+//! The program of a profile, as a source of the assembler, and the ticks that it takes.
+#![tactic(auto)]
+
+mod code;
+mod laws;
+mod page;
+mod program;
+mod source;
+
+pub use laws::{call_law, done_law, load_law, steps_law, wait_law, work_law};
+pub use page::{Replay, make_replay};
+pub use program::program_of;
+pub use source::replay_source;
