@@ -26,8 +26,10 @@ use Rattle.dk_show.specs.declared.status.Status.TheVariants as status
 use Rattle.dk_show.specs.Answers.{IsAnswer, IsFaulty, refusal_status}
 use Rattle.dk_audit.specs.Findings.{IsOwnHeading}
 use Rattle.dk_show.specs.Chains.{AreReactionsTold, ChainIn, IsChainTold, IsOfOther, IsOfReactions, chain_at}
-use Rattle.dk_show.specs.Loading.{IsOf}
+use Rattle.dk_show.specs.Loading.{IsOf, certified_at}
 use Rattle.dk_show.specs.Sources.{IsOfSource, is_source_name}
+use Rattle.dk_show.specs.Replays.{IsOfProfile}
+use Rattle.dk_profile.specs.declared.TheConstants.{MAX_PROFILE_BYTES}
 use Rattle.dk_asm.specs.declared.TheConstants.{MAX_SOURCE_BYTES}
 use Rattle.dk_show_request.specs.Meaning.{IsSought}
 use Rattle.dk_show.proofs.Changing.{impact_ends}
@@ -148,6 +150,10 @@ request_ends (request.Reactions r ledger) at x y s known one two =
 request_ends (request.Impact r) at x y s known one two = impact_ends at r x y s one two
 request_ends (request.Repeats file ticks) at x y s known one two = absurd (known tt)
 request_ends (request.Check r) at x y s known one two = absurd (known tt)
+request_ends (request.Replay r) at x y s known one two =
+    of_ends (certified_at (at r.file)) (λ c. IsOfNamed at r.profile MAX_PROFILE_BYTES why.LongProfile (IsOfProfile c r.name)) x y s
+    (λ c. named_ends at r.profile MAX_PROFILE_BYTES why.LongProfile (IsOfProfile c r.name) x y s (λ bad. cc) (λ bytes a b. b.1 ∙ sym a.1))
+    one two
 
 -- a call that ends otherwise has met the outside or want of memory
 pub completes : (files : Option Files) (r : Request) (s : Status) → (IsAnswer s → (y : List ℕ) × IfSome files (λ at. IsOfRequest r at y s))

@@ -6,6 +6,7 @@ use Rattle.dk_fault_words.specs.FaultWords.{fault_text}
 use Rattle.dk_certify_report.specs.Certificate.{failing_text}
 use Rattle.dk_ledger.specs.Readable.{IsNoText, IsWrongLine}
 use Rattle.dk_picture.specs.declared.reading.TheConstants.{MAX_GROUPS}
+use Rattle.dk_profile.specs.declared.TheConstants.{MAX_PROFILE_BYTES}
 use Rattle.dk_show.specs.declared.refusal.Refusal.{Refusal}
 use Rattle.dk_show.specs.declared.refusal.Refusal.TheVariants as why
 use Rattle.dk_show.specs.declared.status.Status.{Status}
@@ -26,6 +27,7 @@ refusal_text (why.Uncertified level needs window) = failing_text level needs win
 refusal_text (why.LongProgram process) = codes "program: process " ++ (decimal process ++ longer_than MAX_PROGRAM_BYTES)
 refusal_text why.LongNeeds = codes "needs:" ++ longer_than MAX_CONFIG_BYTES
 refusal_text why.NeedsNotToml = codes "needs: not TOML\n"
+refusal_text why.LongProfile = codes "profile:" ++ longer_than MAX_PROFILE_BYTES
 refusal_text why.NoProcess = codes "chain: no such process\n"
 refusal_text why.LongLedger = codes "ledger:" ++ longer_than MAX_LEDGER_BYTES
 refusal_text why.OtherLedger = codes "ledger: of another configuration\n"
@@ -45,6 +47,7 @@ refusal_status (why.Uncertified level needs window) = status.Uncertified
 refusal_status (why.LongProgram process) = status.Refused
 refusal_status why.LongNeeds = status.Config
 refusal_status why.NeedsNotToml = status.Config
+refusal_status why.LongProfile = status.Refused
 refusal_status why.NoProcess = status.Refused
 refusal_status why.LongLedger = status.Refused
 refusal_status why.OtherLedger = status.Refused

@@ -1,6 +1,7 @@
 -- What a command asks of the files, and what it leaves of a depot's counts.
 use Rattle.std.specs.Prelude.{ℕ, ◌≡◌, ◌+◌, min, false, length, List, Option, Some, None, IfSome, Result, Ok, Err}
 use Rattle.dk_config.specs.declared.TheConstants.{MAX_CONFIG_BYTES, MAX_LEDGER_BYTES}
+use Rattle.dk_profile.specs.declared.TheConstants.{MAX_PROFILE_BYTES}
 use Rattle.dk_config.specs.Configuration.{Configuration}
 use Rattle.dk_outside.specs.Views.{DepotView}
 use Rattle.dk_loader.specs.Programs.{bytes_read}
@@ -42,6 +43,9 @@ handed_for (request.Impact r) at = handed_load at r.old + handed_after (λ _. ha
 handed_for (request.Repeats file ticks) at = handed_load at file
 handed_for (request.Check r) at =
     handed_out MAX_CONFIG_BYTES (at r.file) + handed_after (λ _. handed_out MAX_CONFIG_BYTES (at r.needs)) (certified_at (at r.file))
+handed_for (request.Replay r) at =
+    handed_out MAX_CONFIG_BYTES (at r.file)
+    + handed_after (λ _. handed_out MAX_PROFILE_BYTES (at r.profile)) (certified_at (at r.file))
 
 -- a file of the first part isn't there, or one of the second, where the first comes to something
 abbrev pub MissesAfter : {X : Type 0} → (X → Type 0) → Result X Refusal → Type 0
@@ -60,6 +64,7 @@ Misses (request.Reactions r ledger) at = MissesAfter (λ _. at ledger ≡ None) 
 Misses (request.Impact r) at = MissesAfter (λ _. loaded at r.new ≡ Err why.Depot) (loaded at r.old)
 Misses (request.Repeats file ticks) at = loaded at file ≡ Err why.Depot
 Misses (request.Check r) at = MissesAfter (λ _. at r.needs ≡ None) (certified_at (at r.file))
+Misses (request.Replay r) at = MissesAfter (λ _. at r.profile ≡ None) (certified_at (at r.file))
 
 abbrev pub IsLoud : {A : Type 0} → Result A Refusal → Type 0
 IsLoud (Ok x) = Unit {0}

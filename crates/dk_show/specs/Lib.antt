@@ -7,5 +7,6 @@ pub mod Chains
 pub mod Sources
 pub mod Impacts
 pub mod Repeats
+pub mod Replays
 pub mod Needed
 pub mod Asking

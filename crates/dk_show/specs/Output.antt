@@ -43,6 +43,8 @@ use Rattle.dk_show_request.specs.Meaning.{meaning}
 use Rattle.dk_show_request.specs.Reasons.{wrong_text}
 use Rattle.dk_show_request.specs.Usage.{usage_text}
 use Rattle.dk_show.specs.Repeats.{IsOfRepeats}
+use Rattle.dk_show.specs.Replays.{IsOfProfile}
+use Rattle.dk_profile.specs.declared.TheConstants.{MAX_PROFILE_BYTES}
 use Rattle.dk_show.specs.Sources.{IsOfSource, is_source_name}
 use Rattle.dk_asm.specs.declared.TheConstants.{MAX_SOURCE_BYTES}
 
@@ -195,6 +197,9 @@ IsOfRequest (request.Impact r) at text ended = IsOfImpact at r text ended
 IsOfRequest (request.Repeats file ticks) at text ended = IsOfLoaded at file (IsOfRepeats ticks) text ended
 IsOfRequest (request.Check r) at text ended =
     IsOf (certified_at (at r.file)) (λ c. IsOfNamed at r.needs MAX_CONFIG_BYTES why.LongNeeds (IsOfNeeds r.as_csv c)) text ended
+IsOfRequest (request.Replay r) at text ended =
+    IsOf (certified_at (at r.file))
+    (λ c. IsOfNamed at r.profile MAX_PROFILE_BYTES why.LongProfile (IsOfProfile c r.name)) text ended
 
 -- the usage line, and why the words mean nothing
 abbrev pub IsUsage : List (List ℕ) → List ℕ → Status → Type 0

@@ -12,6 +12,7 @@ mod plans;
 mod reactions;
 mod refusal;
 mod repeats;
+mod replays;
 mod show;
 mod status;
 mod telling;

@@ -17,6 +17,7 @@ use crate::needed::check_plan;
 use crate::pictures::picture_plan;
 use crate::reactions::reactions_plan;
 use crate::repeats::repeats_plan;
+use crate::replays::replay_plan;
 use crate::telling::telling_plan;
 use crate::windows::windows_plan;
 use crate::work::{RangeWork, Work};
@@ -119,5 +120,6 @@ pub(crate) fn plan<D: Depot>(
         Request::Impact(request) => impact_plan(alloc, request, depot),
         Request::Repeats { file, ticks } => repeats_plan(alloc, file.as_str(), *ticks, depot),
         Request::Check(request) => check_plan(alloc, request, depot),
+        Request::Replay(request) => replay_plan(alloc, request, depot),
     }
 }

@@ -7,6 +7,7 @@ use dk_asm::MAX_SOURCE_BYTES;
 use dk_config::{ConfigFault, MAX_CONFIG_BYTES, MAX_LEDGER_BYTES, MAX_PROGRAM_BYTES, NoMemory};
 use dk_fault_words::fault_text;
 use dk_picture::MAX_GROUPS;
+use dk_profile::MAX_PROFILE_BYTES;
 use std::alloc::{AllocError, Global};
 
 /// Why a command is refused, in the order in which the reasons are looked for.
@@ -30,6 +31,8 @@ pub enum Refusal {
     LongNeeds,
     /// The bytes of the needs are no TOML document.
     NeedsNotToml,
+    /// The profile has more than 1,048,576 bytes.
+    LongProfile,
     /// The program of the process with this number has more than 65,536 bytes.
     LongProgram(u32),
     /// The ledger is too long.
@@ -59,6 +62,7 @@ impl Refusal {
             Refusal::NoProcess => Status::Refused,
             Refusal::LongNeeds => Status::Config,
             Refusal::NeedsNotToml => Status::Config,
+            Refusal::LongProfile => Status::Refused,
             Refusal::Uncertified { .. } => Status::Uncertified,
             Refusal::LongProgram(_) => Status::Refused,
             Refusal::LongLedger => Status::Refused,
@@ -87,6 +91,7 @@ impl Refusal {
             } => uncertified_text(alloc, *level, *needs, *window),
             Refusal::LongNeeds => too_long(alloc, "needs:", MAX_CONFIG_BYTES),
             Refusal::NeedsNotToml => String::from_str(alloc, "needs: not TOML\n"),
+            Refusal::LongProfile => too_long(alloc, "profile:", MAX_PROFILE_BYTES),
             Refusal::LongProgram(process) => long_program_text(alloc, *process),
             Refusal::LongLedger => too_long(alloc, "ledger:", MAX_LEDGER_BYTES),
             Refusal::OtherLedger => {

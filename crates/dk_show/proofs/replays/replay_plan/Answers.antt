@@ -1,0 +1,39 @@
+use Rattle.std.proofs.Common.{ℕ, ◌≡◌, ◌∙◌, List, ap, subst}
+use Rattle.std.specs.Prelude.{IfSome, Ok, None, Option}
+use Rattle.dk_config.specs.declared.TheConstants.{MAX_CONFIG_BYTES}
+use Rattle.dk_profile.specs.declared.TheConstants.{MAX_PROFILE_BYTES}
+use Rattle.dk_show.specs.declared.refusal.Refusal.TheVariants as why
+use Rattle.dk_show.specs.Answers.{Files, IsOfNamed}
+use Rattle.dk_show.specs.Asking.{Asks, handed_out}
+use Rattle.dk_show.specs.Loading.{certified_at}
+use Rattle.dk_show.specs.Replays.{IsOfProfile}
+use Rattle.dk_show.specs.Works.{Plans}
+use Rattle.dk_show.proofs.Asks.{asks_after}
+use Rattle.dk_show.proofs.Planning.{of_something}
+use Rattle.dk_show.proofs.replays.replay_plan.Goals as goal
+
+pub returns-clause-plans : goal.returns-clause-plans
+returns-clause-plans g c =
+    let files = (g.D.Depot.seen c.args.depot.now).files in
+    let r = c.args.request.now in
+    let x = c.in_ok-config.config in
+    let found = subst (λ (name : List ℕ). IfSome files (λ at. certified_at (at name) ≡ Ok x)) c.as_str.ensures c.in_ok-config.ensures.loads in
+    of_something files (λ at. certified_at (at r.file)) (λ at k. IsOfNamed at r.profile MAX_PROFILE_BYTES why.LongProfile (IsOfProfile k r.name)) x
+    c.replay_at.result found
+    (subst (λ (fs : Option Files). IfSome fs (λ at. Plans (IsOfNamed at r.profile MAX_PROFILE_BYTES why.LongProfile (IsOfProfile x r.name)) c.replay_at.result))
+    c.in_ok-config.ensures.reads.same c.replay_at.ensures.plans)
+
+pub returns-clause-asks : goal.returns-clause-asks
+returns-clause-asks g c =
+    let files = (g.D.Depot.seen c.args.depot.now).files in
+    let r = c.args.request.now in
+    let x = c.in_ok-config.config in
+    let found = subst (λ (name : List ℕ). IfSome files (λ at. certified_at (at name) ≡ Ok x)) c.as_str.ensures c.in_ok-config.ensures.loads in
+    let first = subst (λ (name : List ℕ). Asks files (λ at. handed_out MAX_CONFIG_BYTES (at name)) (λ at. at name ≡ None)
+    (g.D.Depot.seen c.args.depot.now) (g.D.Depot.seen c.certified_at.new.depot) (Ok x)) c.as_str.ensures c.in_ok-config.ensures.asks in
+    asks_after (λ at. certified_at (at r.file)) (λ at. handed_out MAX_CONFIG_BYTES (at r.file)) (λ at. at r.file ≡ None)
+    (λ at _. handed_out MAX_PROFILE_BYTES (at r.profile)) (λ at _. at r.profile ≡ None) (g.D.Depot.seen c.args.depot.now) (g.D.Depot.seen c.certified_at.new.depot)
+    (g.D.Depot.seen c.replay_at.new.depot) c.replay_at.result files x x first found (λ at missing. ap certified_at missing)
+    (subst (λ (fs : Option Files). Asks fs (λ at. handed_out MAX_PROFILE_BYTES (at r.profile)) (λ at. at r.profile ≡ None)
+    (g.D.Depot.seen c.certified_at.new.depot) (g.D.Depot.seen c.replay_at.new.depot) c.replay_at.result)
+    c.in_ok-config.ensures.reads.same c.replay_at.ensures.asks)
