@@ -3,6 +3,7 @@ use Rattle.std.specs.Prelude.{ℕ, ◌≡◌, ◌≤◌, ◌↔◌, Bool, true, 
 use Rattle.dk_margins.specs.Margins.{IsGreatest}
 use Rattle.dk_config_report.specs.Pages.{IsLeast}
 use Rattle.dk_needs_check.specs.declared.row.Answer.{Answer}
+use Rattle.dk_needs_check.specs.declared.row.Audit.{Audit}
 use Rattle.dk_needs_check.specs.declared.row.Bound.{Bound}
 use Rattle.dk_needs_check.specs.declared.row.Measure.{Measure}
 use Rattle.dk_needs_check.specs.declared.row.Verdict.{Verdict}
@@ -12,6 +13,9 @@ abbrev pub is_upper : Measure → Bool
 is_upper Measure.Done = true
 is_upper Measure.Reaction = true
 is_upper Measure.Age = true
+is_upper Measure.Overruns = true
+is_upper Measure.Refused = true
+is_upper Measure.Faults = true
 is_upper _ = false
 
 abbrev pub keeps : Bool → Option ℕ → ℕ → Bool
@@ -21,8 +25,15 @@ keeps upper (Some n) asked = if upper then (nat_le n asked) else (nat_le asked n
 abbrev pub is_met : Bound → Bool
 is_met b = keeps (is_upper b.measure) b.number b.asked
 
+-- an audit that passed
+abbrev pub audit_verdict : Audit → Verdict
+audit_verdict (Audit.Passed n) = Verdict.Met
+audit_verdict (Audit.Label n) = Verdict.Missed
+audit_verdict (Audit.Event n) = Verdict.Missed
+
 abbrev pub verdict_of : Answer → Verdict
 verdict_of (Answer.Tested b) = if is_met b then Verdict.Met else Verdict.Missed
+verdict_of (Answer.Audited a) = audit_verdict a
 verdict_of (Answer.Open reason) = Verdict.Open
 
 -- a number up to this one has the fact

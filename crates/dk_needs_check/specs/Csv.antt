@@ -4,6 +4,7 @@ use Rattle.std.specs.Option.{option_map_or}
 use Rattle.csv.specs.Writing.{default_writer, needs_quotes, row_text}
 use Rattle.dk_needs.specs.declared.needs.Need.{Need}
 use Rattle.dk_needs_check.specs.declared.row.Answer.{Answer}
+use Rattle.dk_needs_check.specs.declared.row.Audit.{Audit}
 use Rattle.dk_needs_check.specs.declared.row.Measure.{Measure}
 use Rattle.dk_needs_check.specs.declared.row.Row.{Row}
 use Rattle.dk_needs_check.specs.Bounds.{verdict_of}
@@ -22,21 +23,39 @@ measure_word Measure.Hold = codes "hold"
 measure_word Measure.Release = codes "release"
 measure_word Measure.Growth = codes "growth"
 measure_word Measure.Spare = codes "spare"
+measure_word Measure.Overruns = codes "overruns"
+measure_word Measure.Refused = codes "refused"
+measure_word Measure.Faults = codes "faults"
 
 abbrev pub measure_field : Answer → List ℕ
 measure_field (Answer.Tested b) = measure_word b.measure
+measure_field (Answer.Audited a) = codes "audit"
 measure_field (Answer.Open reason) = []
+
+-- how many entries passed, or the tick of the first that breaks a rule
+abbrev pub audit_number : Audit → ℕ
+audit_number (Audit.Passed n) = n
+audit_number (Audit.Label n) = n
+audit_number (Audit.Event n) = n
+
+abbrev pub audit_word : Audit → List ℕ
+audit_word (Audit.Passed n) = codes "passed"
+audit_word (Audit.Label n) = codes "label"
+audit_word (Audit.Event n) = codes "event"
 
 abbrev pub number_of : Answer → Option ℕ
 number_of (Answer.Tested b) = b.number
+number_of (Answer.Audited a) = Some (audit_number a)
 number_of (Answer.Open reason) = None
 
 abbrev pub asked_of : Answer → Option ℕ
 asked_of (Answer.Tested b) = Some b.asked
+asked_of (Answer.Audited a) = None
 asked_of (Answer.Open reason) = None
 
 abbrev pub reason_field : Answer → List ℕ
 reason_field (Answer.Tested b) = []
+reason_field (Answer.Audited a) = audit_word a
 reason_field (Answer.Open reason) = reason_words reason
 
 -- a field is empty where there is no number

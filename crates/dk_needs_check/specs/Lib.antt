@@ -6,3 +6,4 @@ pub mod Unknown
 pub mod FaultLines
 pub mod Csv
 pub mod Junit
+pub mod Escapes

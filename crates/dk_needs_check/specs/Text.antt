@@ -8,6 +8,7 @@ use Rattle.dk_needs.specs.declared.needs.Tick.{Tick}
 use Rattle.dk_needs.specs.declared.needs.Unit.{Unit}
 use Rattle.dk_needs.specs.declared.needs.What.{What}
 use Rattle.dk_needs_check.specs.declared.row.Answer.{Answer}
+use Rattle.dk_needs_check.specs.declared.row.Audit.{Audit}
 use Rattle.dk_needs_check.specs.declared.row.Bound.{Bound}
 use Rattle.dk_needs_check.specs.declared.row.Measure.{Measure}
 use Rattle.dk_needs_check.specs.declared.row.Reason.{Reason}
@@ -29,6 +30,9 @@ measure_words Measure.Hold = codes "hold up to"
 measure_words Measure.Release = codes "release up to"
 measure_words Measure.Growth = codes "growth up to"
 measure_words Measure.Spare = codes "spare"
+measure_words Measure.Overruns = codes "overruns"
+measure_words Measure.Refused = codes "refused"
+measure_words Measure.Faults = codes "faults"
 
 abbrev pub reason_words : Reason → List ℕ
 reason_words Reason.NotTested = codes "not tested"
@@ -70,9 +74,12 @@ abbrev pub time_text : Tick → Option ℕ → List ℕ
 time_text tick None = codes "none"
 time_text tick (Some n) = decimal (n * tick.amount) ++ unit_word tick.unit
 
--- all numbers but growth are times
+-- all numbers but growth and what is counted are times
 abbrev pub is_time : Measure → Bool
 is_time Measure.Growth = false
+is_time Measure.Overruns = false
+is_time Measure.Refused = false
+is_time Measure.Faults = false
 is_time _ = true
 
 abbrev pub times_of : Tick → Bound → List ℕ
@@ -84,8 +91,15 @@ abbrev pub times_text : Option Tick → Bound → List ℕ
 times_text None b = []
 times_text (Some tick) b = if is_time b.measure then times_of tick b else []
 
+-- what an audit found
+abbrev pub audit_text : Audit → List ℕ
+audit_text (Audit.Passed n) = codes "audit passed " ++ decimal n
+audit_text (Audit.Label n) = codes "audit tick " ++ (decimal n ++ codes " label")
+audit_text (Audit.Event n) = codes "audit tick " ++ (decimal n ++ codes " event")
+
 abbrev pub answer_text : Option Tick → What → Answer → List ℕ
 answer_text tick what (Answer.Tested b) = before_space (subject_of what) ++ (bound_text b ++ times_text tick b)
+answer_text tick what (Answer.Audited a) = audit_text a
 answer_text tick what (Answer.Open reason) = reason_words reason
 
 abbrev pub line_of : List ℕ → List ℕ → List ℕ → List ℕ

@@ -1,4 +1,4 @@
-//! The rows as JUnit XML. No id, name or number has a byte that XML escapes.
+//! The rows as JUnit XML. No id, name or number has a byte that XML escapes (`cases_need_no_escapes`).
 ghost use Rattle.std.specs.Prelude.{◌≡◌, ◌++◌, flat_map, string_bytes, IfOk, OnOk};
 ghost use Rattle.dk_needs_check.specs.Junit.{answer_case, behind_space, case_text, end_text, needs_junit, row_case, suite_line, suite_text};
 

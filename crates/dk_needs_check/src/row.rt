@@ -19,16 +19,33 @@ pub enum Measure {
     Growth,
     /// So many ticks of each window of a level are left over.
     Spare,
+    /// In so many windows of a ledger a thread overran.
+    Overruns,
+    /// So many calls of a ledger were refused.
+    Refused,
+    /// So many threads of a ledger faulted.
+    Faults,
 }
 
-/// A number of the configuration, and what is asked of it: at most so much of `Done`, `Reaction` and `Age`, and of the
-/// others at least so much.
+/// A number of the configuration or of a ledger, and what is asked of it: at least so much of `Budget`, `Hold`, `Release`,
+/// `Growth` and `Spare`, and of the others at most so much.
 #[derive(Clone, Copy)]
 pub struct Bound {
     pub measure: Measure,
     /// The least number of the measure, or the greatest; `None` where there is none.
     pub number: Option<u32>,
     pub asked: u32,
+}
+
+/// What an audit found of the entries of a ledger.
+#[derive(Clone, Copy)]
+pub enum Audit {
+    /// All of them follow the rules; there are so many.
+    Passed(u32),
+    /// The entry of this tick is the first that breaks the rules, by its label.
+    Label(u32),
+    /// The entry of this tick is the first that breaks the rules, by its event.
+    Event(u32),
 }
 
 /// Why a need is neither met nor missed.
@@ -44,6 +61,7 @@ pub enum Reason {
 #[derive(Clone, Copy)]
 pub enum Answer {
     Tested(Bound),
+    Audited(Audit),
     Open(Reason),
 }
 

@@ -1,10 +1,10 @@
 //! The rows as a table. No field has a byte that calls for quotes, so a row is its fields with commas between them.
 ghost use Rattle.std.specs.Prelude.{◌≡◌, ◌++◌, ◌∷◌, [], All, codes, decimal, flat_map, string_bytes, IfOk, OnOk};
 ghost use Rattle.dk_needs.specs.Fit.{IsFit};
-ghost use Rattle.dk_needs_check.specs.Csv.{IsPlain, asked_of, columns, fields, joined_record, measure_field, measure_word, needs_csv, number_field, number_of, reason_field, record_text, row_record};
+ghost use Rattle.dk_needs_check.specs.Csv.{IsPlain, asked_of, audit_number, audit_word, columns, fields, joined_record, measure_field, measure_word, needs_csv, number_field, number_of, reason_field, record_text, row_record};
 
 use crate::text::{reason_words, subject_of, verdict_word};
-use crate::{Answer, Measure, Row, verdict_of};
+use crate::{Answer, Audit, Measure, Row, verdict_of};
 use dk_config::NoMemory;
 use dk_config_report::{Page, push_line};
 use dk_needs::{Need, Needs};
@@ -23,6 +23,9 @@ fn measure_word(measure: Measure) -> &'static str
         Measure::Release => "release",
         Measure::Growth => "growth",
         Measure::Spare => "spare",
+        Measure::Overruns => "overruns",
+        Measure::Refused => "refused",
+        Measure::Faults => "faults",
     }
 }
 
@@ -32,7 +35,30 @@ pub(crate) fn measure_field(answer: Answer) -> &'static str
 {
     match answer {
         Answer::Tested(bound) => measure_word(bound.measure),
+        Answer::Audited(_) => "audit",
         Answer::Open(_) => "",
+    }
+}
+
+/// How many entries passed, or the tick of the first that breaks a rule.
+fn audit_number(audit: Audit) -> u32
+    ensures { result ≡ audit_number audit }
+{
+    match audit {
+        Audit::Passed(ticks) => ticks,
+        Audit::Label(tick) => tick,
+        Audit::Event(tick) => tick,
+    }
+}
+
+fn audit_word(audit: Audit) -> &'static str
+    ensures text { result.now ≡ audit_word audit }
+    ensures plain { IsPlain result.now }
+{
+    match audit {
+        Audit::Passed(_) => "passed",
+        Audit::Label(_) => "label",
+        Audit::Event(_) => "event",
     }
 }
 
@@ -41,6 +67,7 @@ fn number_of(answer: Answer) -> Option<u32>
 {
     match answer {
         Answer::Tested(bound) => bound.number,
+        Answer::Audited(audit) => Some(audit_number(audit)),
         Answer::Open(_) => None,
     }
 }
@@ -50,6 +77,7 @@ fn asked_of(answer: Answer) -> Option<u32>
 {
     match answer {
         Answer::Tested(bound) => Some(bound.asked),
+        Answer::Audited(_) => None,
         Answer::Open(_) => None,
     }
 }
@@ -60,6 +88,7 @@ fn reason_field(answer: Answer) -> &'static str
 {
     match answer {
         Answer::Tested(_) => "",
+        Answer::Audited(audit) => audit_word(audit),
         Answer::Open(reason) => reason_words(reason),
     }
 }

@@ -3,11 +3,11 @@ ghost use Rattle.std.specs.Prelude.{◌≡◌, ◌++◌, true, codes, decimal, f
 ghost use Rattle.dk_config.specs.Rules.{is_name};
 ghost use Rattle.dk_needs.specs.Fit.{HasNames};
 ghost use Rattle.dk_needs_check.specs.Csv.{IsPlain};
-ghost use Rattle.dk_needs_check.specs.Text.{answer_line, answer_text, before_space, between_text, bound_text, count_line, count_text, is_time, line_of, measure_words, needs_text, number_text, reason_words, row_line, subject_of, time_text, times_of, times_text, unit_word, verdict_word};
+ghost use Rattle.dk_needs_check.specs.Text.{answer_line, answer_text, audit_text, before_space, between_text, bound_text, count_line, count_text, is_time, line_of, measure_words, needs_text, number_text, reason_words, row_line, subject_of, time_text, times_of, times_text, unit_word, verdict_word};
 
 use crate::counts::{how_many_met, how_many_missed, how_many_open};
 use crate::verdict::is_upper;
-use crate::{Answer, Bound, Measure, Reason, Row, Verdict, verdict_of};
+use crate::{Answer, Audit, Bound, Measure, Reason, Row, Verdict, verdict_of};
 use dk_config::NoMemory;
 use dk_config_report::{Page, push_line};
 use dk_needs::{Need, Needs, Tick, Unit, What};
@@ -36,6 +36,9 @@ fn measure_words(measure: Measure) -> &'static str
         Measure::Release => "release up to",
         Measure::Growth => "growth up to",
         Measure::Spare => "spare",
+        Measure::Overruns => "overruns",
+        Measure::Refused => "refused",
+        Measure::Faults => "faults",
     }
 }
 
@@ -145,6 +148,7 @@ fn is_time(measure: Measure) -> bool
 {
     match measure {
         Measure::Growth => false,
+        Measure::Overruns | Measure::Refused | Measure::Faults => false,
         _ => true,
     }
 }
@@ -185,6 +189,17 @@ fn tested_text(
     Ok(text)
 }
 
+/// What an audit found, in the words of deosk.
+fn audit_text(alloc: Global, audit: Audit) -> Result<String, AllocError>
+    ensures { IfOk result (λ s. string_bytes s ≡ audit_text audit) }
+{
+    match audit {
+        Audit::Passed(ticks) => format!(in alloc; "audit passed {ticks}"),
+        Audit::Label(tick) => format!(in alloc; "audit tick {tick} label"),
+        Audit::Event(tick) => format!(in alloc; "audit tick {tick} event"),
+    }
+}
+
 pub(crate) fn answer_text(
     alloc: Global,
     tick: Option<Tick>,
@@ -195,6 +210,7 @@ pub(crate) fn answer_text(
 {
     match answer {
         Answer::Tested(bound) => tested_text(alloc, tick, what, bound),
+        Answer::Audited(audit) => audit_text(alloc, audit),
         Answer::Open(reason) => String::from_str(alloc, reason_words(reason)),
     }
 }

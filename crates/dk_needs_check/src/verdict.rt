@@ -1,14 +1,18 @@
 //! Whether a bound is kept.
 ghost use Rattle.std.specs.Prelude.{◌≡◌};
-ghost use Rattle.dk_needs_check.specs.Bounds.{is_met, is_upper, keeps, verdict_of};
+ghost use Rattle.dk_needs_check.specs.Bounds.{audit_verdict, is_met, is_upper, keeps, verdict_of};
 
-use crate::{Answer, Bound, Measure, Verdict};
+use crate::{Answer, Audit, Bound, Measure, Verdict};
 
 /// Whether at most so much is asked.
 pub(crate) fn is_upper(measure: Measure) -> bool
     ensures { result ≡ is_upper measure }
 {
-    matches!(measure, Measure::Done | Measure::Reaction | Measure::Age)
+    match measure {
+        Measure::Done | Measure::Reaction | Measure::Age => true,
+        Measure::Overruns | Measure::Refused | Measure::Faults => true,
+        _ => false,
+    }
 }
 
 fn keeps(upper: bool, number: Option<u32>, asked: u32) -> bool
@@ -27,6 +31,16 @@ fn is_met(bound: Bound) -> bool
     keeps(is_upper(bound.measure), bound.number, bound.asked)
 }
 
+fn audit_verdict(audit: Audit) -> Verdict
+    ensures { result ≡ audit_verdict audit }
+{
+    match audit {
+        Audit::Passed(_) => Verdict::Met,
+        Audit::Label(_) => Verdict::Missed,
+        Audit::Event(_) => Verdict::Missed,
+    }
+}
+
 /// Whether what was asked for is kept.
 pub fn verdict_of(answer: Answer) -> Verdict
     ensures { result ≡ verdict_of answer }
@@ -39,6 +53,7 @@ pub fn verdict_of(answer: Answer) -> Verdict
                 Verdict::Missed
             }
         }
+        Answer::Audited(audit) => audit_verdict(audit),
         Answer::Open(_) => Verdict::Open,
     }
 }
