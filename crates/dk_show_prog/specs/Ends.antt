@@ -18,6 +18,8 @@ pub record Ends (words : List (List ℕ)) (depot_old depot_new : DepotView) (sin
   -- where a write failed a prefix of such a text, and where a read failed nothing
   pub cut : ended ≡ status.SinkFault → Cuts (StandsInOutput depot_old.files words) sink_old sink_new
   pub silent : ended ≡ status.DepotFault → sink_new ≡ sink_old
+  -- where memory ran out nothing, or of a drawing a prefix of such a text
+  pub memory : ended ≡ status.NoMemory → (sink_new ≡ sink_old) ⊎ Cuts (StandsInOutput depot_old.files words) sink_old sink_new
   pub untouched : IfSome (meaning words) DrawsNothing → ended ≡ status.NoMemory → sink_new ≡ sink_old
   -- when each answer comes
   pub complete : IfSome depot_old.files (λ at. (text : List ℕ) → ¬ IsSought (meaning words)

@@ -3,19 +3,16 @@
 
 mod program;
 
-use crate::program::DeoskShow;
-use dk_edge::{FileDepot, ProcessWords, StandardOutput, SystemFiles, final_status, run};
-use dk_show::Status;
+use crate::program::run_program;
+use dk_edge::{FileDepot, ProcessWords, StandardOutput, SystemFiles};
 use std::process::ExitCode;
 
 fn main(rt: HostRuntime) -> ExitCode {
-    let mut depot = FileDepot::new(SystemFiles::new(&rt));
-    let (ended, _) = run(
-        &DeoskShow,
+    run_program(
         rt.alloc(),
         &ProcessWords::new(&rt),
-        &mut depot,
+        &mut FileDepot::new(SystemFiles::new(&rt)),
         StandardOutput::new(&rt),
-    );
-    ExitCode::from(final_status(Status::NoMemory, Status::SinkFault, ended).number())
+    )
+    .0
 }

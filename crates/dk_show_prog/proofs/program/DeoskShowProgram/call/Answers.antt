@@ -1,4 +1,4 @@
-use Rattle.std.proofs.Common.{ap}
+use Rattle.std.proofs.Common.{ap, inl, inr}
 use Rattle.dk_show_prog.proofs.program.DeoskShowProgram.call.Goals as goal
 
 pub returns : goal.returns
@@ -8,6 +8,7 @@ returns g c =
       whole = e.output.whole;
       cut = e.output.cut;
       silent = λ silent. ap g.S.Sink.seen (e.output.silent silent);
+      memory = λ ended. elim (e.output.memory ended) [ inl same ↦ inl (ap g.S.Sink.seen same) | inr cuts ↦ inr cuts ];
       untouched = λ draws memory. ap g.S.Sink.seen (e.untouched draws memory);
       complete = e.complete;
       usage = e.usage;
