@@ -1,6 +1,7 @@
 -- What is looked for in words as the program has them.
-use Rattle.std.proofs.Common.{◌≡◌, List, [], ◌∷◌, map, length, refl, inl, inr}
-use Rattle.std.specs.Prelude.{Bool, filter, find, option_map}
+use Rattle.std.proofs.Common.{◌≡◌, List, [], ◌∷◌, ap, map, length, refl, inl, inr}
+use Rattle.std.specs.Prelude.{Bool, ◌||◌, filter, find, option_map}
+use Rattle.std.specs.List.{list_any}
 use Rattle.std.proofs.lemmas.Bool.{cases_Bool}
 
 pub find-map : {A B : Type 0} (f : A → B) (p : B → Bool) (xs : List A) → find p (map f xs) ≡ option_map f (find (λ x. p (f x)) xs)
@@ -18,3 +19,7 @@ length-filter-map f p (x ∷ xs) =
       | inl e ↦ simp (e, length-filter-map f p xs) refl
       | inr e ↦ simp (e, length-filter-map f p xs) refl
     ]
+
+pub list_any-map : {A B : Type 0} (f : A → B) (test : B → Bool) (xs : List A) → list_any test (map f xs) ≡ list_any (λ x. test (f x)) xs
+list_any-map f test [] = refl
+list_any-map f test (x ∷ xs) = ap (λ b. test (f x) || b) (list_any-map f test xs)

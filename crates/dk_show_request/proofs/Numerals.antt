@@ -1,14 +1,12 @@
 -- Numbers that are spelled.
-use Rattle.std.proofs.Common.{◌≡◌, ◌<◌, ◌==◌, ◌^◌, ℕ, true, false, List, [], ◌∷◌, length, refl, arith, inl, inr, map, String, Global, string_bytes}
+use Rattle.std.proofs.Common.{◌≡◌, ◌<◌, ◌==◌, ◌^◌, ℕ, true, false, List, [], ◌∷◌, length, refl, arith, inl, inr}
 use Rattle.std.specs.Prelude.{◌&&◌, nat_le, nat_lt, None}
 use Rattle.std.specs.List.{list_all}
 use Rattle.std.specs.Str.Parse.{AllDigits, IsNumeral, digits_value, without_leading_plus}
 use Rattle.std.specs.Char.{digit_value}
 use Rattle.std.proofs.lemmas.Bool.{cases_Bool, and_parts}
 use Rattle.std.proofs.lemmas.Bool.Decides.{nat_tests}
-use Rattle.std.proofs.lemmas.List.Folds.{list_all-map}
 use Rattle.dk_show_request.specs.Numbers.{is_digit_byte, is_spelled, ticks_in}
-use Rattle.dk_show_request.specs.Meaning.{is_taken_word}
 
 pub digit_value-digit : (c : ℕ) → is_digit_byte c ≡ true → digit_value c < 10
 digit_value-digit c h = grind (arith, nat_tests)
@@ -40,7 +38,3 @@ too_large w spelled fails =
       | inl e ↦ let below : digits_value 10 w < 2 ^ 64 = grind (arith, nat_tests) in absurd (large below)
       | inr e ↦ rw (spelled, e) refl
     ]
-
--- words as the program has them
-pub taken_words : (ws : List (String Global)) → list_all is_taken_word (map string_bytes ws) ≡ list_all (λ w. is_taken_word (string_bytes w)) ws
-taken_words ws = simp list_all-map refl

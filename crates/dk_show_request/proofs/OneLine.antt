@@ -11,8 +11,9 @@ use Rattle.dk_show_request.specs.declared.commands.Command.TheVariants as comman
 use Rattle.dk_show_request.specs.declared.commands.Drawing.TheVariants as drawing
 use Rattle.dk_show_request.specs.declared.commands.Telling.TheVariants as telling
 use Rattle.dk_show_request.specs.Forms.{form_of}
-use Rattle.dk_show_request.specs.Meaning.{command_named, word_of}
+use Rattle.dk_show_request.specs.Commands.{command_named, word_of}
 use Rattle.dk_show_request.specs.Reasons.{Reason, is_control, reason, reason_text, shown, wrong_with}
+use Rattle.dk_show_request.specs.Usage.{marks_text}
 use Rattle.dk_show_request.specs.TrueReasons.{AreLines, Holds, IsLine}
 use Rattle.dk_show_request.proofs.TrueReasons.{reasons_hold}
 
@@ -64,6 +65,8 @@ word_clean command.Chain = refl
 word_clean command.Impact = refl
 word_clean command.Repeats = refl
 word_clean command.Check = refl
+word_clean command.Holds = refl
+word_clean command.Replay = refl
 
 abbrev AllClean : List (List ℕ) → Type 0
 AllClean [] = Unit {0}
@@ -83,25 +86,22 @@ names_clean (command.Tell t) = ((refl, tt), tt)
 names_clean command.Chain = ((refl, (refl, tt)), tt)
 names_clean command.Impact = ((refl, (refl, tt)), (refl, tt))
 names_clean command.Repeats = ((refl, (refl, tt)), tt)
-names_clean command.Check = ((refl, (refl, tt)), tt)
+names_clean command.Check = ((refl, (refl, tt)), (refl, tt))
+names_clean command.Holds = ((refl, tt), (refl, tt))
+names_clean command.Replay = ((refl, (refl, (refl, tt))), tt)
 
-abbrev IsCleanMark : Option (List ℕ) → Type 0
-IsCleanMark None = Unit {0}
-IsCleanMark (Some mark) = IsClean mark
-
-form_mark : (c : Command) → IsCleanMark (form_of c).mark
-form_mark command.Picture = tt
-form_mark (command.Draw d) = tt
-form_mark command.Windows = refl
-form_mark command.Faults = tt
-form_mark (command.Tell t) = tt
-form_mark command.Chain = refl
-form_mark command.Impact = refl
-form_mark command.Repeats = tt
-form_mark command.Check = refl
-
-mark_clean : (c : Command) (mark : List ℕ) → (form_of c).mark ≡ Some mark → IsClean mark
-mark_clean c mark is = subst IsCleanMark is (form_mark c)
+flags_clean : (c : Command) → IsClean (marks_text (form_of c).marks)
+flags_clean command.Picture = refl
+flags_clean (command.Draw d) = refl
+flags_clean command.Windows = refl
+flags_clean command.Holds = refl
+flags_clean command.Faults = refl
+flags_clean (command.Tell t) = refl
+flags_clean command.Chain = refl
+flags_clean command.Impact = refl
+flags_clean command.Repeats = refl
+flags_clean command.Check = refl
+flags_clean command.Replay = refl
 
 reason_line : (c : Command) (ws : List (List ℕ)) (r : Reason) → Holds c ws r → IsLine (reason_text r)
 reason_line c ws (Reason.no_flag w) h = line-append (shown w) _ (shown_clean w) (codes " is no flag of it", refl, refl)
@@ -119,8 +119,8 @@ reason_line c ws (Reason.no_ticks w) h = line-append (shown w) _ (shown_clean w)
 reason_line c ws (Reason.disorder from to) h = line-append (codes "FROM ") _ refl (line-append (shown from) _ (shown_clean from)
     (line-append (codes " isn't below TO ") _ refl (line-append (shown to) _ (shown_clean to) ([], refl, refl))))
 reason_line c ws Reason.many_names h = line-append (codes "more than ") _ refl (line-append (decimal MAX_PROCESSES) _ most_names (codes " names", refl, refl))
-reason_line c ws (Reason.repeated mark) h = line-append mark _ (mark_clean c mark h.0) (codes " stands more than once", refl, refl)
-reason_line c ws (Reason.bare mark) h = line-append (codes "a word is wanted behind ") _ refl (line-append mark _ (mark_clean c mark h.0) ([], refl, refl))
+reason_line c ws (Reason.repeated flags) h = line-append flags _ (subst IsClean (sym h.0) (flags_clean c)) (codes " stands more than once", refl, refl)
+reason_line c ws (Reason.bare w) h = line-append (codes "a word is wanted behind ") _ refl (line-append (shown w) _ (shown_clean w) ([], refl, refl))
 reason_line c ws Reason.other h = (codes "these words are no call of it", refl, refl)
 
 with_line : (w : List ℕ) (o : Option Command) (ws : List (List ℕ)) → IsLine (wrong_with w o ws)

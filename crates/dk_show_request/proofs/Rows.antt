@@ -1,7 +1,7 @@
 -- Words that mean nothing, each with its line.
 use Rattle.std.proofs.Common.{ℕ, ◌≡◌, List, [], ◌∷◌, codes, refl}
 use Rattle.std.specs.Fmt.{digits}
-use Rattle.dk_show_request.specs.Meaning.{command_named}
+use Rattle.dk_show_request.specs.Commands.{command_named}
 use Rattle.dk_show_request.specs.Reasons.{wrong_text}
 
 -- behind the program's name
@@ -23,7 +23,7 @@ broken_line : Says ((97 ∷ 10 ∷ []) ∷ []) (codes "a word with a control cha
 unfolding command_named
 broken_line = refl
 
-other_flag : Says (codes "windows" ∷ codes "l" ∷ codes "--csv" ∷ []) (codes "windows: --csv is no flag of it\n")
+other_flag : Says (codes "windows" ∷ codes "l" ∷ codes "--junit" ∷ []) (codes "windows: --junit is no flag of it\n")
 unfolding command_named
 other_flag = refl
 
@@ -66,3 +66,7 @@ twice = refl
 bare_option : Says (codes "chain" ∷ codes "c" ∷ codes "a" ∷ codes "--ledger" ∷ []) (codes "chain: a word is wanted behind --ledger\n")
 unfolding command_named
 bare_option = refl
+
+two_flags : Says (codes "check" ∷ codes "c" ∷ codes "n" ∷ codes "--csv" ∷ codes "--junit" ∷ []) (codes "check: --csv|--junit stands more than once\n")
+unfolding command_named
+two_flags = refl

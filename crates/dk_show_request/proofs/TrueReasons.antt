@@ -1,6 +1,6 @@
 -- The reason that is told holds of the words.
-use Rattle.std.proofs.Common.{ℕ, ◌≡◌, ◌<◌, ◌==◌, ◌∙◌, Bool, true, false, List, [], ◌∷◌, length, refl, sym, subst, arith, inl, inr}
-use Rattle.std.specs.Prelude.{◌&&◌, ◌||◌, not, Option, Some, None, drop, find, is_some, nat_lt, if◌then◌else◌}
+use Rattle.std.proofs.Common.{ℕ, ◌≡◌, ◌<◌, ◌+◌, ◌==◌, ◌∙◌, Bool, true, false, List, [], ◌∷◌, length, refl, sym, subst, arith, inl, inr}
+use Rattle.std.specs.Prelude.{◌-◌, ◌&&◌, ◌||◌, not, Option, Some, None, drop, find, is_some, nat_lt, slice_get, unwrap_or, if◌then◌else◌}
 use Rattle.std.specs.Option.{option_map_or}
 use Rattle.std.proofs.lemmas.Bool.{cases_Bool, and_parts}
 use Rattle.std.proofs.lemmas.Bool.Decides.{nat_tests}
@@ -10,9 +10,10 @@ use Rattle.dk_config.specs.declared.TheConstants.{MAX_PROCESSES}
 use Rattle.dk_show_request.specs.declared.commands.Command.{Command}
 use Rattle.dk_show_request.specs.declared.commands.Command.TheVariants as command
 use Rattle.dk_show_request.specs.Forms.{Form, form_of}
-use Rattle.dk_show_request.specs.Meaning.{is_plain_word, word_at}
 use Rattle.dk_show_request.specs.Numbers.{ticks_in}
-use Rattle.dk_show_request.specs.Reasons.{Reason, arguments, count_reason, ends_bare, has_many_names, is_below, is_disordered, is_mark, is_no_ticks, is_repeated, is_unfit, mark_reason, mark_reason_by, missing_name, names_reason, no_ticks_word, order_reason, surplus_reason, surplus_word, ticks_reason, unfit_reason, unfit_word}
+use Rattle.dk_show_request.specs.Usage.{marks_text}
+use Rattle.dk_show_request.specs.Words.{arguments, ends_bare, is_mark, is_option, is_plain_word, is_repeated, is_unfit, unfit_word, word_at}
+use Rattle.dk_show_request.specs.Reasons.{Reason, count_reason, has_many_names, is_below, is_disordered, is_no_ticks, mark_reason, missing_name, names_reason, no_ticks_word, order_reason, surplus_reason, surplus_word, ticks_reason, unfit_reason}
 use Rattle.dk_show_request.specs.TrueReasons.{AreNotBelow, HoldsOf, LeavesOut, ReasonsHold, StandsIn}
 
 or_else : {X : Type 0} (P : Reason → Type 0) (g : X → Reason) (o : Option X) (d : Reason)
@@ -59,11 +60,12 @@ left_out f n name e =
     ]
 
 too_many : (f : Form) (ps ws : List (List ℕ)) (w : List ℕ) → surplus_word f ps ≡ Some w → HoldsOf f ps ws (Reason.surplus w)
-too_many f ps ws w e =
-    elim (cases_Bool f.repeats) [
-      | inl a ↦ let no : None ≡ Some w = rw a at e in absurd (cc)
-      | inr a ↦ (a, rw a at e)
-    ]
+too_many f ps ws w e = go f.repeats refl e
+  where
+    go : (o : Option (List ℕ)) → f.repeats ≡ o
+        → (if is_some o then None else slice_get ps (length f.needed + length f.optional)) ≡ Some w → HoldsOf f ps ws (Reason.surplus w)
+    go None is e = (is, e)
+    go (Some name) is e = absurd (cc)
 
 no_number : (f : Form) (ps ws : List (List ℕ)) (w : List ℕ) → no_ticks_word f ps ≡ Some w → HoldsOf f ps ws (Reason.no_ticks w)
 no_number f ps ws w e =
@@ -83,14 +85,23 @@ not_below from to e h = go (ticks_in from) (ticks_in to) refl refl e h
     go (Some m) None is_x is_y e h = absurd (cc)
     go (Some m) (Some n) is_x is_y e h = (m, n, is_x, is_y, grind (arith, nat_tests))
 
+-- the last word, where it is an option
+ended : (f : Form) (ws : List (List ℕ)) → ends_bare f ws ≡ true
+    → (slice_get ws (length ws - 1) ≡ Some (word_at ws (length ws - 1))) × (is_option f (word_at ws (length ws - 1)) ≡ true)
+ended f ws h = go (slice_get ws (length ws - 1)) h
+  where
+    go : (o : Option (List ℕ)) → option_map_or (is_option f) o false ≡ true
+        → (o ≡ Some (unwrap_or o [])) × (is_option f (unwrap_or o []) ≡ true)
+    go None h = absurd (cc)
+    go (Some w) h = (refl, h)
+
 marks : (f : Form) (ps ws : List (List ℕ)) → HoldsOf f ps ws (mark_reason f ws)
 marks f ps ws =
     let P = λ (r : Reason). HoldsOf f ps ws r in
-    or_else P (λ mark. mark_reason_by f mark ws) f.mark Reason.other
-    (λ mark is. if_so P (is_repeated f ws) (Reason.repeated mark) (if ends_bare f ws then Reason.bare mark else Reason.other)
-    (λ twice. (is, grind (arith, nat_tests)))
-    (λ once. if_so P (ends_bare f ws) (Reason.bare mark) Reason.other (λ bare. (is, bare)) (λ _. tt)))
-    (λ _. tt)
+    let last = word_at ws (length ws - 1) in
+    if_so P (is_repeated f ws) (Reason.repeated (marks_text f.marks)) (if ends_bare f ws then Reason.bare last else Reason.other)
+    (λ twice. (refl, grind (arith, nat_tests)))
+    (λ once. if_so P (ends_bare f ws) (Reason.bare last) Reason.other (ended f ws) (λ _. tt))
 
 many : (c : Command) (ps : List (List ℕ)) → has_many_names c ps ≡ true → MAX_PROCESSES < length (drop 1 ps)
 many command.Chain ps h = grind (arith, nat_tests)
@@ -102,6 +113,8 @@ many (command.Tell t) ps h = absurd (cc)
 many command.Impact ps h = absurd (cc)
 many command.Repeats ps h = absurd (cc)
 many command.Check ps h = absurd (cc)
+many command.Holds ps h = absurd (cc)
+many command.Replay ps h = absurd (cc)
 
 names : (c : Command) (ps ws : List (List ℕ)) → HoldsOf (form_of c) ps ws (names_reason c ps ws)
 names c ps ws =

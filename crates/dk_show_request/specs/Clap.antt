@@ -3,6 +3,9 @@ use Rattle.std.specs.Prelude.{ℕ, Bool, true, false, ◌==◌, codes, length, L
 use Rattle.std.specs.Str.{bytes_eq}
 use Rattle.clap.specs.Words.{App, Row, Rule, Text, first_of, fault_of, matches_of, new_app, new_rule, with_rule}
 use Rattle.clap.specs.declared.builder.action.ArgAction.TheVariants.{Append, Set, SetTrue}
+use Rattle.dk_show_request.specs.declared.commands.Command.{Command}
+use Rattle.dk_show_request.specs.declared.commands.Command.TheVariants as command
+use Rattle.dk_show_request.specs.Commands.{word_of}
 
 -- an argument of this name
 abbrev pub argument : List ℕ → Bool → Rule
@@ -20,72 +23,66 @@ flag name = record (new_rule name) { long = Some name; action = Some SetTrue }
 abbrev pub option : List ℕ → Rule
 option name = record (new_rule name) { long = Some name; action = Some Set }
 
--- a command with a ledger, and perhaps a range
+-- for each form what `clap` is given for a command of this word
+
 abbrev pub range_app : List ℕ → App
 range_app word = with_rule (with_rule (with_rule (new_app word) (argument (codes "LEDGER") true))
     (argument (codes "FROM") false)) (argument (codes "TO") false)
 
--- a command with a file
+abbrev pub windows_app : List ℕ → App
+windows_app word = with_rule (with_rule (with_rule (with_rule (new_app word) (argument (codes "LEDGER") true))
+    (flag (codes "strict"))) (flag (codes "sparing"))) (flag (codes "csv"))
+
+abbrev pub holds_app : List ℕ → App
+holds_app word = with_rule (with_rule (new_app word) (argument (codes "LEDGER") true)) (argument (codes "FILE") false)
+
 abbrev pub file_app : List ℕ → App
 file_app word = with_rule (new_app word) (argument (codes "FILE") true)
 
--- a command with a ledger, and perhaps `--strict`
-abbrev pub windows_app : List ℕ → App
-windows_app word = with_rule (with_rule (new_app word) (argument (codes "LEDGER") true))
-    (flag (codes "strict"))
+abbrev pub telling_app : List ℕ → App
+telling_app word = with_rule (with_rule (new_app word) (argument (codes "FILE") true)) (flag (codes "csv"))
 
--- the words of the arguments
-pub record Words : Type 0 where
-  pub ledger : Option Text
-  pub from : Option Text
-  pub to : Option Text
+abbrev pub chain_app : List ℕ → App
+chain_app word = with_rule (with_rule (with_rule (new_app word) (argument (codes "FILE") true))
+    (many_argument (codes "NAME") true)) (option (codes "ledger"))
 
-abbrev pub words_in : List Row → Words
-words_in rows = record {
-  ledger = first_of (codes "LEDGER") rows;
-  from = first_of (codes "FROM") rows;
-  to = first_of (codes "TO") rows;
-}
+abbrev pub change_app : List ℕ → App
+change_app word = with_rule (with_rule (with_rule (with_rule (new_app word) (argument (codes "OLD") true))
+    (argument (codes "NEW") true)) (many_argument (codes "NAME") false)) (flag (codes "csv"))
 
--- the words of the arguments, where `clap` has no fault to find
-abbrev pub given_by : App → List Text → Option Words
-given_by app ws = if length (fault_of app ws) == 0 then Some (words_in (matches_of app ws)) else None
+abbrev pub ticks_app : List ℕ → App
+ticks_app word = with_rule (with_rule (new_app word) (argument (codes "FILE") true)) (argument (codes "TICKS") true)
 
--- the word of the file, where `clap` has no fault to find
-abbrev pub file_given_by : App → List Text → Option Text
-file_given_by app ws = if length (fault_of app ws) == 0 then first_of (codes "FILE") (matches_of app ws) else None
+abbrev pub check_app : List ℕ → App
+check_app word = with_rule (with_rule (with_rule (with_rule (with_rule (new_app word) (argument (codes "FILE") true))
+    (argument (codes "NEEDS") true)) (argument (codes "LEDGER") false)) (flag (codes "csv"))) (flag (codes "junit"))
 
--- the word of the ledger, and whether `--strict` was given
-pub record WindowsWords : Type 0 where
-  pub ledger : Option Text
-  pub strict : Bool
+abbrev pub replay_app : List ℕ → App
+replay_app word = with_rule (with_rule (with_rule (new_app word) (argument (codes "PROFILE") true))
+    (argument (codes "NAME") true)) (argument (codes "FILE") true)
+
+abbrev pub app_for : Command → App
+app_for command.Picture = range_app (word_of command.Picture)
+app_for (command.Draw d) = range_app (word_of (command.Draw d))
+app_for command.Windows = windows_app (word_of command.Windows)
+app_for command.Holds = holds_app (word_of command.Holds)
+app_for command.Faults = file_app (word_of command.Faults)
+app_for (command.Tell t) = telling_app (word_of (command.Tell t))
+app_for command.Chain = chain_app (word_of command.Chain)
+app_for command.Impact = change_app (word_of command.Impact)
+app_for command.Repeats = ticks_app (word_of command.Repeats)
+app_for command.Check = check_app (word_of command.Check)
+app_for command.Replay = replay_app (word_of command.Replay)
 
 -- the text of a flag is "true" or "false"
 abbrev pub is_true : Option Text → Bool
 is_true None = false
 is_true (Some text) = bytes_eq text (codes "true")
 
-abbrev pub windows_words_in : List Row → WindowsWords
-windows_words_in rows = record {
-  ledger = first_of (codes "LEDGER") rows;
-  strict = is_true (first_of (codes "strict") rows);
-}
+-- the flag of this name stands
+abbrev pub has : List ℕ → List Row → Bool
+has name rows = is_true (first_of name rows)
 
-abbrev pub windows_given_by : App → List Text → Option WindowsWords
-windows_given_by app ws =
-    if length (fault_of app ws) == 0 then Some (windows_words_in (matches_of app ws)) else None
-
--- a command with a file and a number of ticks
-abbrev pub ticks_app : List ℕ → App
-ticks_app word = with_rule (with_rule (new_app word) (argument (codes "FILE") true)) (argument (codes "TICKS") true)
-
--- the words of the file and of the ticks
-pub record TicksWords : Type 0 where
-  pub file : Option Text
-  pub ticks : Option Text
-
-abbrev pub ticks_words_in : List Row → TicksWords
-ticks_words_in rows = record { file = first_of (codes "FILE") rows; ticks = first_of (codes "TICKS") rows }
-
-abbrev pub ticks_given_by : App → List Text → Option TicksWords
-ticks_given_by app ws = if length (fault_of app ws) == 0 then Some (ticks_words_in (matches_of app ws)) else None
+-- the words of each argument, flag and option, where `clap` has no fault to find
+abbrev pub given_by : App → List Text → Option (List Row)
+given_by app ws = if length (fault_of app ws) == 0 then Some (matches_of app ws) else None

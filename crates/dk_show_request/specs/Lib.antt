@@ -1,10 +1,11 @@
 pub mod Numbers
+pub mod Commands
+pub mod Forms
+pub mod Words
 pub mod Clap
 pub mod Chain
 pub mod Change
-pub mod Check
 pub mod Meaning
-pub mod Forms
 pub mod Usage
 pub mod Reasons
 pub mod TrueReasons

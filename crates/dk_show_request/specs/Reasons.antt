@@ -1,14 +1,15 @@
 -- Why words mean nothing: the first reason that is found.
-use Rattle.std.specs.Prelude.{ℕ, ◌+◌, ◌-◌, ◌==◌, ◌&&◌, ◌||◌, not, Bool, false, codes, decimal, drop, filter, find, is_some, length, nat_lt, slice_get, List, [], ◌∷◌, ◌++◌, Option, Some, None, if◌then◌else◌}
+use Rattle.std.specs.Prelude.{ℕ, ◌+◌, ◌-◌, ◌==◌, ◌&&◌, ◌||◌, not, Bool, false, codes, decimal, drop, find, is_some, length, nat_lt, slice_get, List, ◌∷◌, ◌++◌, Option, Some, None, if◌then◌else◌}
 use Rattle.std.specs.List.{list_any}
 use Rattle.std.specs.Option.{option_map_or}
-use Rattle.std.specs.Str.{bytes_eq}
 use Rattle.dk_config.specs.declared.TheConstants.{MAX_PROCESSES, MAX_RUN_TICKS}
 use Rattle.dk_show_request.specs.declared.commands.Command.{Command}
 use Rattle.dk_show_request.specs.declared.commands.Command.TheVariants as command
+use Rattle.dk_show_request.specs.Commands.{command_named, word_of}
 use Rattle.dk_show_request.specs.Forms.{Form, form_of}
-use Rattle.dk_show_request.specs.Meaning.{command_named, is_plain_word, word_at, word_of}
 use Rattle.dk_show_request.specs.Numbers.{ticks_in}
+use Rattle.dk_show_request.specs.Usage.{marks_text}
+use Rattle.dk_show_request.specs.Words.{arguments, ends_bare, is_repeated, unfit_word, word_at}
 
 -- why the words behind a command word are no call of it
 pub data Reason : Type 0 where
@@ -26,37 +27,12 @@ pub data Reason : Type 0 where
   disorder : List ℕ → List ℕ → Reason
   -- a chain has more names than a configuration has processes
   many_names : Reason
-  -- the flag or the option stands more than once
+  -- more than one of these flags and options stands, or one of them twice
   repeated : List ℕ → Reason
-  -- no word stands behind the option
+  -- no word stands behind this option
   bare : List ℕ → Reason
   -- none of these
   other : Reason
-
--- the word is the flag or the option
-abbrev pub is_mark : Form → List ℕ → Bool
-is_mark f w = option_map_or (λ mark. bytes_eq w mark) f.mark false
-
--- the word is the option
-abbrev pub is_option : Form → List ℕ → Bool
-is_option f w = is_some f.value && is_mark f w
-
--- the words that stand for arguments: no flag or option, and not the word behind an option
-abbrev pub arguments_behind : Form → Bool → List (List ℕ) → List (List ℕ)
-arguments_behind f behind [] = []
-arguments_behind f behind (w ∷ ws) =
-    if behind || is_mark f w
-    then arguments_behind f (is_option f w) ws
-    else (w ∷ arguments_behind f (is_option f w) ws)
-
-abbrev pub arguments : Form → List (List ℕ) → List (List ℕ)
-arguments f ws = arguments_behind f false ws
-
-abbrev pub is_unfit : Form → List ℕ → Bool
-is_unfit f w = not (is_mark f w || is_plain_word w)
-
-abbrev pub unfit_word : Form → List (List ℕ) → Option (List ℕ)
-unfit_word f ws = find (is_unfit f) ws
 
 -- of so many words, the name of the first argument that has none and must have one
 abbrev pub missing_name : Form → ℕ → Option (List ℕ)
@@ -67,7 +43,7 @@ missing_name f n =
 
 -- the first word for which no argument is left
 abbrev pub surplus_word : Form → List (List ℕ) → Option (List ℕ)
-surplus_word f ps = if f.repeats then None else slice_get ps (length f.needed + length f.optional)
+surplus_word f ps = if is_some f.repeats then None else slice_get ps (length f.needed + length f.optional)
 
 abbrev pub is_no_ticks : List ℕ → Bool
 is_no_ticks w = not (is_some (ticks_in w))
@@ -83,23 +59,12 @@ abbrev pub has_many_names : Command → List (List ℕ) → Bool
 has_many_names command.Chain ps = nat_lt MAX_PROCESSES (length (drop 1 ps))
 has_many_names _ ps = false
 
--- the flag or the option stands more than once
-abbrev pub is_repeated : Form → List (List ℕ) → Bool
-is_repeated f ws = nat_lt 1 (length (filter (is_mark f) ws))
-
--- the last word is the option
-abbrev pub ends_bare : Form → List (List ℕ) → Bool
-ends_bare f ws = option_map_or (is_option f) (slice_get ws (length ws - 1)) false
-
-abbrev pub mark_reason_by : Form → List ℕ → List (List ℕ) → Reason
-mark_reason_by f mark ws =
-    if is_repeated f ws then repeated mark
-    else if ends_bare f ws then bare mark
-    else other
-
--- of the flag or the option
+-- of the flags and options
 abbrev pub mark_reason : Form → List (List ℕ) → Reason
-mark_reason f ws = option_map_or (λ mark. mark_reason_by f mark ws) f.mark other
+mark_reason f ws =
+    if is_repeated f ws then repeated (marks_text f.marks)
+    else if ends_bare f ws then bare (word_at ws (length ws - 1))
+    else other
 
 abbrev pub names_reason : Command → List (List ℕ) → List (List ℕ) → Reason
 names_reason c ps ws = if has_many_names c ps then many_names else mark_reason (form_of c) ws
@@ -149,8 +114,8 @@ reason_text (surplus w) = shown w ++ codes " is one word too many\n"
 reason_text (no_ticks w) = shown w ++ (codes " is no number of ticks from 0 to " ++ (decimal MAX_RUN_TICKS ++ codes "\n"))
 reason_text (disorder from to) = codes "FROM " ++ (shown from ++ (codes " isn't below TO " ++ (shown to ++ codes "\n")))
 reason_text many_names = codes "more than " ++ (decimal MAX_PROCESSES ++ codes " names\n")
-reason_text (repeated mark) = mark ++ codes " stands more than once\n"
-reason_text (bare mark) = codes "a word is wanted behind " ++ (mark ++ codes "\n")
+reason_text (repeated flags) = flags ++ codes " stands more than once\n"
+reason_text (bare w) = codes "a word is wanted behind " ++ (shown w ++ codes "\n")
 reason_text other = codes "these words are no call of it\n"
 
 -- of a command the word, and why the words behind it are no call of it

@@ -4,9 +4,10 @@ use Rattle.std.specs.List.{list_any}
 use Rattle.dk_config.specs.declared.TheConstants.{MAX_PROCESSES}
 use Rattle.dk_show_request.specs.declared.commands.Command.{Command}
 use Rattle.dk_show_request.specs.Forms.{Form, form_of}
-use Rattle.dk_show_request.specs.Meaning.{is_plain_word}
 use Rattle.dk_show_request.specs.Numbers.{ticks_in}
-use Rattle.dk_show_request.specs.Reasons.{Reason, arguments, ends_bare, is_control, is_mark, reason, wrong_text}
+use Rattle.dk_show_request.specs.Reasons.{Reason, is_control, reason, wrong_text}
+use Rattle.dk_show_request.specs.Usage.{marks_text}
+use Rattle.dk_show_request.specs.Words.{arguments, is_mark, is_option, is_plain_word}
 
 abbrev pub StandsIn : List (List ℕ) → List ℕ → Type 0
 StandsIn ws w = (i : ℕ) × (slice_get ws i ≡ Some w)
@@ -25,12 +26,12 @@ abbrev pub HoldsOf : Form → List (List ℕ) → List (List ℕ) → Reason →
 HoldsOf f ps ws (Reason.no_flag w) = StandsIn ws w × (is_plain_word w ≡ false) × (is_mark f w ≡ false)
 HoldsOf f ps ws Reason.empty = StandsIn ws []
 HoldsOf f ps ws (Reason.missing name) = LeavesOut f (length ps) name
-HoldsOf f ps ws (Reason.surplus w) = (f.repeats ≡ false) × (slice_get ps (length f.needed + length f.optional) ≡ Some w)
+HoldsOf f ps ws (Reason.surplus w) = (f.repeats ≡ None) × (slice_get ps (length f.needed + length f.optional) ≡ Some w)
 HoldsOf f ps ws (Reason.no_ticks w) = (f.ticks ≡ true) × StandsIn (drop 1 ps) w × (ticks_in w ≡ None)
 HoldsOf f ps ws (Reason.disorder from to) = (f.ticks ≡ true) × (drop 1 ps ≡ from ∷ to ∷ []) × AreNotBelow from to
 HoldsOf f ps ws Reason.many_names = MAX_PROCESSES < length (drop 1 ps)
-HoldsOf f ps ws (Reason.repeated mark) = (f.mark ≡ Some mark) × (1 < length (filter (is_mark f) ws))
-HoldsOf f ps ws (Reason.bare mark) = (f.mark ≡ Some mark) × (ends_bare f ws ≡ true)
+HoldsOf f ps ws (Reason.repeated flags) = (flags ≡ marks_text f.marks) × (1 < length (filter (is_mark f) ws))
+HoldsOf f ps ws (Reason.bare w) = (slice_get ws (length ws - 1) ≡ Some w) × (is_option f w ≡ true)
 HoldsOf f ps ws Reason.other = Unit {0}
 
 -- what the reason says holds of the words behind the command word

@@ -1,24 +1,38 @@
 //! Which words behind a command word stand for what.
 ghost use Rattle.std.specs.Prelude.{◌≡◌, ◌+◌, ◌<◌, IfOk, filter, find, length, map, option_map, string_bytes};
-ghost use Rattle.dk_show_request.specs.Reasons.{arguments, ends_bare, is_mark, is_no_ticks, is_option, is_repeated, is_unfit, missing_name, no_ticks_word, surplus_word, unfit_word};
+ghost use Rattle.std.specs.List.{list_any};
+ghost use Rattle.std.specs.Str.{bytes_eq};
+ghost use Rattle.dk_show_request.specs.Reasons.{is_no_ticks, missing_name, no_ticks_word, surplus_word};
+ghost use Rattle.dk_show_request.specs.Words.{arguments, fits, is_mark, is_option, is_plain_word, is_repeated, is_unfit, unfit_word};
 
 use crate::forms::Form;
 use crate::numbers::ticks_in;
-use crate::taken::is_plain_word;
 use std::alloc::{AllocError, Global};
 
-/// The word is the flag or the option.
-fn is_mark(form: &Form, word: &String) -> bool
-    ensures { result ≡ is_mark form.now (string_bytes word.now) }
+fn is_plain_word(word: &String) -> bool
+    ensures { result ≡ is_plain_word (string_bytes word.now) }
 {
-    match form.mark {
-        Some(mark) => word.as_str() == mark,
-        None => false,
+    match word.as_bytes() {
+        [b, ..] => *b != b'-',
+        [] => false,
     }
 }
 
-/// The word is the option.
-fn is_option(form: &Form, word: &String) -> bool
+fn is_among(marks: &[&str], word: &String) -> bool
+    ensures { result ≡ list_any (λ m. bytes_eq (string_bytes word.now) m.now) marks.now }
+{
+    marks.iter().any(|mark| word.as_str() == *mark)
+}
+
+/// The word is a flag or an option.
+fn is_mark(form: &Form, word: &String) -> bool
+    ensures { result ≡ is_mark form.now (string_bytes word.now) }
+{
+    is_among(form.marks, word)
+}
+
+/// The word is an option.
+pub fn is_option(form: &Form, word: &String) -> bool
     ensures { result ≡ is_option form.now (string_bytes word.now) }
 {
     form.value.is_some() && is_mark(form, word)
@@ -55,7 +69,7 @@ fn unfit_string<'a>(form: &Form, words: &'a [String]) -> Option<&'a String>
     words.iter().find(|word| is_unfit(form, word))
 }
 
-/// The first word that begins with '-' or is empty, and is no flag of the command.
+/// The first word that begins with '-' or is empty, and is no flag or option of the command.
 pub fn unfit_word<'a>(form: &Form, words: &'a [String]) -> Option<&'a str>
     ensures { option_map (λ w. w.now) result ≡ unfit_word form.now (map string_bytes words.entry.now) }
 {
@@ -84,7 +98,7 @@ pub fn surplus_word<'a>(form: &Form, given: &[&'a str]) -> Option<&'a str>
     requires { length form.now.needed + length form.now.optional < 100 }
     ensures { option_map (λ w. w.now) result ≡ surplus_word form.now (map (λ w. w.now) given.now) }
 {
-    if form.repeats {
+    if form.repeats.is_some() {
         None
     } else {
         given.get(form.needed.len() + form.optional.len()).copied()
@@ -125,19 +139,16 @@ fn mark_count(form: &Form, words: &[String]) -> usize
     words.iter().filter(|word| is_mark(form, word)).count()
 }
 
-/// Whether the flag or the option stands more than once.
+/// Whether more than one word is a flag or an option.
 pub fn is_repeated(form: &Form, words: &[String]) -> bool
     ensures { result ≡ is_repeated form.now (map string_bytes words.now) }
 {
     mark_count(form, words) > 1
 }
 
-/// Whether the last word is the option.
-pub fn ends_bare(form: &Form, words: &[String]) -> bool
-    ensures { result ≡ ends_bare form.now (map string_bytes words.now) }
+/// Whether no word is unfit, and one at most is a flag or an option.
+pub fn fits(form: &Form, words: &[String]) -> bool
+    ensures { result ≡ fits form.now (map string_bytes words.now) }
 {
-    match words.last() {
-        Some(last) => is_option(form, last),
-        None => false,
-    }
+    unfit_word(form, words).is_none() && !is_repeated(form, words)
 }

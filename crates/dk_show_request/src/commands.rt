@@ -1,6 +1,6 @@
 //! The commands.
 ghost use Rattle.std.specs.Prelude.{◌≡◌};
-ghost use Rattle.dk_show_request.specs.Meaning.{command_named, word_of};
+ghost use Rattle.dk_show_request.specs.Commands.{command_named, word_of};
 
 /// What is drawn of a range of a ledger.
 #[derive(Clone, Copy)]
@@ -34,6 +34,8 @@ pub enum Command {
     Picture,
     /// What each thread of a ledger did in its windows.
     Windows,
+    /// How long each mutex of a ledger was held.
+    Holds,
     /// All that is wrong with the document of a configuration.
     Faults,
     Tell(Telling),
@@ -45,15 +47,18 @@ pub enum Command {
     Repeats,
     /// Which needs a configuration meets.
     Check,
+    /// The source of a program that takes the times of a profile.
+    Replay,
 }
 
 /// In the order of the usage line.
-const COMMANDS: [Command; 14] = [
+const COMMANDS: [Command; 16] = [
     Command::Picture,
     Command::Draw(Drawing::Trace),
     Command::Draw(Drawing::Vcd),
     Command::Draw(Drawing::Csv),
     Command::Windows,
+    Command::Holds,
     Command::Faults,
     Command::Tell(Telling::Certify),
     Command::Tell(Telling::Margins),
@@ -63,6 +68,7 @@ const COMMANDS: [Command; 14] = [
     Command::Impact,
     Command::Repeats,
     Command::Check,
+    Command::Replay,
 ];
 
 impl Command {
@@ -76,6 +82,7 @@ impl Command {
             Command::Draw(Drawing::Vcd) => "vcd",
             Command::Draw(Drawing::Csv) => "csv",
             Command::Windows => "windows",
+            Command::Holds => "holds",
             Command::Faults => "faults",
             Command::Tell(Telling::Certify) => "certify",
             Command::Tell(Telling::Margins) => "margins",
@@ -85,11 +92,12 @@ impl Command {
             Command::Impact => "impact",
             Command::Repeats => "repeats",
             Command::Check => "check",
+            Command::Replay => "replay",
         }
     }
 
     /// The one of this word.
-    #[tactic(auto, unfolding(crate::specs::Meaning::command_named))]
+    #[tactic(auto, unfolding(crate::specs::Commands::command_named))]
     pub fn named(word: &str) -> Option<Command>
         ensures { result ≡ command_named word.now }
     {

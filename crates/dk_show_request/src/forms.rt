@@ -1,6 +1,6 @@
 //! What may stand behind each command word.
 ghost use Rattle.std.specs.Prelude.{◌≡◌, map};
-ghost use Rattle.dk_show_request.specs.Forms.{chain_form, change_form, check_form, file_form, form_of, plain, range_form, ticks_form, windows_form};
+ghost use Rattle.dk_show_request.specs.Forms.{change_form, chain_form, check_form, form_of, plain, telling_form, windows_form};
 
 use crate::commands::Command;
 use std::marker::Model;
@@ -12,11 +12,11 @@ pub struct Form {
     pub needed: &'static [&'static str],
     /// Of those behind them that all stand or none.
     pub optional: &'static [&'static str],
-    /// Whether the last of both stands for one word or several.
-    pub repeats: bool,
-    /// The flag or the option.
-    pub mark: Option<&'static str>,
-    /// The name of the word behind it, if it is an option.
+    /// The name of the last of both, if it stands for one word or several.
+    pub repeats: Option<&'static str>,
+    /// The flags or options, of which one at most may stand.
+    pub marks: &'static [&'static str],
+    /// The name of the word behind them, if they are options.
     pub value: Option<&'static str>,
     /// Whether the arguments behind the first are ticks.
     pub ticks: bool,
@@ -31,8 +31,8 @@ impl Model for Form {
     ghost view = { λ f. record {
       needed = map (λ name. name.now) f.needed.now;
       optional = map (λ name. name.now) f.optional.now;
-      repeats = f.repeats;
-      mark = option_map (λ w. w.now) f.mark;
+      repeats = option_map (λ w. w.now) f.repeats;
+      marks = map (λ w. w.now) f.marks.now;
       value = option_map (λ w. w.now) f.value;
       ticks = f.ticks;
     } };
@@ -54,7 +54,19 @@ const OLD_NEW: &[&str] = &["OLD", "NEW"];
 
 const NAME: &[&str] = &["NAME"];
 
+const PROFILE_NAME_FILE: &[&str] = &["PROFILE", "NAME", "FILE"];
+
 const NONE: &[&str] = &[];
+
+const NO_MARKS: &[&str] = &[];
+
+const TABLE_MARKS: &[&str] = &["--csv"];
+
+const WINDOWS_MARKS: &[&str] = &["--strict", "--sparing", "--csv"];
+
+const CHAIN_MARKS: &[&str] = &["--ledger"];
+
+const CHECK_MARKS: &[&str] = &["--csv", "--junit"];
 
 /// A form of these arguments alone.
 fn plain(needed: &'static [&'static str], optional: &'static [&'static str], ticks: bool) -> Form
@@ -63,8 +75,8 @@ fn plain(needed: &'static [&'static str], optional: &'static [&'static str], tic
     Form {
         needed,
         optional,
-        repeats: false,
-        mark: None,
+        repeats: None,
+        marks: NO_MARKS,
         value: None,
         ticks,
     }
@@ -76,8 +88,21 @@ fn windows_form() -> Form
     Form {
         needed: LEDGER,
         optional: NONE,
-        repeats: false,
-        mark: Some("--strict"),
+        repeats: None,
+        marks: WINDOWS_MARKS,
+        value: None,
+        ticks: false,
+    }
+}
+
+fn telling_form() -> Form
+    ensures { result ≡ telling_form }
+{
+    Form {
+        needed: FILE,
+        optional: NONE,
+        repeats: None,
+        marks: TABLE_MARKS,
         value: None,
         ticks: false,
     }
@@ -89,8 +114,8 @@ fn chain_form() -> Form
     Form {
         needed: FILE_NAME,
         optional: NONE,
-        repeats: true,
-        mark: Some("--ledger"),
+        repeats: Some("NAME"),
+        marks: CHAIN_MARKS,
         value: Some("LEDGER"),
         ticks: false,
     }
@@ -102,8 +127,8 @@ fn change_form() -> Form
     Form {
         needed: OLD_NEW,
         optional: NAME,
-        repeats: true,
-        mark: Some("--csv"),
+        repeats: Some("NAME"),
+        marks: TABLE_MARKS,
         value: None,
         ticks: false,
     }
@@ -114,9 +139,9 @@ fn check_form() -> Form
 {
     Form {
         needed: FILE_NEEDS,
-        optional: NONE,
-        repeats: false,
-        mark: Some("--csv"),
+        optional: LEDGER,
+        repeats: None,
+        marks: CHECK_MARKS,
         value: None,
         ticks: false,
     }
@@ -129,10 +154,13 @@ pub fn form_of(command: Command) -> Form
     match command {
         Command::Picture | Command::Draw(_) => plain(LEDGER, FROM_TO, true),
         Command::Windows => windows_form(),
-        Command::Faults | Command::Tell(_) => plain(FILE, NONE, false),
+        Command::Holds => plain(LEDGER, FILE, false),
+        Command::Faults => plain(FILE, NONE, false),
+        Command::Tell(_) => telling_form(),
         Command::Chain => chain_form(),
         Command::Impact => change_form(),
         Command::Repeats => plain(FILE_TICKS, NONE, true),
         Command::Check => check_form(),
+        Command::Replay => plain(PROFILE_NAME_FILE, NONE, false),
     }
 }

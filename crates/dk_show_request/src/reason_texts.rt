@@ -71,8 +71,9 @@ pub fn many_names_text(alloc: Global) -> Result<String, AllocError>
     format!(in alloc; "more than {most} names\n")
 }
 
-pub fn bare_text(alloc: Global, mark: &str) -> Result<String, AllocError>
-    ensures { IfOk result (λ s. string_bytes s ≡ reason_text (Reason.bare mark.now)) }
+pub fn bare_text(alloc: Global, word: &str) -> Result<String, AllocError>
+    ensures { IfOk result (λ s. string_bytes s ≡ reason_text (Reason.bare word.now)) }
 {
-    format!(in alloc; "a word is wanted behind {mark}\n")
+    let word = shown(word);
+    format!(in alloc; "a word is wanted behind {word}\n")
 }

@@ -1,13 +1,15 @@
 //! Why words mean nothing: the first reason that is found.
-ghost use Rattle.std.specs.Prelude.{◌≡◌, ◌++◌, codes, IfOk, map, string_bytes};
+ghost use Rattle.std.specs.Prelude.{◌≡◌, ◌++◌, ◌-◌, codes, if◌then◌else◌, IfOk, length, map, None, option_map, Some, string_bytes};
 ghost use Rattle.dk_show_request.specs.Forms.{form_of};
-ghost use Rattle.dk_show_request.specs.Meaning.{command_named, word_at, word_of};
+ghost use Rattle.dk_show_request.specs.Commands.{command_named, word_of};
+ghost use Rattle.dk_show_request.specs.Usage.{marks_text};
+ghost use Rattle.dk_show_request.specs.Words.{ends_bare, word_at};
 ghost use Rattle.dk_show_request.specs.Numbers.{ticks_in};
 ghost use Rattle.dk_show_request.specs.Reasons.{count_reason, has_many_names, is_below, is_disordered, mark_reason, names_reason, order_reason, reason, reason_text, surplus_reason, ticks_reason, wrong_text, wrong_with};
 ghost use Rattle.dk_show_request.specs.TrueReasons.{AreLines, ReasonsHold};
 
 use crate::arguments::{
-    arguments, ends_bare, is_repeated, missing_name, no_ticks_word, surplus_word, unfit_word,
+    arguments, is_option, is_repeated, missing_name, no_ticks_word, surplus_word, unfit_word,
 };
 use crate::commands::Command;
 use crate::forms::{Form, form_of};
@@ -18,21 +20,43 @@ use crate::reason_texts::{
 use dk_config::MAX_PROCESSES;
 use std::alloc::{AllocError, Global};
 
-/// Of the flag or the option.
+/// The last word, where it is an option without its word.
+fn bare_option<'a>(form: &Form, words: &'a [String]) -> Option<&'a str>
+    ensures { option_map (λ w. w.now) result
+        ≡ (if ends_bare form.now (map string_bytes words.entry.now)
+        then Some (word_at (map string_bytes words.entry.now) (length (map string_bytes words.entry.now) - 1)) else None) }
+{
+    let last = words.last()?;
+    if is_option(form, last) {
+        Some(last.as_str())
+    } else {
+        None
+    }
+}
+
+/// The flags or options of a command, parted by bars.
+fn marks_of(command: Command) -> &'static str
+    ensures { result.now ≡ marks_text (form_of command).marks }
+{
+    match command {
+        Command::Windows => "--strict|--sparing|--csv",
+        Command::Tell(_) | Command::Impact => "--csv",
+        Command::Chain => "--ledger",
+        Command::Check => "--csv|--junit",
+        _ => "",
+    }
+}
+
+/// Of the flags and options.
 fn mark_text(alloc: Global, command: Command, words: &[String]) -> Result<String, AllocError>
     ensures { IfOk result (λ s. string_bytes s ≡ reason_text (mark_reason (form_of command) (map string_bytes words.now))) }
 {
     let form = form_of(command);
-    match form.mark {
-        Some(mark) => {
-            if is_repeated(&form, words) {
-                said_of(alloc, mark, " stands more than once\n")
-            } else if ends_bare(&form, words) {
-                bare_text(alloc, mark)
-            } else {
-                String::from_str(alloc, "these words are no call of it\n")
-            }
-        }
+    if is_repeated(&form, words) {
+        return said_of(alloc, marks_of(command), " stands more than once\n");
+    }
+    match bare_option(&form, words) {
+        Some(word) => bare_text(alloc, word),
         None => String::from_str(alloc, "these words are no call of it\n"),
     }
 }

@@ -1,20 +1,22 @@
 //! What the words ask for.
-ghost use Rattle.std.specs.Prelude.{◌≡◌, ◌<◌, IfOk, IfSome, drop, map, string_bytes, option_map};
-ghost use Rattle.dk_show_request.specs.Numbers.{ticks_in};
-ghost use Rattle.dk_show_request.specs.Meaning.{HasFewNames, asked, asked_drawing, asked_faults, asked_picture, asked_telling, asked_windows, meaning, picture_request, range_by, range_of, range_request, windows_request, word_at};
+ghost use Rattle.std.specs.Prelude.{◌≡◌, IfOk, IfSome, drop, map, string_bytes};
+ghost use Rattle.dk_show_request.specs.Clap.{app_for, given_by};
+ghost use Rattle.dk_show_request.specs.Commands.{word_of};
+ghost use Rattle.dk_show_request.specs.Meaning.{HasFewNames, asked, asked_by, meaning};
+ghost use Rattle.dk_show_request.specs.Words.{word_at};
 
-use crate::chain_words::{ChainRequest, asked_chain};
-use crate::check_words::{CheckRequest, asked_check};
+use crate::arguments::fits;
+use crate::asked::asked;
 use crate::commands::{Command, Drawing, Telling};
-use crate::impact_words::{ChangeRequest, asked_impact};
-use crate::numbers::ticks_in;
-use crate::repeats_words::asked_repeats;
-use crate::taken::are_taken;
-use crate::words::{
-    Given, WindowsGiven, copy_of, read_file_word, read_range_words, read_windows_words,
+use crate::forms::form_of;
+use crate::given::Given;
+use crate::reading::{
+    read_chain, read_change, read_check, read_file, read_holds, read_range, read_replay,
+    read_telling, read_ticks, read_windows,
 };
 use dk_config::{NoMemory, Text};
 use std::alloc::Global;
+use std::marker::Model;
 
 /// The ticks from `from` up to before `to`.
 #[derive(Clone, Copy)]
@@ -31,6 +33,86 @@ pub struct RangeRequest {
     pub range: Option<Range>,
 }
 
+/// What is told of which configuration, as text or as a table.
+#[derive(Drop)]
+pub struct TellRequest {
+    pub telling: Telling,
+    pub file: Text,
+    pub as_csv: bool,
+}
+
+/// How the windows of a ledger are told.
+#[derive(Clone, Copy)]
+pub enum WindowsForm {
+    Plain,
+    /// With why it isn't clean, in the status too.
+    Strict,
+    /// The same, but threads that live on slack may overrun.
+    Sparing,
+    Csv,
+}
+
+/// The file of a configuration, and the names of a chain's processes in it: the first, and up to 31 more. It is seen with
+/// a list in place of the `Vec`.
+#[derive(Drop)]
+pub struct ChainRequest {
+    pub file: Text,
+    pub first: Text,
+    pub rest: Vec<Text>,
+}
+
+impl Model for ChainRequest {
+    ghost use Rattle.dk_show_request.specs.Chain.{ChainAsk};
+
+    ghost Value = { ChainAsk };
+
+    ghost view = { λ r. record { file = r.file; first = r.first; rest = r.rest.items } };
+}
+
+/// The files of two configurations, the names of the processes that the change may touch, and whether it is told as a
+/// table. It is seen with a list in place of the `Vec`.
+#[derive(Drop)]
+pub struct ChangeRequest {
+    pub old: Text,
+    pub new: Text,
+    pub names: Vec<Text>,
+    pub as_csv: bool,
+}
+
+impl Model for ChangeRequest {
+    ghost use Rattle.dk_show_request.specs.Change.{ChangeAsk};
+
+    ghost Value = { ChangeAsk };
+
+    ghost view = { λ r. record { old = r.old; new = r.new; names = r.names.items; as_csv = r.as_csv } };
+}
+
+/// How needs are told.
+#[derive(Clone, Copy)]
+pub enum CheckForm {
+    Plain,
+    Csv,
+    /// Test cases in XML, as build servers read them.
+    Junit,
+}
+
+/// The files of a configuration and of needs, perhaps that of a ledger, and how it is told.
+#[derive(Drop)]
+pub struct CheckRequest {
+    pub file: Text,
+    pub needs: Text,
+    pub ledger: Option<Text>,
+    pub form: CheckForm,
+}
+
+/// The file of a profile, the name of the process whose program it becomes, and the file of its configuration.
+#[derive(Drop)]
+pub struct ReplayRequest {
+    pub profile: Text,
+    pub name: Text,
+    pub file: Text,
+}
+
 /// What the words ask for.
 #[derive(Drop)]
 pub enum Request {
@@ -38,12 +120,14 @@ pub enum Request {
     Draw(RangeRequest),
     /// A picture of the ledger in the file of this name, without a range of all of its ticks.
     Picture { ledger: Text, range: Option<Range> },
-    /// What each thread of the ledger in the file of this name did in its windows, and whether it must be clean.
-    Windows { ledger: Text, strict: bool },
+    /// What each thread of the ledger in the file of this name did in its windows.
+    Windows { ledger: Text, form: WindowsForm },
+    /// How long each mutex was held in the ledger in the file of this name, perhaps beside a configuration.
+    Holds { ledger: Text, file: Option<Text> },
     /// All that is wrong with the document in the file of this name.
     Faults(Text),
-    /// What is told of the configuration in the file of this name.
-    Tell(Telling, Text),
+    /// What is told of a configuration.
+    Tell(TellRequest),
     /// How long after an event a chain of processes has answered it.
     Chain(ChainRequest),
     /// How long the ledger in the file of this name has a chain take, beside that.
@@ -54,150 +138,48 @@ pub enum Request {
     Repeats { file: Text, ticks: u32 },
     /// Which needs a configuration meets.
     Check(CheckRequest),
+    /// The source of a program that takes the times of a profile.
+    Replay(ReplayRequest),
 }
 
-/// Both ends of the range, the first below the second, or none of them; else nothing.
-fn range_in(from: Option<&str>, to: Option<&str>) -> Option<Option<Range>>
-    ensures { result ≡ range_by (option_map (λ w. w.now) from.entry) (option_map (λ w. w.now) to.entry) }
-{
-    match (from, to) {
-        (None, None) => Some(None),
-        (Some(from), Some(to)) => range_of(from, to),
-        _ => None,
-    }
-}
-
-/// The range of these words, where they are two ticks, the first below the second.
-fn range_of(from: &str, to: &str) -> Option<Option<Range>>
-    ensures { result ≡ range_of (ticks_in from.now) (ticks_in to.now) }
-{
-    let from = ticks_in(from)?;
-    let to = ticks_in(to)?;
-    if from < to {
-        Some(Some(Range { from, to }))
-    } else {
-        None
-    }
-}
-
-fn range_request(
+/// What the words from the command word on give.
+fn read_words<'a>(
     alloc: Global,
-    drawing: Drawing,
-    given: &Given,
-) -> Result<Option<Request>, NoMemory>
-    ensures { IfOk result (λ r. r ≡ range_request drawing given.now) }
-{
-    let Some(ledger) = given.ledger else {
-        return Ok(None);
-    };
-    let Some(range) = range_in(given.from, given.to) else {
-        return Ok(None);
-    };
-    Ok(Some(Request::Draw(RangeRequest {
-        drawing,
-        ledger: copy_of(alloc, ledger)?,
-        range,
-    })))
-}
-
-fn asked_drawing(
-    alloc: Global,
-    drawing: Drawing,
-    words: &[String],
-) -> Result<Option<Request>, NoMemory>
-    ensures { IfOk result (λ r. r ≡ asked_drawing drawing (map string_bytes words.now)) }
-{
-    match read_range_words(alloc, Command::Draw(drawing).word(), words)? {
-        Some(given) => range_request(alloc, drawing, &given),
-        None => Ok(None),
-    }
-}
-
-fn picture_request(alloc: Global, given: &Given) -> Result<Option<Request>, NoMemory>
-    ensures { IfOk result (λ r. r ≡ picture_request given.now) }
-{
-    let Some(ledger) = given.ledger else {
-        return Ok(None);
-    };
-    let Some(range) = range_in(given.from, given.to) else {
-        return Ok(None);
-    };
-    Ok(Some(Request::Picture {
-        ledger: copy_of(alloc, ledger)?,
-        range,
-    }))
-}
-
-fn asked_picture(alloc: Global, words: &[String]) -> Result<Option<Request>, NoMemory>
-    ensures { IfOk result (λ r. r ≡ asked_picture (map string_bytes words.now)) }
-{
-    match read_range_words(alloc, Command::Picture.word(), words)? {
-        Some(given) => picture_request(alloc, &given),
-        None => Ok(None),
-    }
-}
-
-fn asked_faults(alloc: Global, words: &[String]) -> Result<Option<Request>, NoMemory>
-    ensures { IfOk result (λ r. r ≡ asked_faults (map string_bytes words.now)) }
-{
-    match read_file_word(alloc, Command::Faults.word(), words)? {
-        Some(file) => Ok(Some(Request::Faults(copy_of(alloc, file)?))),
-        None => Ok(None),
-    }
-}
-
-fn asked_telling(
-    alloc: Global,
-    telling: Telling,
-    words: &[String],
-) -> Result<Option<Request>, NoMemory>
-    ensures { IfOk result (λ r. r ≡ asked_telling telling (map string_bytes words.now)) }
-{
-    match read_file_word(alloc, Command::Tell(telling).word(), words)? {
-        Some(file) => Ok(Some(Request::Tell(telling, copy_of(alloc, file)?))),
-        None => Ok(None),
-    }
-}
-
-fn windows_request(alloc: Global, given: &WindowsGiven) -> Result<Option<Request>, NoMemory>
-    ensures { IfOk result (λ r. r ≡ windows_request given.now) }
-{
-    match given.ledger {
-        Some(ledger) => Ok(Some(Request::Windows {
-            ledger: copy_of(alloc, ledger)?,
-            strict: given.strict,
-        })),
-        None => Ok(None),
-    }
-}
-
-fn asked_windows(alloc: Global, words: &[String]) -> Result<Option<Request>, NoMemory>
-    ensures { IfOk result (λ r. r ≡ asked_windows (map string_bytes words.now)) }
-{
-    match read_windows_words(alloc, Command::Windows.word(), words)? {
-        Some(given) => windows_request(alloc, &given),
-        None => Ok(None),
-    }
-}
-
-/// What the words from the command word on ask for.
-fn asked(alloc: Global, command: Command, words: &[String]) -> Result<Option<Request>, NoMemory>
-    ensures { IfOk result (λ r. r ≡ asked command (map string_bytes words.now)) }
+    command: Command,
+    word: &'a str,
+    words: &'a [String],
+) -> Result<Option<Given<'a>>, NoMemory>
+    requires { word.now ≡ word_of command }
+    ensures { IfOk result (λ o. o ≡ given_by (app_for command) (map string_bytes words.entry.now)) }
 {
     match command {
-        Command::Draw(drawing) => asked_drawing(alloc, drawing, words),
-        Command::Picture => asked_picture(alloc, words),
-        Command::Windows => asked_windows(alloc, words),
-        Command::Faults => asked_faults(alloc, words),
-        Command::Tell(telling) => asked_telling(alloc, telling, words),
-        Command::Chain => asked_chain(alloc, words),
-        Command::Impact => asked_impact(alloc, words),
-        Command::Repeats => asked_repeats(alloc, words),
-        Command::Check => asked_check(alloc, words),
+        Command::Picture | Command::Draw(_) => read_range(alloc, word, words),
+        Command::Windows => read_windows(alloc, word, words),
+        Command::Holds => read_holds(alloc, word, words),
+        Command::Faults => read_file(alloc, word, words),
+        Command::Tell(_) => read_telling(alloc, word, words),
+        Command::Chain => read_chain(alloc, word, words),
+        Command::Impact => read_change(alloc, word, words),
+        Command::Repeats => read_ticks(alloc, word, words),
+        Command::Check => read_check(alloc, word, words),
+        Command::Replay => read_replay(alloc, word, words),
     }
 }
 
-/// The words behind the program's name.
+/// What a command is asked by the words from its own on.
+fn asked_by(alloc: Global, command: Command, words: &[String]) -> Result<Option<Request>, NoMemory>
+    ensures { IfOk result (λ r. r ≡ asked_by command (map string_bytes words.now)) }
+{
+    if !fits(&form_of(command), words_behind(words)) {
+        return Ok(None);
+    }
+    match read_words(alloc, command, command.word(), words)? {
+        Some(given) => asked(alloc, command, &given),
+        None => Ok(None),
+    }
+}
+
+/// The words behind the first.
 fn words_behind(words: &[String]) -> &[String]
     ensures { map string_bytes result.now ≡ drop 1 (map string_bytes words.entry.now) }
 {
@@ -224,12 +206,8 @@ pub fn meaning(alloc: Global, words: &[String]) -> Result<Option<Request>, NoMem
     ensures is { IfOk result (λ r. r ≡ meaning (map string_bytes words.now)) }
     ensures few { IfOk result (λ r. IfSome r HasFewNames) }
 {
-    let behind = words_behind(words);
-    if !are_taken(behind) {
-        return Ok(None);
-    }
     match Command::named(second_word(words)) {
-        Some(command) => asked(alloc, command, behind),
+        Some(command) => asked_by(alloc, command, words_behind(words)),
         None => Ok(None),
     }
 }

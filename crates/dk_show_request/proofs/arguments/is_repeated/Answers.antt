@@ -1,6 +1,6 @@
 use Rattle.std.proofs.Common.{arith, string_bytes}
 use Rattle.std.proofs.lemmas.Bool.Decides.{nat_tests}
-use Rattle.dk_show_request.specs.Reasons.{is_mark}
+use Rattle.dk_show_request.specs.Words.{is_mark}
 use Rattle.dk_show_request.proofs.Finding.{length-filter-map}
 use Rattle.dk_show_request.proofs.arguments.is_repeated.Goals as goal
 

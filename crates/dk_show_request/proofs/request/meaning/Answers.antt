@@ -1,5 +1,7 @@
-use Rattle.dk_show_request.proofs.FewNames.{answers_few, asked_few}
+use Rattle.std.proofs.Common.{map, string_bytes}
+use Rattle.dk_show_request.proofs.FewNames.{answers_few, asked_by_few}
 use Rattle.dk_show_request.proofs.request.meaning.Goals as goal
 
 pub returns-in-Some-clause-few : goal.returns-in-Some-clause-few
-returns-in-Some-clause-few c = answers_few c.asked.result _ c.asked.ensures (asked_few _ _)
+returns-in-Some-clause-few c =
+    answers_few c.asked_by.result _ c.asked_by.ensures (asked_by_few c.in-Some.command (map string_bytes c.words_behind.result.now))

@@ -1,6 +1,6 @@
 use Rattle.std.proofs.Common.{◌≡◌, ◌++◌, drop}
 use Rattle.std.specs.Prelude.{map}
-use Rattle.dk_show_request.proofs.chain_words.copies_of.Given as goal
+use Rattle.dk_show_request.proofs.asked.copies_of.Given as goal
 
 -- the copies so far, before the words that are left
 abbrev pub invariant-loop-word : goal.invariant-loop-word

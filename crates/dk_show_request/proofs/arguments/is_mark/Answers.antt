@@ -1,0 +1,12 @@
+use Rattle.std.proofs.Common.{◌≡◌, ◌∙◌, ap, map, string_bytes, sym}
+use Rattle.std.specs.List.{list_any}
+use Rattle.std.specs.Str.{bytes_eq}
+use Rattle.dk_show_request.specs.Forms.{Form}
+use Rattle.dk_show_request.proofs.Finding.{list_any-map}
+use Rattle.dk_show_request.proofs.arguments.is_mark.Goals as goal
+
+pub returns : goal.returns
+returns c =
+    let word = string_bytes c.args.word.now in
+    let marks : map (λ m. m.now) c.form.inside.marks.now ≡ c.args.form.now.marks = ap (λ (f : Form). f.marks) c.form.view_is in
+    c.is_among.ensures ∙ sym (list_any-map (λ m. m.now) (bytes_eq word) c.form.inside.marks.now) ∙ ap (list_any (bytes_eq word)) marks

@@ -1,0 +1,8 @@
+use Rattle.std.proofs.Common.{◌∙◌, ap}
+use Rattle.clap.specs.Words.{all_of, found_of}
+use Rattle.clap.proofs.WalkLemmas.{raw_values-rows}
+use Rattle.dk_show_request.proofs.given.Given.words.Goals as goal
+
+pub returns : goal.returns
+returns c =
+    c.get_raw.ensures ∙ raw_values-rows (found_of c.self.inside.matches) c.args.name.now ∙ ap (all_of c.args.name.now) c.self.view_is

@@ -1,0 +1,51 @@
+-- Which words behind a command word stand for what.
+use Rattle.std.specs.Prelude.{ℕ, ◌-◌, ◌==◌, ◌&&◌, ◌||◌, not, Bool, false, filter, find, is_some, length, nat_lt, slice_get, slice_index, unwrap_or, List, [], ◌∷◌, Option, if◌then◌else◌}
+use Rattle.std.specs.List.{list_any}
+use Rattle.std.specs.Option.{option_map_or}
+use Rattle.std.specs.Str.{bytes_eq}
+use Rattle.dk_show_request.specs.Forms.{Form}
+
+-- the word isn't empty, and doesn't begin with '-'
+abbrev pub is_plain_word : List ℕ → Bool
+is_plain_word w = nat_lt 0 (length w) && not (slice_index w 0 == 45)
+
+-- the word is a flag or an option
+abbrev pub is_mark : Form → List ℕ → Bool
+is_mark f w = list_any (bytes_eq w) f.marks
+
+-- the word is an option
+abbrev pub is_option : Form → List ℕ → Bool
+is_option f w = is_some f.value && is_mark f w
+
+-- the words that stand for arguments: no flag or option, and not the word behind an option
+abbrev pub arguments_behind : Form → Bool → List (List ℕ) → List (List ℕ)
+arguments_behind f behind [] = []
+arguments_behind f behind (w ∷ ws) =
+    if behind || is_mark f w
+    then arguments_behind f (is_option f w) ws
+    else (w ∷ arguments_behind f (is_option f w) ws)
+
+abbrev pub arguments : Form → List (List ℕ) → List (List ℕ)
+arguments f ws = arguments_behind f false ws
+
+abbrev pub is_unfit : Form → List ℕ → Bool
+is_unfit f w = not (is_mark f w || is_plain_word w)
+
+-- the first word that is empty, or begins with '-' and is no flag or option
+abbrev pub unfit_word : Form → List (List ℕ) → Option (List ℕ)
+unfit_word f ws = find (is_unfit f) ws
+
+-- more than one word is a flag or an option
+abbrev pub is_repeated : Form → List (List ℕ) → Bool
+is_repeated f ws = nat_lt 1 (length (filter (is_mark f) ws))
+
+-- the last word is an option
+abbrev pub ends_bare : Form → List (List ℕ) → Bool
+ends_bare f ws = option_map_or (is_option f) (slice_get ws (length ws - 1)) false
+
+-- no word is unfit, and one at most is a flag or an option
+abbrev pub fits : Form → List (List ℕ) → Bool
+fits f ws = not (is_some (unfit_word f ws)) && not (is_repeated f ws)
+
+abbrev pub word_at : List (List ℕ) → ℕ → List ℕ
+word_at ws i = unwrap_or (slice_get ws i) []
