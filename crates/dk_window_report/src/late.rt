@@ -1,10 +1,11 @@
 //! Rows that are kept as they were when something last happened to their threads.
-ghost use Rattle.std.specs.Prelude.{◌≡◌, ◌<◌};
-ghost use Rattle.dk_window_report.specs.Late.{windows_before, idled, after, row_at, late_with};
+ghost use Rattle.std.specs.Prelude.{◌≡◌, ◌<◌, IfOk};
+ghost use Rattle.dk_window_report.specs.Late.{windows_before, idled, after, row_at, rows_at, late_with};
 
 use crate::row::{Row, WindowCounts, ended, stepped};
-use dk_config::MAX_RUN_TICKS;
+use dk_config::{MAX_RUN_TICKS, NoMemory};
 use dk_trace::Entry;
+use std::alloc::Global;
 
 /// The row of a thread before that tick, up to which it is told.
 #[derive(Clone, Copy)]
@@ -77,4 +78,15 @@ pub fn late_with(now: u32, entry: Entry, late: Late) -> Late
         row: stepped(now, entry, row_at(now, &late)),
         tick: now + 1,
     }
+}
+
+/// The rows before that tick.
+pub fn rows_before(alloc: Global, tick: u32, lates: &[Late]) -> Result<Vec<Row>, NoMemory>
+    ensures { IfOk result (λ v. v.items ≡ rows_at tick lates.now) }
+{
+    let mut rows = Vec::new(alloc);
+    for late in lates {
+        rows.push(row_at(tick, late))?;
+    }
+    Ok(rows)
 }

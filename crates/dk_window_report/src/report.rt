@@ -14,7 +14,10 @@ ghost use Rattle.dk_window_report.specs.Report.{ComesNext, IsKeptIn, kept_firsts
 use crate::account::Account;
 use crate::firsts::{Wanted, any_counts, write_accounts, write_overruns, write_troubles};
 use crate::kept::Table;
+use crate::late::rows_before;
 use crate::printing::{overruns_in, overruns_line, write_rows};
+use crate::row::Row;
+use dk_config::NoMemory;
 use dk_ledger::{Header, LedgerFault, LedgerLine, LedgerReader};
 use dk_outside::{Sink, SinkError};
 use std::alloc::Global;
@@ -91,6 +94,20 @@ impl WindowReport {
         ensures { result.now ≡ self.now.kept.accounts }
     {
         self.table.accounts()
+    }
+
+    /// The ledger's header.
+    pub fn header(&self) -> &Header
+        ensures { result.now ≡ self.now.heading }
+    {
+        &self.header
+    }
+
+    /// What each thread did: the mains in the header's order, and then the children in the order in which they were made.
+    pub fn rows(&self, alloc: Global) -> Result<Vec<Row>, NoMemory>
+        ensures { IfOk result (λ v. v.items ≡ self.now.kept.rows) }
+    {
+        rows_before(alloc, self.table.ticks(), self.table.lates())
     }
 
     /// Whether nothing overran, no call was refused, and no thread faulted.
