@@ -1,11 +1,11 @@
 -- What is told of what is kept is what is told of the entries.
-use Rattle.std.proofs.Common.{ℕ, ◌≡◌, ◌∙◌, ◌++◌, List, ap, refl}
+use Rattle.std.proofs.Common.{◌≡◌, ◌∙◌, ◌++◌, List, ap, refl}
 use Rattle.std.specs.Prelude.{Bool, true, false}
 use Rattle.dk_trace.specs.declared.Entry.{Entry}
 use Rattle.dk_ledger.specs.Heading.{Heading}
 use Rattle.dk_window_report.specs.Firsts.{firsts_by, firsts_text, is_clean_by, is_strictly_clean, reasons_by, reasons_text}
 use Rattle.dk_window_report.specs.Accounts.{accounts_of}
-use Rattle.dk_window_report.specs.Report.{is_kept_strictly_clean, kept_firsts, kept_reasons, kept_text}
+use Rattle.dk_window_report.specs.Report.{is_kept_strictly_clean, kept_firsts, kept_reasons}
 use Rattle.dk_window_report.specs.Rows.{IsKeptOf, Kept, rows_of}
 use Rattle.dk_window_report.specs.Text.{windows_text}
 use Rattle.dk_window_report.proofs.Texts.{kept-text-is}
