@@ -55,18 +55,18 @@ _deosk_arguments() {
 
 _deosk_show_arguments() {
     case ${COMP_WORDS[first]}:$((COMP_CWORD - first)):$word in
-    windows:*:-* | windows:2:*) COMPREPLY=($(compgen -W --strict -- "$word")) ;;
+    windows:*:-* | windows:2:*) COMPREPLY=($(compgen -W '--strict --sparing --csv' -- "$word")) ;;
     impact:*:-* | check:*:-*) COMPREPLY=($(compgen -W --csv -- "$word")) ;;
     impact:[3-9]:* | impact:[1-3][0-9]:*) _deosk_processes "${COMP_WORDS[first + 2]}" ;;
     chain:*:-*) COMPREPLY=($(compgen -W --ledger -- "$word")) ;;
     chain:[2-9]:* | chain:[1-3][0-9]:*) _deosk_processes "${COMP_WORDS[first + 1]}" ;;
-    svg:1:* | trace:1:* | vcd:1:* | csv:1:* | windows:1:*) _deosk_files .txt ;;
+    svg:1:* | trace:1:* | vcd:1:* | csv:1:* | windows:1:* | holds:1:*) _deosk_files .txt ;;
     replay:1:*) _deosk_files .profile ;;
     replay:3:*) _deosk_files .toml ;;
-    *:1:* | impact:2:* | check:2:*) _deosk_files .toml ;;
+    *:1:* | holds:2:* | impact:2:* | check:2:*) _deosk_files .toml ;;
     esac
 }
 
 _deosk_commands='certify run inspect plan harmonise migrate asm dis ledger audit gen'
-_deosk_show_commands='svg trace vcd csv windows faults certify margins when warnings chain impact repeats check replay'
+_deosk_show_commands='svg trace vcd csv windows holds faults certify margins when warnings chain impact repeats check replay'
 complete -F _deosk deosk deosk-show try

@@ -12,7 +12,6 @@ use Rattle.dk_loader.specs.Reading.{reading}
 use Rattle.dk_ledger.specs.Readable.{Journal}
 use Rattle.dk_ledger.proofs.Readings.{one_text}
 use Rattle.dk_picture.specs.declared.reading.TheConstants.{MAX_GROUPS}
-use Rattle.dk_window_report.specs.Text.{is_clean}
 use Rattle.dk_show_request.specs.declared.commands.Telling.{Telling}
 use Rattle.dk_show_request.specs.declared.commands.Telling.TheVariants as telling
 use Rattle.dk_show_request.specs.declared.request.Range.{Range}
@@ -33,7 +32,11 @@ use Rattle.dk_profile.specs.declared.TheConstants.{MAX_PROFILE_BYTES}
 use Rattle.dk_asm.specs.declared.TheConstants.{MAX_SOURCE_BYTES}
 use Rattle.dk_show_request.specs.Meaning.{IsSought}
 use Rattle.dk_show.proofs.Changing.{impact_ends}
-use Rattle.dk_show.specs.Output.{Files, IsBehind, IsDrawn, IsOfBytes, IsOfDocument, IsOfFaults, IsOfNamed, IsOfPicture, IsOfReading, IsOfRequest, IsOfWindows, IsPicture, IsToldOf, end_of, groups_asked, to_of}
+use Rattle.dk_show.proofs.HoldEnds.{holds_ends, own_ends}
+use Rattle.dk_show.specs.Held.{IsOfHolds, IsOfOwnHolds}
+use Rattle.dk_show.specs.Windowed.{IsOfWindows, windows_end}
+use Rattle.dk_show_request.specs.declared.request.WindowsForm.{WindowsForm}
+use Rattle.dk_show.specs.Output.{Files, IsBehind, IsDrawn, IsOfBytes, IsOfDocument, IsOfFaults, IsOfNamed, IsOfPicture, IsOfReading, IsOfRequest, IsPicture, IsToldOf, groups_asked, to_of}
 
 drawn_ends : (r : RangeRequest) (j k : Journal) (t u : List ℕ) (s : Status) → j ≡ k
     → IsDrawn r j t status.Done ⊎ IsBehind r j t status.Done → IsDrawn r k u s ⊎ IsBehind r k u s → s ≡ status.Done
@@ -69,12 +72,12 @@ pictures_ends range bytes t u s (inr one) (inl wrong) = absurd (wrong.none one.l
 pictures_ends range bytes t u s (inr one) (inr two) =
     picture_ends range one.ledger two.ledger t u s (one_text one.ledger two.ledger one.readable two.readable (one.bytes_are ∙ sym two.bytes_are)) one.drawn two.drawn
 
-windows_ends : (strict : Bool) (bytes t u : List ℕ) (s : Status) → IsOfWindows strict bytes t status.Done → IsOfWindows strict bytes u s → s ≡ status.Done
-windows_ends strict bytes t u s (inl wrong) other = let bad = wrong.says.1 in cc
-windows_ends strict bytes t u s (inr one) (inl wrong) = absurd (wrong.none one.ledger one.readable one.bytes_are)
-windows_ends strict bytes t u s (inr one) (inr two) =
+windows_ends : (f : WindowsForm) (bytes t u : List ℕ) (s : Status) → IsOfWindows f bytes t status.Done → IsOfWindows f bytes u s → s ≡ status.Done
+windows_ends f bytes t u s (inl wrong) other = let bad = wrong.says.1 in cc
+windows_ends f bytes t u s (inr one) (inl wrong) = absurd (wrong.none one.ledger one.readable one.bytes_are)
+windows_ends f bytes t u s (inr one) (inr two) =
     let same = one_text one.ledger two.ledger one.readable two.readable (one.bytes_are ∙ sym two.bytes_are) in
-    two.ends ∙ ap (λ (j : Journal). end_of strict (is_clean j.heading (reverse j.entries))) (sym same) ∙ sym one.ends
+    two.told.1 ∙ ap (λ (j : Journal). windows_end f j.heading (reverse j.entries)) (sym same) ∙ sym one.told.1
 
 told_ends : (t : Telling) (c : Configuration) (v : Verdict) (x y : List ℕ) (s : Status) → IsToldOf t c v x status.Done → IsToldOf t c v y s → s ≡ status.Done
 told_ends telling.Certify c v x y s one two = two.1 ∙ sym one.1
@@ -136,8 +139,14 @@ request_ends (request.Draw r) at x y s known one two =
     named_ends at r.ledger MAX_LEDGER_BYTES why.LongLedger (IsOfBytes r) x y s (λ bad. cc) (λ bytes a b. ledger_ends r bytes x y s a b) one two
 request_ends (request.Picture ledger range) at x y s known one two =
     named_ends at ledger MAX_LEDGER_BYTES why.LongLedger (IsOfPicture range) x y s (λ bad. cc) (λ bytes a b. pictures_ends range bytes x y s a b) one two
-request_ends (request.Windows ledger strict) at x y s known one two =
-    named_ends at ledger MAX_LEDGER_BYTES why.LongLedger (IsOfWindows strict) x y s (λ bad. cc) (λ bytes a b. windows_ends strict bytes x y s a b) one two
+request_ends (request.Windows ledger f) at x y s known one two =
+    named_ends at ledger MAX_LEDGER_BYTES why.LongLedger (IsOfWindows f) x y s (λ bad. cc) (λ bytes a b. windows_ends f bytes x y s a b) one two
+request_ends (request.Holds ledger None) at x y s known one two =
+    named_ends at ledger MAX_LEDGER_BYTES why.LongLedger IsOfHolds x y s (λ bad. cc) (λ bytes a b. holds_ends bytes x y s a b) one two
+request_ends (request.Holds ledger (Some file)) at x y s known one two =
+    of_ends (certified_at (at file)) (λ c. IsOfNamed at ledger MAX_LEDGER_BYTES why.LongLedger (IsOfOwnHolds c)) x y s
+    (λ c. named_ends at ledger MAX_LEDGER_BYTES why.LongLedger (IsOfOwnHolds c) x y s (λ bad. cc) (λ bytes a b. own_ends c bytes x y s a b))
+    one two
 request_ends (request.Faults file) at x y s known one two = wrong_ends at file x y s (is_source_name file) one two
 request_ends (request.Tell t file) at x y s known one two =
     named_ends at file MAX_CONFIG_BYTES why.LongConfig (IsOfDocument t) x y s (λ bad. cc) (λ bytes a b. reading_ends t (reading bytes) x y s a b) one two

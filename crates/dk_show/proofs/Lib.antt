@@ -4,6 +4,8 @@ pub mod Planning
 pub mod Hearing
 pub mod Changing
 pub mod Ends
+pub mod HoldEnds
+pub mod WindowPages
 mod Loads
 pub mod Wholes
 pub mod Asks

@@ -8,5 +8,5 @@ use Rattle.dk_show.specs.Works.{IsReady, IsWhole}
 pub whole_ready : (result : Result Work Refusal) → IfOk result IsWhole → IfOk result IsReady
 whole_ready (Err e) is = tt
 whole_ready (Ok (work.Draw w)) is = absurd is
-whole_ready (Ok (work.Windows report ended)) is = is
+whole_ready (Ok (work.Windows report strictness ended)) is = is
 whole_ready (Ok (work.Page page ended)) is = is

@@ -29,11 +29,18 @@ abbrev pub handed_load : Files → List ℕ → ℕ
 handed_load at name =
     handed_out MAX_CONFIG_BYTES (at name) + handed_after (λ (c : Configuration). bytes_read at c.processes) (certified_at (at name))
 
+-- those of a ledger, beside a configuration, if there is one
+abbrev pub handed_held : Option (List ℕ) → Files → List ℕ → ℕ
+handed_held None at ledger = handed_out MAX_LEDGER_BYTES (at ledger)
+handed_held (Some file) at ledger =
+    handed_out MAX_CONFIG_BYTES (at file) + handed_after (λ _. handed_out MAX_LEDGER_BYTES (at ledger)) (certified_at (at file))
+
 -- how many bytes the reads of a command hand out
 abbrev pub handed_for : Request → Files → ℕ
 handed_for (request.Draw r) at = handed_out MAX_LEDGER_BYTES (at r.ledger)
 handed_for (request.Picture ledger range) at = handed_out MAX_LEDGER_BYTES (at ledger)
-handed_for (request.Windows ledger strict) at = handed_out MAX_LEDGER_BYTES (at ledger)
+handed_for (request.Windows ledger form) at = handed_out MAX_LEDGER_BYTES (at ledger)
+handed_for (request.Holds ledger file) at = handed_held file at ledger
 handed_for (request.Faults file) at = handed_out (most_of file) (at file)
 handed_for (request.Tell t file) at = handed_out MAX_CONFIG_BYTES (at file)
 handed_for (request.Chain r) at = handed_out MAX_CONFIG_BYTES (at r.file)
@@ -52,11 +59,16 @@ abbrev pub MissesAfter : {X : Type 0} → (X → Type 0) → Result X Refusal �
 MissesAfter Missing (Ok x) = Missing x
 MissesAfter Missing (Err e) = e ≡ why.Depot
 
+abbrev pub MissesHeld : Option (List ℕ) → Files → List ℕ → Type 0
+MissesHeld None at ledger = at ledger ≡ None
+MissesHeld (Some file) at ledger = MissesAfter (λ _. at ledger ≡ None) (certified_at (at file))
+
 -- a file that the command asks for isn't there
 abbrev pub Misses : Request → Files → Type 0
 Misses (request.Draw r) at = at r.ledger ≡ None
 Misses (request.Picture ledger range) at = at ledger ≡ None
-Misses (request.Windows ledger strict) at = at ledger ≡ None
+Misses (request.Windows ledger form) at = at ledger ≡ None
+Misses (request.Holds ledger file) at = MissesHeld file at ledger
 Misses (request.Faults file) at = at file ≡ None
 Misses (request.Tell t file) at = at file ≡ None
 Misses (request.Chain r) at = at r.file ≡ None

@@ -10,3 +10,5 @@ pub mod Repeats
 pub mod Replays
 pub mod Needed
 pub mod Asking
+pub mod Windowed
+pub mod Held

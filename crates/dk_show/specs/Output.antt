@@ -1,5 +1,5 @@
 -- What is written for the words and the files, and how the call ends.
-use Rattle.std.specs.Prelude.{ℕ, ◌≡◌, ◌≤◌, ◌<◌, ◌⊎◌, ◌++◌, Bool, true, false, length, reverse, List, [], ◌∷◌, Option, Some, None, IfSome, MatchBool, Result, Ok, Err}
+use Rattle.std.specs.Prelude.{ℕ, ◌≡◌, ◌≤◌, ◌<◌, ◌⊎◌, ◌++◌, length, List, [], ◌∷◌, Option, Some, None, IfSome, MatchBool, Result, Ok, Err}
 use Rattle.dk_config.specs.declared.TheConstants.{MAX_CONFIG_BYTES, MAX_LEDGER_BYTES}
 use Rattle.dk_config.specs.Configuration.{Configuration}
 use Rattle.dk_certify.specs.declared.certifying.Verdict.{Verdict}
@@ -15,7 +15,6 @@ use Rattle.dk_loader.specs.declared.fault.LoadFault.TheVariants as fault
 use Rattle.dk_loader.specs.Reading.{reading}
 use Rattle.dk_ledger.specs.declared.line.LedgerLine.{LedgerLine}
 use Rattle.dk_ledger.specs.Readable.{Journal, IsReadable, text_of}
-use Rattle.dk_window_report.specs.Text.{is_clean, windows_text}
 use Rattle.dk_groups.specs.Groups.{groups}
 use Rattle.dk_picture.specs.declared.reading.TheConstants.{MAX_GROUPS}
 use Rattle.dk_picture.specs.Pictures.{IsTooMany, svg_text}
@@ -36,6 +35,7 @@ use Rattle.dk_show.specs.declared.status.Status.{Status}
 use Rattle.dk_show.specs.declared.status.Status.TheVariants as status
 pub use Rattle.dk_show.specs.Answers.{Files, IsOfNamed, IsWrong, Says}
 use Rattle.dk_show.specs.Chains.{IsChainTold, IsOfReactions, chain_at}
+use Rattle.dk_show.specs.Held.{IsOfHeld}
 use Rattle.dk_show.specs.Impacts.{IsOfImpact}
 use Rattle.dk_show.specs.Loading.{IsOf, IsOfLoaded, certified_at}
 use Rattle.dk_show.specs.Needed.{IsOfNeeds}
@@ -46,6 +46,7 @@ use Rattle.dk_show.specs.Repeats.{IsOfRepeats}
 use Rattle.dk_show.specs.Replays.{IsOfProfile}
 use Rattle.dk_profile.specs.declared.TheConstants.{MAX_PROFILE_BYTES}
 use Rattle.dk_show.specs.Sources.{IsOfSource, is_source_name}
+use Rattle.dk_show.specs.Windowed.{IsOfWindows}
 use Rattle.dk_asm.specs.declared.TheConstants.{MAX_SOURCE_BYTES}
 
 -- the text of a ledger's ticks from `from` up to before `to`
@@ -123,23 +124,6 @@ pub record IsPictureOf (range : Option Range) (bytes : List ℕ) (text : List �
 abbrev pub IsOfPicture : Option Range → List ℕ → List ℕ → Status → Type 0
 IsOfPicture range bytes text ended = IsWrong bytes text ended ⊎ IsPictureOf range bytes text ended
 
--- where it must be clean and isn't, the call ends as refused
-abbrev pub end_of : Bool → Bool → Status
-end_of true false = status.Refused
-end_of _ _ = status.Done
-
--- the ledger in these bytes, and what each of its threads did in its windows
-pub record IsWindows (strict : Bool) (bytes : List ℕ) (text : List ℕ) (ended : Status) : Type 0 where
-  pub ledger : Journal
-  pub readable : IsReadable ledger
-  pub bytes_are : text_of ledger ≡ bytes
-  pub told : text ≡ windows_text ledger.heading (reverse ledger.entries)
-  pub ends : ended ≡ end_of strict (is_clean ledger.heading (reverse ledger.entries))
-
--- what the bytes of a ledger come to
-abbrev pub IsOfWindows : Bool → List ℕ → List ℕ → Status → Type 0
-IsOfWindows strict bytes text ended = IsWrong bytes text ended ⊎ IsWindows strict bytes text ended
-
 -- the status tells whether the configuration is certified
 abbrev pub certified_end : Verdict → Status
 certified_end (verdict.Accepted rows) = status.Done
@@ -185,8 +169,9 @@ IsOfRequest (request.Draw r) at text ended =
     IsOfNamed at r.ledger MAX_LEDGER_BYTES why.LongLedger (IsOfBytes r) text ended
 IsOfRequest (request.Picture ledger range) at text ended =
     IsOfNamed at ledger MAX_LEDGER_BYTES why.LongLedger (IsOfPicture range) text ended
-IsOfRequest (request.Windows ledger strict) at text ended =
-    IsOfNamed at ledger MAX_LEDGER_BYTES why.LongLedger (IsOfWindows strict) text ended
+IsOfRequest (request.Windows ledger form) at text ended =
+    IsOfNamed at ledger MAX_LEDGER_BYTES why.LongLedger (IsOfWindows form) text ended
+IsOfRequest (request.Holds ledger file) at text ended = IsOfHeld file at ledger text ended
 IsOfRequest (request.Faults file) at text ended = IsAllWrong at file text ended
 IsOfRequest (request.Tell t file) at text ended =
     IsOfNamed at file MAX_CONFIG_BYTES why.LongConfig (IsOfDocument t) text ended

@@ -2,7 +2,7 @@
 use Rattle.std.specs.Prelude.{ℕ, ◌≡◌, ◌≢◌, ◌<◌, ◌⊎◌, false, length, List, Some, Result, Ok, Err, IfOk, IfErr}
 use Rattle.dk_ledger.specs.Readable.{Journal, IsReadable, text_of}
 use Rattle.dk_ledger.specs.Heading.{IsPrintable}
-use Rattle.dk_window_report.specs.Report.{kept_text}
+use Rattle.dk_window_lines.specs.Lines.{kept_lines}
 use Rattle.dk_show.specs.declared.work.RangeWork.{RangeWork}
 use Rattle.dk_show.specs.declared.work.Work.{Work}
 use Rattle.dk_show.specs.declared.work.Work.TheVariants as work
@@ -20,25 +20,25 @@ IsRangeReady w = (j : Journal) × IsReadable j × (text_of j ≡ w.bytes.items)
 -- nothing of it is to be read or made any more
 abbrev pub IsWhole : Work → Type 0
 IsWhole (work.Draw w) = ⊥
-IsWhole (work.Windows report ended) = IsPrintable report.heading × IsEnd ended
+IsWhole (work.Windows report strictness ended) = IsPrintable report.heading × IsEnd ended
 IsWhole (work.Page page ended) = IsEnd ended
 
 abbrev pub IsReady : Work → Type 0
 IsReady (work.Draw w) = IsRangeReady w
-IsReady (work.Windows report ended) = IsPrintable report.heading × IsEnd ended
+IsReady (work.Windows report strictness ended) = IsPrintable report.heading × IsEnd ended
 IsReady (work.Page page ended) = IsEnd ended
 
 -- the text that it writes
 abbrev pub HasText : Work → List ℕ → Type 0
 HasText (work.Draw w) text =
     (j : Journal) × IsReadable j × (text_of j ≡ w.bytes.items) × (text ≡ drawn_text w.drawing w.from w.to j)
-HasText (work.Windows report ended) text = text ≡ kept_text report.heading report.kept
+HasText (work.Windows report strictness ended) text = text ≡ kept_lines strictness report.heading report.kept
 HasText (work.Page page ended) text = text ≡ page
 
 -- how it ends once that is written
 abbrev pub ended_of : Work → Status
 ended_of (work.Draw w) = status.Done
-ended_of (work.Windows report ended) = ended
+ended_of (work.Windows report strictness ended) = ended
 ended_of (work.Page page ended) = ended
 
 -- The work writes a text that stands, and so does a refusal that isn't silent.

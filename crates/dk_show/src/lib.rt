@@ -4,6 +4,7 @@
 mod chains;
 mod faults;
 mod files;
+mod holds;
 mod impacts;
 mod loading;
 mod needed;

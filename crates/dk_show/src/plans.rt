@@ -12,6 +12,7 @@ use crate::Refusal;
 use crate::chains::chain_plan;
 use crate::faults::faults_plan;
 use crate::files::file_at;
+use crate::holds::holds_plan;
 use crate::impacts::impact_plan;
 use crate::needed::check_plan;
 use crate::pictures::picture_plan;
@@ -110,7 +111,8 @@ pub(crate) fn plan<D: Depot>(
     match request {
         Request::Draw(request) => drawing_plan(alloc, request, depot),
         Request::Picture { ledger, range } => picture_plan(alloc, ledger.as_str(), *range, depot),
-        Request::Windows { ledger, strict } => windows_plan(alloc, ledger.as_str(), *strict, depot),
+        Request::Windows { ledger, form } => windows_plan(alloc, ledger.as_str(), *form, depot),
+        Request::Holds { ledger, file } => holds_plan(alloc, ledger.as_str(), file, depot),
         Request::Faults(file) => faults_plan(alloc, file.as_str(), depot),
         Request::Tell(telling, file) => telling_plan(alloc, *telling, file.as_str(), depot),
         Request::Chain(request) => chain_plan(alloc, request, depot),

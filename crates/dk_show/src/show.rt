@@ -2,7 +2,7 @@
 ghost use Rattle.std.specs.Prelude.{ℕ, List, ◌≡◌, ◌≢◌, ◌⊎◌, ◌^◌, ◌<◌, ◌≤◌, IfSome, map, string_bytes, true, ◌+◌, ◌++◌, IfOk, Some};
 ghost use Rattle.dk_outside.specs.Counts.{Rises};
 ghost use Rattle.dk_ledger.specs.Heading.{IsPrintable};
-ghost use Rattle.dk_window_report.specs.Report.{kept_text};
+ghost use Rattle.dk_window_lines.specs.Lines.{kept_lines};
 ghost use Rattle.dk_show.specs.Answers.{IsAnswer, IsEnd, IsFault, IsFaulty, is_silent, refusal_status};
 ghost use Rattle.dk_show.specs.Asking.{Misses, WordsMiss, handed_for, handed_for_words};
 ghost use Rattle.dk_show.specs.Leaves.{Leaves};
@@ -19,6 +19,7 @@ use dk_config_report::Page;
 use dk_groups::WriteFault;
 use dk_outside::{Depot, Sink, write_all_to};
 use dk_show_request::{Request, meaning, usage, wrong_words};
+use dk_window_lines::{Strictness, write_lines};
 use dk_window_report::WindowReport;
 use std::alloc::{AllocError, Global};
 
@@ -83,14 +84,19 @@ fn put_page<S: Sink>(page: &Page, ended: Status, sink: &mut S) -> Status
 }
 
 /// Writes what threads did in their windows.
-fn put_windows<S: Sink>(report: &WindowReport, ended: Status, sink: &mut S) -> Status
+fn put_windows<S: Sink>(
+    report: &WindowReport,
+    strictness: Strictness,
+    ended: Status,
+    sink: &mut S,
+) -> Status
     requires printable { IsPrintable report.now.heading }
     requires ends { IsEnd ended }
-    ensures left { Leaves S.seen (λ text s. (text ≡ kept_text report.now.heading report.now.kept)
+    ensures left { Leaves S.seen (λ text s. (text ≡ kept_lines strictness report.now.heading report.now.kept)
         × (s ≡ ended)) sink.old sink.new result }
     ensures only { (result ≡ ended) ⊎ (result ≡ Status.SinkFault) }
 {
-    match report.write(sink) {
+    match write_lines(report, strictness, sink) {
         Ok(()) => ended,
         Err(_) => Status::SinkFault,
     }
@@ -107,7 +113,7 @@ fn put<S: Sink>(alloc: Global, work: &Work, sink: &mut S) -> Status
 {
     match work {
         Work::Draw(work) => put_drawing(alloc, work, sink),
-        Work::Windows(report, ended) => put_windows(report, *ended, sink),
+        Work::Windows(report, strictness, ended) => put_windows(report, *strictness, *ended, sink),
         Work::Page(page, ended) => put_page(page, *ended, sink),
     }
 }

@@ -13,6 +13,7 @@ use dk_outside::Sink;
 use dk_show_request::Drawing;
 use dk_trace_events::Trace;
 use dk_vcd::Dump;
+use dk_window_lines::Strictness;
 use dk_window_report::WindowReport;
 use std::alloc::Global;
 
@@ -30,8 +31,8 @@ pub(crate) struct RangeWork {
 pub(crate) enum Work {
     /// A drawing of a ledger, which is read once more meanwhile.
     Draw(RangeWork),
-    /// What threads did in their windows, and the status of the call once it is written.
-    Windows(WindowReport, Status),
+    /// What threads did in their windows, whether the ledger has to be clean, and the status of the call once it is written.
+    Windows(WindowReport, Strictness, Status),
     /// A whole page, and the status of the call once it is written.
     Page(Page, Status),
 }

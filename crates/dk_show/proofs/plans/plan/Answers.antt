@@ -3,9 +3,11 @@ use Rattle.std.specs.Prelude.{IfSome}
 use Rattle.dk_config.specs.declared.TheConstants.{MAX_CONFIG_BYTES, MAX_LEDGER_BYTES}
 use Rattle.dk_show.specs.declared.refusal.Refusal.TheVariants as why
 use Rattle.dk_show_request.specs.declared.request.Request.{Request}
-use Rattle.dk_show.specs.Output.{IsAllWrong, IsOfDocument, IsOfNamed, IsOfPicture, IsOfRequest, IsOfWindows}
+use Rattle.dk_show.specs.Output.{IsAllWrong, IsOfDocument, IsOfNamed, IsOfPicture, IsOfRequest}
+use Rattle.dk_show.specs.Held.{IsOfHeld}
 use Rattle.dk_show.specs.Loading.{IsOfLoaded}
 use Rattle.dk_show.specs.Repeats.{IsOfRepeats}
+use Rattle.dk_show.specs.Windowed.{IsOfWindows}
 use Rattle.dk_show.specs.Works.{Plans}
 use Rattle.dk_show.proofs.plans.plan.Goals as goal
 
@@ -21,9 +23,17 @@ pub returns-in-Windows-clause-plans : goal.returns-in-Windows-clause-plans
 returns-in-Windows-clause-plans g c =
     let files = (g.D.Depot.seen c.args.depot.now).files in
     let result = c.windows_plan.result in
-    let strict = c.in-Windows.strict in
-    let named = subst (λ (name : List ℕ). IfSome files (λ at. Plans (IsOfNamed at name MAX_LEDGER_BYTES why.LongLedger (IsOfWindows strict)) result)) c.as_str-in-Windows.ensures c.windows_plan.ensures.plans in
+    let form = c.in-Windows.form in
+    let named = subst (λ (name : List ℕ). IfSome files (λ at. Plans (IsOfNamed at name MAX_LEDGER_BYTES why.LongLedger (IsOfWindows form)) result)) c.as_str-in-Windows.ensures c.windows_plan.ensures.plans in
     subst (λ (r : Request). IfSome files (λ at. Plans (IsOfRequest r at) result)) (sym c.in-Windows.is) named
+
+pub returns-in-Holds-clause-plans : goal.returns-in-Holds-clause-plans
+returns-in-Holds-clause-plans g c =
+    let files = (g.D.Depot.seen c.args.depot.now).files in
+    let result = c.holds_plan.result in
+    let file = c.in-Holds.file in
+    let named = subst (λ (name : List ℕ). IfSome files (λ at. Plans (IsOfHeld file at name) result)) c.as_str-in-Holds.ensures c.holds_plan.ensures.plans in
+    subst (λ (r : Request). IfSome files (λ at. Plans (IsOfRequest r at) result)) (sym c.in-Holds.is) named
 
 pub returns-in-Chain-clause-plans : goal.returns-in-Chain-clause-plans
 returns-in-Chain-clause-plans g c =

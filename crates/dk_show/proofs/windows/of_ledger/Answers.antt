@@ -1,19 +1,19 @@
-use Rattle.std.proofs.Common.{◌∙◌, inl, inr, refl, reverse, ap}
+use Rattle.std.proofs.Common.{inl, inr, refl, reverse}
 use Rattle.dk_ledger.specs.Readable.{Journal}
-use Rattle.dk_window_report.proofs.Texts.{kept-text-is}
-use Rattle.dk_show.specs.Output.{end_of}
+use Rattle.dk_show.specs.Windowed.{AreWindowsTold, IsOfWindows}
+use Rattle.dk_show.proofs.Planning.{plans_wider}
 use Rattle.dk_show.proofs.windows.of_ledger.Goals as goal
 
 pub returns-in-Ok-clause-plans : goal.returns-in-Ok-clause-plans
-returns-in-Ok-clause-plans c = λ text has.
+returns-in-Ok-clause-plans c =
     let report = c.in-Ok.report in
     let all = c.in-Ok.ensures.kept in
     let es = all.0 in
     let read = all.1 in
     let j : Journal = record { heading = report.heading; entries = es } in
-    let told = has ∙ kept-text-is report.heading (reverse es) report.kept all.2 in
-    let ends = c.end_of-ended.ensures.is ∙ ap (end_of c.args.strict) (c.is_clean.ensures.clean (reverse es) all.2) in
-    inr (record { ledger = j; readable = read.readable; bytes_are = read.text; told = told; ends = ends })
+    plans_wider (AreWindowsTold c.args.form report.heading (reverse es)) (IsOfWindows c.args.form c.args.bytes.now)
+    (λ t s told. inr (record { ledger = j; readable = read.readable; bytes_are = read.text; told = told }))
+    c.of_report.result (c.of_report.ensures.plans (reverse es) all.2)
 
 pub returns-in-Err-Line-clause-plans : goal.returns-in-Err-Line-clause-plans
 returns-in-Err-Line-clause-plans c = λ told.

@@ -1,0 +1,14 @@
+use Rattle.std.proofs.Common.{ℕ, List, subst}
+use Rattle.dk_config.specs.declared.TheConstants.{MAX_LEDGER_BYTES}
+use Rattle.dk_show.specs.declared.refusal.Refusal.TheVariants as why
+use Rattle.dk_show.specs.Held.{IsOfOwnHolds}
+use Rattle.dk_show.specs.Works.{Plans}
+use Rattle.dk_show.proofs.Planning.{named_by}
+use Rattle.dk_show.proofs.holds.holds_in.Goals as goal
+
+pub returns-clause-plans : goal.returns-clause-plans
+returns-clause-plans g c =
+    let IsOf = IsOfOwnHolds c.args.config.now in
+    let plans = subst (λ (bytes : List ℕ). Plans (IsOf bytes) c.of_own_bytes.result) c.as_slice.ensures.value c.of_own_bytes.ensures.plans in
+    named_by (g.D.Depot.seen c.args.depot.now).files c.args.ledger.now MAX_LEDGER_BYTES why.LongLedger IsOf c.in_ok-bytes.bytes.items c.of_own_bytes.result
+    c.in_ok-bytes.ensures.held c.in_ok-bytes.ensures.short plans

@@ -1,0 +1,36 @@
+use Rattle.std.proofs.Common.{◌≡◌, ap, subst}
+use Rattle.std.specs.Prelude.{IfSome, None, Option}
+use Rattle.dk_config.specs.declared.TheConstants.{MAX_CONFIG_BYTES, MAX_LEDGER_BYTES}
+use Rattle.dk_show.specs.declared.refusal.Refusal.TheVariants as why
+use Rattle.dk_show.specs.Answers.{Files, IsOfNamed}
+use Rattle.dk_show.specs.Asking.{Asks, handed_out}
+use Rattle.dk_show.specs.Held.{IsOfOwnHolds}
+use Rattle.dk_show.specs.Loading.{certified_at}
+use Rattle.dk_show.specs.Works.{Plans}
+use Rattle.dk_show.proofs.Asks.{asks_after}
+use Rattle.dk_show.proofs.Planning.{of_something}
+use Rattle.dk_show.proofs.holds.own_plan.Goals as goal
+
+pub returns-clause-plans : goal.returns-clause-plans
+returns-clause-plans g c =
+    let files = (g.D.Depot.seen c.args.depot.now).files in
+    let file = c.args.file.now in
+    let ledger = c.args.ledger.now in
+    let x = c.in_ok-config.config in
+    of_something files (λ at. certified_at (at file)) (λ at k. IsOfNamed at ledger MAX_LEDGER_BYTES why.LongLedger (IsOfOwnHolds k)) x
+    c.holds_in.result c.in_ok-config.ensures.loads
+    (subst (λ (fs : Option Files). IfSome fs (λ at. Plans (IsOfNamed at ledger MAX_LEDGER_BYTES why.LongLedger (IsOfOwnHolds x)) c.holds_in.result))
+    c.in_ok-config.ensures.reads.same c.holds_in.ensures.plans)
+
+pub returns-clause-asks : goal.returns-clause-asks
+returns-clause-asks g c =
+    let files = (g.D.Depot.seen c.args.depot.now).files in
+    let file = c.args.file.now in
+    let ledger = c.args.ledger.now in
+    let x = c.in_ok-config.config in
+    asks_after (λ at. certified_at (at file)) (λ at. handed_out MAX_CONFIG_BYTES (at file)) (λ at. at file ≡ None)
+    (λ at _. handed_out MAX_LEDGER_BYTES (at ledger)) (λ at _. at ledger ≡ None) (g.D.Depot.seen c.args.depot.now) (g.D.Depot.seen c.certified_at.new.depot)
+    (g.D.Depot.seen c.holds_in.new.depot) c.holds_in.result files x x c.in_ok-config.ensures.asks c.in_ok-config.ensures.loads (λ at missing. ap certified_at missing)
+    (subst (λ (fs : Option Files). Asks fs (λ at. handed_out MAX_LEDGER_BYTES (at ledger)) (λ at. at ledger ≡ None)
+    (g.D.Depot.seen c.certified_at.new.depot) (g.D.Depot.seen c.holds_in.new.depot) c.holds_in.result)
+    c.in_ok-config.ensures.reads.same c.holds_in.ensures.asks)
