@@ -3,3 +3,4 @@ pub mod Work
 pub mod Calls
 pub mod Places
 pub mod Back
+pub mod Granted

@@ -1,14 +1,14 @@
 -- The ticks that the instructions of a program take.
-use Rattle.std.specs.Prelude.{ℕ, zero, suc, ◌≡◌, ◌+◌, ◌-◌, ◌*◌, ◌^◌, ◌<◌, ◌≤◌, ◌==◌, if◌then◌else◌, List, [], ◌∷◌, ◌++◌, length, slice_range, sum_by, Option, Some, None}
+use Rattle.std.specs.Prelude.{ℕ, zero, suc, ◌≡◌, ◌⊎◌, ◌+◌, ◌-◌, ◌*◌, ◌^◌, ◌<◌, ◌≤◌, ◌==◌, if◌then◌else◌, List, [], ◌∷◌, ◌++◌, length, slice_range, sum_by, Option, Some, None}
 use Rattle.dk_isa.specs.declared.Instr.{Instr}
 use Rattle.dk_isa.specs.Table.{instruction_of}
 use Rattle.dk_cpu.specs.declared.Context.{Context}
 use Rattle.dk_cpu.specs.declared.Outcome.{Outcome}
 use Rattle.dk_cpu.specs.declared.kernel_call.KernelCall.{KernelCall}
-use Rattle.dk_cpu.specs.Machine.{Tick, body_tick, call_of, reg}
-use Rattle.dk_cpu.specs.State.{RunsFor}
+use Rattle.dk_cpu.specs.Machine.{Tick, body_tick, call_of, ran, reg}
+use Rattle.dk_cpu.specs.State.{RunsFor, replied}
 use Rattle.dk_profile.specs.declared.steps.Step.{Step}
-use Rattle.dk_profile.specs.Steps.{step_size, work_size}
+use Rattle.dk_profile.specs.Steps.{step_size, step_ticks, work_size}
 use Rattle.dk_replay.specs.Code.{program_of, step_code, work_code}
 
 -- the instruction at a place of a program
@@ -107,3 +107,37 @@ abbrev pub WaitsAtOnce : Type 0
 WaitsAtOnce =
     (front back : List Step)
     → IsAt (program_of (front ++ Step.Wait ∷ back)) (sum_by step_size front) (Instr.Trap 1)
+
+-- the tick leads to this context and memory: by an instruction that is no call, in a call that isn't done, or by a call that
+-- is done and answered with 0, as the kernel answers one that it grants
+abbrev pub IsGranted : Tick → Context → List ℕ → Type 0
+IsGranted tick last left =
+    (tick ≡ ran last left)
+    ⊎ ((tick ≡ record { outcome = Outcome.InCall; context = last; memory = left })
+    ⊎ ((call : KernelCall) × (z : Context) × (tick ≡ record { outcome = Outcome.CallDone call; context = z; memory = left })
+    × (last ≡ replied z 0 None)))
+
+-- so do so many ticks
+abbrev pub GrantedFor : ℕ → List ℕ → ℕ → Context → List ℕ → Context → List ℕ → Type 0
+GrantedFor cost code zero x memory last left = (x ≡ last) × (memory ≡ left)
+GrantedFor cost code (suc n) x memory last left =
+    (y : Context) × (words : List ℕ) × GrantedFor cost code n x memory y words
+    × IsGranted (body_tick cost code y words) last left
+
+-- its work is no more than a word counts
+abbrev pub IsShort : Step → Type 0
+IsShort (Step.Work n) = n < 2 ^ 32
+IsShort _ = Unit {0}
+
+abbrev pub AreShort : List Step → Type 0
+AreShort [] = Unit {0}
+AreShort (step ∷ steps) = IsShort step × AreShort steps
+
+-- Where each of its calls is granted, a job takes in the program of its profile exactly the ticks that its steps say, each of
+-- them a tick of work or of a call, from the place of its first step to that behind its last.
+abbrev pub StepsTake : Type 0
+StepsTake =
+    (cost : ℕ) (memory : List ℕ) (front job back : List Step) (x : Context) → 0 < cost → AreShort job
+    → StandsAt (sum_by step_size front) x
+    → (y : Context) × GrantedFor cost (program_of (front ++ (job ++ back))) (sum_by (step_ticks cost) job) x memory y memory
+    × StandsAt (sum_by step_size (front ++ job)) y

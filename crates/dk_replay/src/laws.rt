@@ -1,5 +1,5 @@
 //! The laws of the ticks that a program takes.
-ghost use Rattle.dk_replay.specs.Laws.{CallTakes, HasSteps, LoadsItsNumber, WaitsAtOnce, WorkIsDone, WorkTakes};
+ghost use Rattle.dk_replay.specs.Laws.{CallTakes, HasSteps, LoadsItsNumber, StepsTake, WaitsAtOnce, WorkIsDone, WorkTakes};
 
 /// The code of n ticks of work takes exactly n ticks, whatever the memory, the registers and the cost of a call are.
 pub fn work_law()
@@ -29,4 +29,9 @@ pub fn load_law()
 /// A wait stands at its call.
 pub fn wait_law()
     ensures { WaitsAtOnce }
+{}
+
+/// Where each of its calls is granted, a job takes in the program of its profile exactly the ticks that its steps say.
+pub fn job_law()
+    ensures { StepsTake }
 {}
