@@ -1,5 +1,5 @@
 -- A job whose calls are granted takes the ticks that its steps say.
-use Rattle.std.proofs.Common.{◌≡◌, ◌∙◌, refl, ap, sym, subst, inl, inr, ◌<◌, ◌≤◌, ◌+◌, ◌^◌, ℕ, zero, suc, Bool, true, false, List, [], ◌∷◌, ◌++◌, length, append_assoc, append-nil, arith, Some, None}
+use Rattle.std.proofs.Common.{◌≡◌, ◌∙◌, refl, ap, sym, subst, inl, inr, ◌<◌, ◌+◌, ℕ, zero, suc, Bool, true, false, List, [], ◌∷◌, ◌++◌, append_assoc, append-nil, arith, Some, None}
 use Rattle.std.specs.Prelude.{◌==◌, if◌then◌else◌, sum_by}
 use Rattle.std.proofs.lemmas.Bool.Decides.{nat_tests}
 use Rattle.std.proofs.lemmas.List.{length-set}
@@ -9,7 +9,7 @@ use Rattle.dk_cpu.specs.declared.Context.{Context}
 use Rattle.dk_cpu.specs.declared.Outcome.{Outcome}
 use Rattle.dk_cpu.specs.declared.kernel_call.KernelCall.{KernelCall}
 use Rattle.dk_cpu.specs.declared.kernel_call.KernelCall.TheVariants as call
-use Rattle.dk_cpu.specs.Machine.{Tick, call_of}
+use Rattle.dk_cpu.specs.Machine.{call_of}
 use Rattle.dk_cpu.specs.State.{RunsFor, replied}
 use Rattle.dk_profile.specs.declared.steps.Step.{Step}
 use Rattle.dk_profile.specs.declared.steps.Step.TheVariants as kind
@@ -33,7 +33,7 @@ as_parts : (at : ℕ) (x : Context) → StandsAt at x → x ≡ standing x.regs 
 as_parts at x s = ap (λ p. standing x.regs p x.left) s.place ∙ ap (λ l. standing x.regs at l) s.left
 
 module _ (cost : ℕ) (code : List ℕ) (start : Context) (memory : List ℕ) where
-  abbrev Got : ℕ → Context → List ℕ → Type 0
+  abbrev pub Got : ℕ → Context → List ℕ → Type 0
   Got n y v = GrantedFor cost code n start memory y v
 
   extend : (n m : ℕ) (w y : Context) (u v : List ℕ) → Got m w u → RunsFor cost code n w u y v → Got (up n m) y v
@@ -81,14 +81,14 @@ module _ (cost : ℕ) (code : List ℕ) (start : Context) (memory : List ℕ) wh
       ) in
       subst (λ t. Got t (replied (standing regs (at + 1) 0) 0 None) memory) much done
 
-  abbrev Reached : ℕ → ℕ → Type 0
+  abbrev pub Reached : ℕ → ℕ → Type 0
   Reached n to = (y : Context) × Got n y memory × StandsAt to y
 
-  renamed : (n m at to : ℕ) → Reached n at → n ≡ m → at ≡ to → Reached m to
+  pub renamed : (n m at to : ℕ) → Reached n at → n ≡ m → at ≡ to → Reached m to
   renamed n m at to r e f = (r.0, subst (λ t. Got t r.0 memory) e r.1, subst (λ p. StandsAt p r.0) f r.2)
 
   -- a call from where it stands
-  calls : (n m at k : ℕ) (w : Context) (c : KernelCall) → cost ≡ suc n → IsAt code at (Instr.Trap k) → call_of k ≡ Some c
+  pub calls : (n m at k : ℕ) (w : Context) (c : KernelCall) → cost ≡ suc n → IsAt code at (Instr.Trap k) → call_of k ≡ Some c
       → Got m w memory → StandsAt at w → Reached (m + cost) (at + 1)
   calls n m at k w c e is named got s = (
     replied (standing w.regs (at + 1) 0) 0 None,
@@ -97,7 +97,7 @@ module _ (cost : ℕ) (code : List ℕ) (start : Context) (memory : List ℕ) wh
   )
 
   -- the load of a number, and the call behind it
-  loads_and_calls : (n m at k : ℕ) (w y : Context) (c : KernelCall) → cost ≡ suc n → call_of k ≡ Some c → Got m w memory
+  pub loads_and_calls : (n m at k : ℕ) (w y : Context) (c : KernelCall) → cost ≡ suc n → call_of k ≡ Some c → Got m w memory
       → Runs cost code memory 1 w y → StandsAt (at + 1) y → IsAt code (at + 1) (Instr.Trap k) → Reached (m + (1 + cost)) (at + 2)
   loads_and_calls n m at k w y c e named got runs s is =
       let one = extend 1 m w y memory memory got runs in
@@ -105,7 +105,7 @@ module _ (cost : ℕ) (code : List ℕ) (start : Context) (memory : List ℕ) wh
       renamed (suc m + cost) (m + (1 + cost)) (at + 1 + 1) (at + 2) all (omega arith) (omega arith)
 
   -- work
-  works : (n m to : ℕ) (w y : Context) → Got m w memory → Runs cost code memory n w y → StandsAt to y → Reached (m + n) to
+  pub works : (n m to : ℕ) (w y : Context) → Got m w memory → Runs cost code memory n w y → StandsAt to y → Reached (m + n) to
   works n m to w y got runs s = renamed (up n m) (m + n) to to (y, extend n m w y memory memory got runs, s) (up_is n m) refl
 
 -- a step, from where it stands

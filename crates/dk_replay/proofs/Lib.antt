@@ -4,3 +4,4 @@ pub mod Calls
 pub mod Places
 pub mod Back
 pub mod Granted
+pub mod Laps

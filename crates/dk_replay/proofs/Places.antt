@@ -16,7 +16,7 @@ use Rattle.dk_replay.proofs.Sizes.{all_bytes}
 use Rattle.dk_replay.proofs.Work.{loaded, more, none, work_takes}
 
 -- four bytes each, which are read as the instruction
-abbrev AreRead : List Instr → Type 0
+abbrev pub AreRead : List Instr → Type 0
 AreRead [] = Unit {0}
 AreRead (i ∷ instrs) = ((instruction_of (bytes_of i) ≡ Some i) × (length (bytes_of i) ≡ 4)) × AreRead instrs
 
@@ -31,6 +31,9 @@ lih v = (ap (λ n. Some (Instr.Lih 1 n)) (imm v), refl)
 
 jnz : (v : ℕ) → (instruction_of (bytes_of (Instr.Jnz 1 v)) ≡ Some (Instr.Jnz 1 v)) × (length (bytes_of (Instr.Jnz 1 v)) ≡ 4)
 jnz v = (ap (λ n. Some (Instr.Jnz 1 n)) (imm v), refl)
+
+pub jmp : (v : ℕ) → (instruction_of (bytes_of (Instr.Jmp v)) ≡ Some (Instr.Jmp v)) × (length (bytes_of (Instr.Jmp v)) ≡ 4)
+jmp v = (ap (λ n. Some (Instr.Jmp n)) (imm v), refl)
 
 addi : (v : ℕ) → (instruction_of (bytes_of (Instr.Addi 1 v)) ≡ Some (Instr.Addi 1 v)) × (length (bytes_of (Instr.Addi 1 v)) ≡ 4)
 addi v = (ap (λ n. Some (Instr.Addi 1 n)) (imm v), refl)
@@ -57,7 +60,7 @@ read_work at n true close = read_single (n == 0) (n == 1)
 read_work at n false true = read_counted at ((n - 1) / 2) ((n - 1) % 2 == 1)
 read_work at n false false = read_far at ((n - 2) / 2) ((n - 2) % 2 == 1)
 
-read_step : (at : ℕ) (s : Step) → AreRead (step_code at s)
+pub read_step : (at : ℕ) (s : Step) → AreRead (step_code at s)
 read_step at (kind.Work n) = read_work at n (nat_lt n 3) (nat_le n 131072)
 read_step at (kind.Lock m) = (li m, ((refl, refl), tt))
 read_step at (kind.Unlock m) = (li m, ((refl, refl), tt))
@@ -73,7 +76,7 @@ whole_slice pre w rest at l four =
     ∙ (ap (λ n. take n (w ++ rest)) span ∙ take_at w rest 4 four)
 
 -- instructions behind as many bytes as their place tells
-has_code : (pre rest : List ℕ) (at : ℕ) (instrs : List Instr) → length pre ≡ 4 * at → AreRead instrs
+pub has_code : (pre rest : List ℕ) (at : ℕ) (instrs : List Instr) → length pre ≡ 4 * at → AreRead instrs
     → HasCode (pre ++ (code_of instrs ++ rest)) at instrs
 has_code pre rest at [] l r = tt
 has_code pre rest at (i ∷ instrs) l r =

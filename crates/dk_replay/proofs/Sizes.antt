@@ -37,10 +37,10 @@ chosen at n true near f m = let small : n < 3 = grind (arith, nat_tests) in sing
 chosen at n false true f m = let odd : (n - 1) % 2 < 2 = omega arith in counted_size at ((n - 1) / 2) ((n - 1) % 2) odd
 chosen at n false false f m = let odd : (n - 2) % 2 < 2 = omega arith in far_size at ((n - 2) / 2) ((n - 2) % 2) odd
 
-work_bytes : (at n : ℕ) → length (code_of (work_code at n)) ≡ 4 * work_size n
+pub work_bytes : (at n : ℕ) → length (code_of (work_code at n)) ≡ 4 * work_size n
 work_bytes at n = chosen at n (nat_lt n 3) (nat_le n 131072) refl refl
 
-step_bytes : (at : ℕ) (s : Step) → length (code_of (step_code at s)) ≡ 4 * step_size s
+pub step_bytes : (at : ℕ) (s : Step) → length (code_of (step_code at s)) ≡ 4 * step_size s
 step_bytes at (step.Work n) = work_bytes at n
 step_bytes at (step.Lock m) = refl
 step_bytes at (step.Unlock m) = refl

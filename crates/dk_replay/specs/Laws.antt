@@ -141,3 +141,19 @@ StepsTake =
     → StandsAt (sum_by step_size front) x
     → (y : Context) × GrantedFor cost (program_of (front ++ (job ++ back))) (sum_by (step_ticks cost) job) x memory y memory
     × StandsAt (sum_by step_size (front ++ job)) y
+
+-- none of the steps is work
+abbrev pub HaveNoWork : List Step → Type 0
+HaveNoWork [] = Unit {0}
+HaveNoWork (Step.Work n ∷ steps) = ⊥
+HaveNoWork (step ∷ steps) = HaveNoWork steps
+
+-- Where each of its calls is granted, the way round takes, from behind the last step to behind the first work, exactly the
+-- ticks that the steps up to that work say: as many as they take the first time, and none of its own.
+abbrev pub LapTakes : Type 0
+LapTakes =
+    (cost n : ℕ) (memory : List ℕ) (front back : List Step) (x : Context) → 0 < cost → 0 < n → n < 2 ^ 32 → HaveNoWork front
+    → StandsAt (sum_by step_size (front ++ Step.Work n ∷ back)) x
+    → (y : Context)
+    × GrantedFor cost (program_of (front ++ Step.Work n ∷ back)) (sum_by (step_ticks cost) (front ++ Step.Work n ∷ [])) x memory y memory
+    × StandsAt (sum_by step_size (front ++ Step.Work n ∷ [])) y

@@ -1,5 +1,5 @@
 //! The laws of the ticks that a program takes.
-ghost use Rattle.dk_replay.specs.Laws.{CallTakes, HasSteps, LoadsItsNumber, StepsTake, WaitsAtOnce, WorkIsDone, WorkTakes};
+ghost use Rattle.dk_replay.specs.Laws.{CallTakes, HasSteps, LapTakes, LoadsItsNumber, StepsTake, WaitsAtOnce, WorkIsDone, WorkTakes};
 
 /// The code of n ticks of work takes exactly n ticks, whatever the memory, the registers and the cost of a call are.
 pub fn work_law()
@@ -34,4 +34,9 @@ pub fn wait_law()
 /// Where each of its calls is granted, a job takes in the program of its profile exactly the ticks that its steps say.
 pub fn job_law()
     ensures { StepsTake }
+{}
+
+/// And the way round takes exactly the ticks that the steps up to the first work say, and none of its own.
+pub fn lap_law()
+    ensures { LapTakes }
 {}
