@@ -20,11 +20,11 @@ use Rattle.dk_replay.proofs.Calls.{call_takes}
 use Rattle.dk_replay.proofs.Places.{loads_its_number, waits_at_once, work_is_done}
 
 -- m ticks and n more
-abbrev up : ℕ → ℕ → ℕ
+abbrev pub up : ℕ → ℕ → ℕ
 up zero m = m
 up (suc n) m = suc (up n m)
 
-up_is : (n m : ℕ) → up n m ≡ m + n
+pub up_is : (n m : ℕ) → up n m ≡ m + n
 up_is zero m = omega arith
 up_is (suc n) m = let h = up_is n m in omega (arith, h)
 

@@ -5,3 +5,4 @@ pub mod Places
 pub mod Back
 pub mod Granted
 pub mod Laps
+pub mod Rounds

@@ -157,3 +157,12 @@ LapTakes =
     → (y : Context)
     × GrantedFor cost (program_of (front ++ Step.Work n ∷ back)) (sum_by (step_ticks cost) (front ++ Step.Work n ∷ [])) x memory y memory
     × StandsAt (sum_by step_size (front ++ Step.Work n ∷ [])) y
+
+-- So each round of a profile, from behind its first work to there again, takes exactly the ticks of all its steps, for ever.
+abbrev pub RoundTakes : Type 0
+RoundTakes =
+    (cost n : ℕ) (memory : List ℕ) (front back : List Step) (x : Context) → 0 < cost → 0 < n → n < 2 ^ 32 → HaveNoWork front
+    → AreShort back → StandsAt (sum_by step_size (front ++ Step.Work n ∷ [])) x
+    → (y : Context)
+    × GrantedFor cost (program_of (front ++ Step.Work n ∷ back)) (sum_by (step_ticks cost) (front ++ Step.Work n ∷ back)) x memory y memory
+    × StandsAt (sum_by step_size (front ++ Step.Work n ∷ [])) y

@@ -1,5 +1,5 @@
 //! The laws of the ticks that a program takes.
-ghost use Rattle.dk_replay.specs.Laws.{CallTakes, HasSteps, LapTakes, LoadsItsNumber, StepsTake, WaitsAtOnce, WorkIsDone, WorkTakes};
+ghost use Rattle.dk_replay.specs.Laws.{CallTakes, HasSteps, LapTakes, LoadsItsNumber, RoundTakes, StepsTake, WaitsAtOnce, WorkIsDone, WorkTakes};
 
 /// The code of n ticks of work takes exactly n ticks, whatever the memory, the registers and the cost of a call are.
 pub fn work_law()
@@ -39,4 +39,9 @@ pub fn job_law()
 /// And the way round takes exactly the ticks that the steps up to the first work say, and none of its own.
 pub fn lap_law()
     ensures { LapTakes }
+{}
+
+/// So each round of a profile, from behind its first work to there again, takes exactly the ticks of all its steps.
+pub fn round_law()
+    ensures { RoundTakes }
 {}

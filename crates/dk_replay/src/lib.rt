@@ -7,7 +7,9 @@ mod page;
 mod program;
 mod source;
 
-pub use laws::{call_law, done_law, job_law, lap_law, load_law, steps_law, wait_law, work_law};
+pub use laws::{
+    call_law, done_law, job_law, lap_law, load_law, round_law, steps_law, wait_law, work_law,
+};
 pub use page::{Replay, make_replay};
 pub use program::program_of;
 pub use source::replay_source;
