@@ -9,3 +9,4 @@ pub mod WindowPages
 mod Loads
 pub mod Wholes
 pub mod Asks
+pub mod Wanting

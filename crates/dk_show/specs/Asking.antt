@@ -5,6 +5,7 @@ use Rattle.dk_profile.specs.declared.TheConstants.{MAX_PROFILE_BYTES}
 use Rattle.dk_config.specs.Configuration.{Configuration}
 use Rattle.dk_outside.specs.Views.{DepotView}
 use Rattle.dk_loader.specs.Programs.{bytes_read}
+use Rattle.dk_show_request.specs.declared.request.CheckRequest.{CheckRequest}
 use Rattle.dk_show_request.specs.declared.request.Request.{Request}
 use Rattle.dk_show_request.specs.declared.request.Request.TheVariants as request
 use Rattle.dk_show.specs.declared.refusal.Refusal.{Refusal}
@@ -12,6 +13,7 @@ use Rattle.dk_show.specs.declared.refusal.Refusal.TheVariants as why
 use Rattle.dk_show.specs.Answers.{Files, is_silent}
 use Rattle.dk_show.specs.Chains.{chain_at}
 use Rattle.dk_show.specs.Loading.{certified_at, loaded}
+use Rattle.dk_show.specs.Needed.{asked_at}
 use Rattle.dk_show.specs.Sources.{most_of}
 
 -- how many bytes a read hands out: all of a file, or one more than the most
@@ -35,6 +37,16 @@ handed_held None at ledger = handed_out MAX_LEDGER_BYTES (at ledger)
 handed_held (Some file) at ledger =
     handed_out MAX_CONFIG_BYTES (at file) + handed_after (λ _. handed_out MAX_LEDGER_BYTES (at ledger)) (certified_at (at file))
 
+-- those of a configuration, and then of needs
+abbrev pub handed_needs : Files → CheckRequest → ℕ
+handed_needs at r =
+    handed_out MAX_CONFIG_BYTES (at r.file) + handed_after (λ _. handed_out MAX_CONFIG_BYTES (at r.needs)) (certified_at (at r.file))
+
+-- those of a ledger, where one is asked for
+abbrev pub handed_ledger : Files → Option (List ℕ) → ℕ
+handed_ledger at None = 0
+handed_ledger at (Some ledger) = handed_out MAX_LEDGER_BYTES (at ledger)
+
 -- how many bytes the reads of a command hand out
 abbrev pub handed_for : Request → Files → ℕ
 handed_for (request.Draw r) at = handed_out MAX_LEDGER_BYTES (at r.ledger)
@@ -48,8 +60,7 @@ handed_for (request.Reactions r ledger) at =
     handed_out MAX_CONFIG_BYTES (at r.file) + handed_after (λ _. handed_out MAX_LEDGER_BYTES (at ledger)) (chain_at at r)
 handed_for (request.Impact r) at = handed_load at r.old + handed_after (λ _. handed_load at r.new) (loaded at r.old)
 handed_for (request.Repeats file ticks) at = handed_load at file
-handed_for (request.Check r) at =
-    handed_out MAX_CONFIG_BYTES (at r.file) + handed_after (λ _. handed_out MAX_CONFIG_BYTES (at r.needs)) (certified_at (at r.file))
+handed_for (request.Check r) at = handed_needs at r + handed_after (λ _. handed_ledger at r.ledger) (asked_at at r)
 handed_for (request.Replay r) at =
     handed_out MAX_CONFIG_BYTES (at r.file)
     + handed_after (λ _. handed_out MAX_PROFILE_BYTES (at r.profile)) (certified_at (at r.file))
@@ -63,6 +74,11 @@ abbrev pub MissesHeld : Option (List ℕ) → Files → List ℕ → Type 0
 MissesHeld None at ledger = at ledger ≡ None
 MissesHeld (Some file) at ledger = MissesAfter (λ _. at ledger ≡ None) (certified_at (at file))
 
+-- the ledger isn't there, where one is asked for
+abbrev pub MissesLedger : Files → Option (List ℕ) → Type 0
+MissesLedger at None = ⊥
+MissesLedger at (Some ledger) = at ledger ≡ None
+
 -- a file that the command asks for isn't there
 abbrev pub Misses : Request → Files → Type 0
 Misses (request.Draw r) at = at r.ledger ≡ None
@@ -75,7 +91,7 @@ Misses (request.Chain r) at = at r.file ≡ None
 Misses (request.Reactions r ledger) at = MissesAfter (λ _. at ledger ≡ None) (chain_at at r)
 Misses (request.Impact r) at = MissesAfter (λ _. loaded at r.new ≡ Err why.Depot) (loaded at r.old)
 Misses (request.Repeats file ticks) at = loaded at file ≡ Err why.Depot
-Misses (request.Check r) at = MissesAfter (λ _. at r.needs ≡ None) (certified_at (at r.file))
+Misses (request.Check r) at = MissesAfter (λ _. MissesLedger at r.ledger) (asked_at at r)
 Misses (request.Replay r) at = MissesAfter (λ _. at r.profile ≡ None) (certified_at (at r.file))
 
 abbrev pub IsLoud : {A : Type 0} → Result A Refusal → Type 0

@@ -37,8 +37,8 @@ pub use Rattle.dk_show.specs.Answers.{Files, IsOfNamed, IsWrong, Says}
 use Rattle.dk_show.specs.Chains.{IsChainTold, IsOfReactions, chain_at}
 use Rattle.dk_show.specs.Held.{IsOfHeld}
 use Rattle.dk_show.specs.Impacts.{IsOfImpact}
-use Rattle.dk_show.specs.Loading.{IsOf, IsOfLoaded, certified_at}
-use Rattle.dk_show.specs.Needed.{IsOfNeeds}
+use Rattle.dk_show.specs.Loading.{IsOf, IsOfLoaded}
+use Rattle.dk_show.specs.Needed.{IsOfCheck, asked_at}
 use Rattle.dk_show_request.specs.Meaning.{meaning}
 use Rattle.dk_show_request.specs.Reasons.{wrong_text}
 use Rattle.dk_show_request.specs.Usage.{usage_text}
@@ -180,8 +180,7 @@ IsOfRequest (request.Reactions r ledger) at text ended =
     IsOf (chain_at at r) (λ chain. IsOfNamed at ledger MAX_LEDGER_BYTES why.LongLedger (IsOfReactions chain)) text ended
 IsOfRequest (request.Impact r) at text ended = IsOfImpact at r text ended
 IsOfRequest (request.Repeats file ticks) at text ended = IsOfLoaded at file (IsOfRepeats ticks) text ended
-IsOfRequest (request.Check r) at text ended =
-    IsOf (certified_at (at r.file)) (λ c. IsOfNamed at r.needs MAX_CONFIG_BYTES why.LongNeeds (IsOfNeeds r.as_csv c)) text ended
+IsOfRequest (request.Check r) at text ended = IsOf (asked_at at r) (IsOfCheck at r.form r.ledger) text ended
 IsOfRequest (request.Replay r) at text ended =
     IsOf (certified_at (at r.file))
     (λ c. IsOfNamed at r.profile MAX_PROFILE_BYTES why.LongProfile (IsOfProfile c r.name)) text ended

@@ -2,6 +2,7 @@
 #![tactic(auto)]
 
 mod chains;
+mod checks;
 mod faults;
 mod files;
 mod holds;

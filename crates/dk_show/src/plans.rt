@@ -10,11 +10,11 @@ ghost use Rattle.dk_show.specs.Works.{IsMade, IsReady, IsWhole, Plans};
 
 use crate::Refusal;
 use crate::chains::chain_plan;
+use crate::checks::check_plan;
 use crate::faults::faults_plan;
 use crate::files::file_at;
 use crate::holds::holds_plan;
 use crate::impacts::impact_plan;
-use crate::needed::check_plan;
 use crate::pictures::picture_plan;
 use crate::reactions::reactions_plan;
 use crate::repeats::repeats_plan;

@@ -1,27 +1,24 @@
-use Rattle.std.proofs.Common.{ℕ, ◌≡◌, ◌∙◌, List, ap, subst}
+use Rattle.std.proofs.Common.{ℕ, ◌≡◌, List, ap, subst}
 use Rattle.std.specs.Prelude.{IfSome, Ok, None, Option}
 use Rattle.dk_config.specs.declared.TheConstants.{MAX_CONFIG_BYTES}
-use Rattle.dk_show.specs.declared.refusal.Refusal.TheVariants as why
-use Rattle.dk_show_request.specs.declared.check_words.CheckRequest.{CheckRequest}
-use Rattle.dk_show.specs.Answers.{Files, IsOfNamed}
+use Rattle.dk_show.specs.Answers.{Files}
 use Rattle.dk_show.specs.Asking.{Asks, handed_out}
-use Rattle.dk_show.specs.Loading.{certified_at}
-use Rattle.dk_show.specs.Needed.{IsOfNeeds}
-use Rattle.dk_show.specs.Works.{Plans}
+use Rattle.dk_show.specs.Loading.{Loads, certified_at}
+use Rattle.dk_show.specs.Needed.{asked_of}
 use Rattle.dk_show.proofs.Asks.{asks_after}
-use Rattle.dk_show.proofs.Planning.{of_something}
-use Rattle.dk_show.proofs.needed.check_plan.Goals as goal
+use Rattle.dk_show.proofs.Wanting.{loads_needs}
+use Rattle.dk_show.proofs.checks.asked_at.Goals as goal
 
-pub returns-clause-plans : goal.returns-clause-plans
-returns-clause-plans g c =
+pub returns-clause-loads : goal.returns-clause-loads
+returns-clause-loads g c =
     let files = (g.D.Depot.seen c.args.depot.now).files in
     let r = c.args.request.now in
     let x = c.in_ok-config.config in
     let found = subst (λ (name : List ℕ). IfSome files (λ at. certified_at (at name) ≡ Ok x)) c.as_str.ensures c.in_ok-config.ensures.loads in
-    of_something files (λ at. certified_at (at r.file)) (λ at k. IsOfNamed at r.needs MAX_CONFIG_BYTES why.LongNeeds (IsOfNeeds r.as_csv k)) x
-    c.needs_at.result found
-    (subst (λ (fs : Option Files). IfSome fs (λ at. Plans (IsOfNamed at r.needs MAX_CONFIG_BYTES why.LongNeeds (IsOfNeeds r.as_csv x)) c.needs_at.result))
-    c.in_ok-config.ensures.reads.same c.needs_at.ensures.plans)
+    let loads = subst (λ (name : List ℕ). IfSome (g.D.Depot.seen c.certified_at.new.depot).files (λ at. Loads c.with_needs.result (asked_of x (at name))))
+    c.as_str-2.ensures c.with_needs.ensures.loads in
+    loads_needs files r.file r.needs x c.with_needs.result found
+    (subst (λ (fs : Option Files). IfSome fs (λ at. Loads c.with_needs.result (asked_of x (at r.needs)))) c.in_ok-config.ensures.reads.same loads)
 
 pub returns-clause-asks : goal.returns-clause-asks
 returns-clause-asks g c =
@@ -31,9 +28,11 @@ returns-clause-asks g c =
     let found = subst (λ (name : List ℕ). IfSome files (λ at. certified_at (at name) ≡ Ok x)) c.as_str.ensures c.in_ok-config.ensures.loads in
     let first = subst (λ (name : List ℕ). Asks files (λ at. handed_out MAX_CONFIG_BYTES (at name)) (λ at. at name ≡ None)
     (g.D.Depot.seen c.args.depot.now) (g.D.Depot.seen c.certified_at.new.depot) (Ok x)) c.as_str.ensures c.in_ok-config.ensures.asks in
+    let next = subst (λ (name : List ℕ). Asks (g.D.Depot.seen c.certified_at.new.depot).files (λ at. handed_out MAX_CONFIG_BYTES (at name)) (λ at. at name ≡ None)
+    (g.D.Depot.seen c.certified_at.new.depot) (g.D.Depot.seen c.with_needs.new.depot) c.with_needs.result) c.as_str-2.ensures c.with_needs.ensures.asks in
     asks_after (λ at. certified_at (at r.file)) (λ at. handed_out MAX_CONFIG_BYTES (at r.file)) (λ at. at r.file ≡ None)
     (λ at _. handed_out MAX_CONFIG_BYTES (at r.needs)) (λ at _. at r.needs ≡ None) (g.D.Depot.seen c.args.depot.now) (g.D.Depot.seen c.certified_at.new.depot)
-    (g.D.Depot.seen c.needs_at.new.depot) c.needs_at.result files x x first found (λ at missing. ap certified_at missing)
+    (g.D.Depot.seen c.with_needs.new.depot) c.with_needs.result files x x first found (λ at missing. ap certified_at missing)
     (subst (λ (fs : Option Files). Asks fs (λ at. handed_out MAX_CONFIG_BYTES (at r.needs)) (λ at. at r.needs ≡ None)
-    (g.D.Depot.seen c.certified_at.new.depot) (g.D.Depot.seen c.needs_at.new.depot) c.needs_at.result)
-    c.in_ok-config.ensures.reads.same c.needs_at.ensures.asks)
+    (g.D.Depot.seen c.certified_at.new.depot) (g.D.Depot.seen c.with_needs.new.depot) c.with_needs.result)
+    c.in_ok-config.ensures.reads.same next)
