@@ -2,10 +2,14 @@
 ghost use Rattle.std.specs.Prelude.{◌≡◌, ◌<◌, ◌==◌, ◌&&◌, find, length, option_copied, position, string_bytes, IfOk, IfSome};
 ghost use Rattle.dk_config.specs.Certification.{can_block};
 ghost use Rattle.dk_config.specs.Mutex.{Mutex};
-ghost use Rattle.dk_certify_report.specs.Certificate.{blocking_line, is_longest, is_slower_user, mutex_text, user_name};
+ghost use Rattle.dk_table.specs.Names.{HasPlainNames};
+ghost use Rattle.dk_table.specs.Records.{IsPlain};
+ghost use Rattle.dk_certify_report.specs.Certificate.{blocking_line, is_longest, is_slower_user, mutex_text, mutex_told, user_name};
 
+use crate::records::mutex_record;
 use dk_certify::{can_delay, longest_delay};
 use dk_config::{Config, MutexRow, ProcessRow};
+use dk_table::Form;
 use std::alloc::{AllocError, Global};
 
 fn is_slower_user(level: u32, mutex: &MutexRow, process: &ProcessRow) -> bool
@@ -54,6 +58,26 @@ fn mutex_text(
     format!(in alloc; "level {level} mutex {name} user {user} ticks {hold}\n")
 }
 
+/// The mutex that keeps the level waiting, in the form.
+#[tactic(auto, unfolding(crate::specs::Certificate::mutex_told))]
+fn mutex_told(
+    alloc: Global,
+    form: Form,
+    level: u32,
+    name: &str,
+    user: &str,
+    hold: u32,
+) -> Result<String, AllocError>
+    requires name { form ≡ Form.Record → IsPlain name.now }
+    requires user { form ≡ Form.Record → IsPlain user.now }
+    ensures { IfOk result (λ s. string_bytes s ≡ mutex_told form level name.now user.now hold) }
+{
+    match form {
+        Form::Line => mutex_text(alloc, level, name, user, hold),
+        Form::Record => mutex_record(alloc, level, name, user, hold),
+    }
+}
+
 /// The first row of those that keep the level waiting longest.
 fn longest(config: &Config, level: u32) -> Option<usize>
     ensures found { result ≡ position (is_longest config.now level) config.now.mutexes }
@@ -75,16 +99,19 @@ fn first_longest(config: &Config, level: u32, longest: u32, mutexes: &[MutexRow]
 /// The line of the mutex that keeps the level waiting longest, and none where none does.
 pub(crate) fn blocking_line(
     alloc: Global,
+    form: Form,
     config: &Config,
     level: u32,
 ) -> Result<String, AllocError>
-    ensures { IfOk result (λ s. string_bytes s ≡ blocking_line config.now level) }
+    requires names { form ≡ Form.Record → HasPlainNames config.now }
+    ensures { IfOk result (λ s. string_bytes s ≡ blocking_line form config.now level) }
 {
     match longest(config, level) {
         Some(place) => {
             let mutex = &config.mutexes.as_slice()[place];
-            mutex_text(
+            mutex_told(
                 alloc,
+                form,
                 level,
                 mutex.name.as_str(),
                 user_name(config, level, mutex),

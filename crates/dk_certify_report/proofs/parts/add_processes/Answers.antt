@@ -5,5 +5,5 @@ use Rattle.dk_certify_report.proofs.parts.add_processes.Goals as goal
 
 pub loop-process-preserved : goal.loop-process-preserved
 loop-process-preserved c =
-    each_added (process_line c.args.config.now c.args.level) c.loop-process.process (string_bytes c.args.text.now) (string_bytes c.loop-process.text) (string_bytes c.push_line.new.text) (string_bytes c.in_ok-line.line)
+    each_added (process_line c.args.form c.args.config.now c.args.level) c.loop-process.process (string_bytes c.args.text.now) (string_bytes c.loop-process.text) (string_bytes c.push_line.new.text) (string_bytes c.in_ok-line.line)
     c.in_ok-line.ensures c.in_ok-push_line.ensures c.loop-process.invariant

@@ -5,5 +5,5 @@ use Rattle.dk_certify_report.proofs.parts.add_releases.Goals as goal
 
 pub loop-faster-preserved : goal.loop-faster-preserved
 loop-faster-preserved c =
-    each_added (release_line c.args.config.now c.args.level) c.loop-faster.faster (string_bytes c.args.text.now) (string_bytes c.loop-faster.text) (string_bytes c.push_line.new.text) (string_bytes c.in_ok-line.line)
+    each_added (release_line c.args.form c.args.config.now c.args.level) c.loop-faster.faster (string_bytes c.args.text.now) (string_bytes c.loop-faster.text) (string_bytes c.push_line.new.text) (string_bytes c.in_ok-line.line)
     c.in_ok-line.ensures c.in_ok-push_line.ensures c.loop-faster.invariant

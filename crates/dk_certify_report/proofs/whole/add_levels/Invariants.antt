@@ -5,4 +5,4 @@ use Rattle.dk_certify_report.proofs.whole.add_levels.Given as goal
 
 -- the lines so far are added
 abbrev pub invariant-loop-level : goal.invariant-loop-level
-invariant-loop-level l = string_bytes l.text ≡ string_bytes l.initial.text ++ flat_map (level_lines l.config) (below l.level)
+invariant-loop-level l = string_bytes l.text ≡ string_bytes l.initial.text ++ flat_map (level_lines l.form l.config) (below l.level)
