@@ -79,20 +79,22 @@ windows_ends f bytes t u s (inr one) (inr two) =
     let same = one_text one.ledger two.ledger one.readable two.readable (one.bytes_are ∙ sym two.bytes_are) in
     two.told.1 ∙ ap (λ (j : Journal). windows_end f j.heading (reverse j.entries)) (sym same) ∙ sym one.told.1
 
-told_ends : (t : Telling) (c : Configuration) (v : Verdict) (x y : List ℕ) (s : Status) → IsToldOf t c v x status.Done → IsToldOf t c v y s → s ≡ status.Done
-told_ends telling.Certify c v x y s one two = two.1 ∙ sym one.1
-told_ends telling.Margins c v x y s one two = two.1
-told_ends telling.When c (verdict.Accepted rows) x y s one two = two.1
-told_ends telling.When c (verdict.Fails level needs window) x y s one two = let bad = one.1 in cc
-told_ends telling.Warnings c v x y s one two = two.1
+told_ends : (t : Telling) (csv : Bool) (c : Configuration) (v : Verdict) (x y : List ℕ) (s : Status)
+    → IsToldOf t csv c v x status.Done → IsToldOf t csv c v y s → s ≡ status.Done
+told_ends telling.Certify csv c v x y s one two = two.1 ∙ sym one.1
+told_ends telling.Margins csv c v x y s one two = two.1
+told_ends telling.When csv c (verdict.Accepted rows) x y s one two = two.1
+told_ends telling.When csv c (verdict.Fails level needs window) x y s one two = let bad = one.1 in cc
+told_ends telling.Warnings csv c v x y s one two = two.1
 
-reading_ends : (t : Telling) (r : Result Configuration LoadFault) (x y : List ℕ) (s : Status) → IsOfReading t r x status.Done → IsOfReading t r y s → s ≡ status.Done
-reading_ends t (Ok c) x y s one two = told_ends t c (verdict_of c) x y s one two
-reading_ends t (Err fault.NotToml) x y s one two = let bad = one.1 in cc
-reading_ends t (Err (fault.Config f)) x y s one two = let bad = one.1 in cc
-reading_ends t (Err fault.Depot) x y s one two = absurd one
-reading_ends t (Err (fault.TooLong p)) x y s one two = absurd one
-reading_ends t (Err fault.NoMemory) x y s one two = absurd one
+reading_ends : (t : Telling) (csv : Bool) (r : Result Configuration LoadFault) (x y : List ℕ) (s : Status)
+    → IsOfReading t csv r x status.Done → IsOfReading t csv r y s → s ≡ status.Done
+reading_ends t csv (Ok c) x y s one two = told_ends t csv c (verdict_of c) x y s one two
+reading_ends t csv (Err fault.NotToml) x y s one two = let bad = one.1 in cc
+reading_ends t csv (Err (fault.Config f)) x y s one two = let bad = one.1 in cc
+reading_ends t csv (Err fault.Depot) x y s one two = absurd one
+reading_ends t csv (Err (fault.TooLong p)) x y s one two = absurd one
+reading_ends t csv (Err fault.NoMemory) x y s one two = absurd one
 
 module _ (at : Files) (name : List ℕ) (most : ℕ) (long : Refusal) (IsOf : List ℕ → List ℕ → Status → Type 0) (x y : List ℕ) (s : Status)
     (refused : status.Done ≡ refusal_status long → ⊥) (ends : (bytes : List ℕ) → IsOf bytes x status.Done → IsOf bytes y s → s ≡ status.Done) where
@@ -148,8 +150,9 @@ request_ends (request.Holds ledger (Some file)) at x y s known one two =
     (λ c. named_ends at ledger MAX_LEDGER_BYTES why.LongLedger (IsOfOwnHolds c) x y s (λ bad. cc) (λ bytes a b. own_ends c bytes x y s a b))
     one two
 request_ends (request.Faults file) at x y s known one two = wrong_ends at file x y s (is_source_name file) one two
-request_ends (request.Tell t file) at x y s known one two =
-    named_ends at file MAX_CONFIG_BYTES why.LongConfig (IsOfDocument t) x y s (λ bad. cc) (λ bytes a b. reading_ends t (reading bytes) x y s a b) one two
+request_ends (request.Tell r) at x y s known one two =
+    named_ends at r.file MAX_CONFIG_BYTES why.LongConfig (IsOfDocument r.telling r.as_csv) x y s (λ bad. cc)
+    (λ bytes a b. reading_ends r.telling r.as_csv (reading bytes) x y s a b) one two
 request_ends (request.Chain r) at x y s known one two =
     of_ends (chain_at at r) IsChainTold x y s (λ chain a b. b.1) one two
 request_ends (request.Reactions r ledger) at x y s known one two =

@@ -6,10 +6,11 @@ use Rattle.dk_certify.specs.declared.certifying.Verdict.{Verdict}
 use Rattle.dk_certify.specs.declared.certifying.Verdict.TheVariants as verdict
 use Rattle.dk_certify.specs.Verdicts.{verdict_of}
 use Rattle.dk_document_report.specs.Telling.{Tells}
-use Rattle.dk_certify_report.specs.Certificate.{certificate_text}
-use Rattle.dk_config_report.specs.Reaches.{AreMargins}
-use Rattle.dk_config_report.specs.When.{IsWhen}
-use Rattle.dk_warning_report.specs.WarningLines.{warnings_text}
+use Rattle.dk_table.specs.declared.form.Form.{Form}
+use Rattle.dk_certify_report.specs.Certificate.{certificate_of}
+use Rattle.dk_margin_report.specs.Margins.{AreMargins}
+use Rattle.dk_when_report.specs.When.{IsWhen}
+use Rattle.dk_warning_report.specs.WarningLines.{warnings_of}
 use Rattle.dk_loader.specs.declared.fault.LoadFault.{LoadFault}
 use Rattle.dk_loader.specs.declared.fault.LoadFault.TheVariants as fault
 use Rattle.dk_loader.specs.Reading.{reading}
@@ -129,25 +130,31 @@ abbrev pub certified_end : Verdict → Status
 certified_end (verdict.Accepted rows) = status.Done
 certified_end (verdict.Fails level needs window) = status.Uncertified
 
--- what is told of a configuration
-abbrev pub IsToldOf : Telling → Configuration → Verdict → List ℕ → Status → Type 0
-IsToldOf telling.Certify c v text ended = (text ≡ certificate_text c) × (ended ≡ certified_end v)
-IsToldOf telling.Margins c v text ended = AreMargins c text × (ended ≡ status.Done)
-IsToldOf telling.When c (verdict.Accepted rows) text ended = IsWhen c text × (ended ≡ status.Done)
-IsToldOf telling.When c (verdict.Fails level needs window) text ended =
+-- the form in which it is told
+abbrev pub form_of : Bool → Form
+form_of true = Form.Record
+form_of false = Form.Line
+
+-- what is told of a configuration, as a table where that is asked for
+abbrev pub IsToldOf : Telling → Bool → Configuration → Verdict → List ℕ → Status → Type 0
+IsToldOf telling.Certify csv c v text ended =
+    (text ≡ certificate_of (form_of csv) c) × (ended ≡ certified_end v)
+IsToldOf telling.Margins csv c v text ended = AreMargins (form_of csv) c text × (ended ≡ status.Done)
+IsToldOf telling.When csv c (verdict.Accepted rows) text ended = IsWhen (form_of csv) c text × (ended ≡ status.Done)
+IsToldOf telling.When csv c (verdict.Fails level needs window) text ended =
     Says (why.Uncertified level needs window) text ended
-IsToldOf telling.Warnings c v text ended = (text ≡ warnings_text c) × (ended ≡ status.Done)
+IsToldOf telling.Warnings csv c v text ended = (text ≡ warnings_of (form_of csv) c) × (ended ≡ status.Done)
 
 -- what is told of what a document was read as
-abbrev pub IsOfReading : Telling → Result Configuration LoadFault → List ℕ → Status → Type 0
-IsOfReading t (Ok c) text ended = IsToldOf t c (verdict_of c) text ended
-IsOfReading t (Err fault.NotToml) text ended = Says why.NotToml text ended
-IsOfReading t (Err (fault.Config f)) text ended = Says (why.Rule f) text ended
-IsOfReading t (Err _) text ended = ⊥
+abbrev pub IsOfReading : Telling → Bool → Result Configuration LoadFault → List ℕ → Status → Type 0
+IsOfReading t csv (Ok c) text ended = IsToldOf t csv c (verdict_of c) text ended
+IsOfReading t csv (Err fault.NotToml) text ended = Says why.NotToml text ended
+IsOfReading t csv (Err (fault.Config f)) text ended = Says (why.Rule f) text ended
+IsOfReading t csv (Err _) text ended = ⊥
 
 -- what the bytes of a configuration come to
-abbrev pub IsOfDocument : Telling → List ℕ → List ℕ → Status → Type 0
-IsOfDocument t bytes text ended = IsOfReading t (reading bytes) text ended
+abbrev pub IsOfDocument : Telling → Bool → List ℕ → List ℕ → Status → Type 0
+IsOfDocument t csv bytes text ended = IsOfReading t csv (reading bytes) text ended
 
 -- the status tells whether the document is that of a configuration
 abbrev pub read_end : Result Configuration LoadFault → Status
@@ -173,8 +180,8 @@ IsOfRequest (request.Windows ledger form) at text ended =
     IsOfNamed at ledger MAX_LEDGER_BYTES why.LongLedger (IsOfWindows form) text ended
 IsOfRequest (request.Holds ledger file) at text ended = IsOfHeld file at ledger text ended
 IsOfRequest (request.Faults file) at text ended = IsAllWrong at file text ended
-IsOfRequest (request.Tell t file) at text ended =
-    IsOfNamed at file MAX_CONFIG_BYTES why.LongConfig (IsOfDocument t) text ended
+IsOfRequest (request.Tell r) at text ended =
+    IsOfNamed at r.file MAX_CONFIG_BYTES why.LongConfig (IsOfDocument r.telling r.as_csv) text ended
 IsOfRequest (request.Chain r) at text ended = IsOf (chain_at at r) IsChainTold text ended
 IsOfRequest (request.Reactions r ledger) at text ended =
     IsOf (chain_at at r) (λ chain. IsOfNamed at ledger MAX_LEDGER_BYTES why.LongLedger (IsOfReactions chain)) text ended

@@ -114,7 +114,7 @@ pub(crate) fn plan<D: Depot>(
         Request::Windows { ledger, form } => windows_plan(alloc, ledger.as_str(), *form, depot),
         Request::Holds { ledger, file } => holds_plan(alloc, ledger.as_str(), file, depot),
         Request::Faults(file) => faults_plan(alloc, file.as_str(), depot),
-        Request::Tell(telling, file) => telling_plan(alloc, *telling, file.as_str(), depot),
+        Request::Tell(request) => telling_plan(alloc, request, depot),
         Request::Chain(request) => chain_plan(alloc, request, depot),
         Request::Reactions { chain, ledger } => {
             reactions_plan(alloc, chain, ledger.as_str(), depot)

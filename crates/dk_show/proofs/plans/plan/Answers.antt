@@ -1,9 +1,9 @@
 use Rattle.std.proofs.Common.{ℕ, List, sym, subst}
 use Rattle.std.specs.Prelude.{IfSome}
-use Rattle.dk_config.specs.declared.TheConstants.{MAX_CONFIG_BYTES, MAX_LEDGER_BYTES}
+use Rattle.dk_config.specs.declared.TheConstants.{MAX_LEDGER_BYTES}
 use Rattle.dk_show.specs.declared.refusal.Refusal.TheVariants as why
 use Rattle.dk_show_request.specs.declared.request.Request.{Request}
-use Rattle.dk_show.specs.Output.{IsAllWrong, IsOfDocument, IsOfNamed, IsOfPicture, IsOfRequest}
+use Rattle.dk_show.specs.Output.{IsAllWrong, IsOfNamed, IsOfPicture, IsOfRequest}
 use Rattle.dk_show.specs.Held.{IsOfHeld}
 use Rattle.dk_show.specs.Loading.{IsOfLoaded}
 use Rattle.dk_show.specs.Repeats.{IsOfRepeats}
@@ -59,6 +59,4 @@ pub returns-in-Tell-clause-plans : goal.returns-in-Tell-clause-plans
 returns-in-Tell-clause-plans g c =
     let files = (g.D.Depot.seen c.args.depot.now).files in
     let result = c.telling_plan.result in
-    let telling = c.in-Tell.telling in
-    let named = subst (λ (name : List ℕ). IfSome files (λ at. Plans (IsOfNamed at name MAX_CONFIG_BYTES why.LongConfig (IsOfDocument telling)) result)) c.as_str-in-Tell.ensures c.telling_plan.ensures.plans in
-    subst (λ (r : Request). IfSome files (λ at. Plans (IsOfRequest r at) result)) (sym c.in-Tell.is) named
+    subst (λ (r : Request). IfSome files (λ at. Plans (IsOfRequest r at) result)) (sym c.in-Tell.is) c.telling_plan.ensures.plans
