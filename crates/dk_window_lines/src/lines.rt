@@ -63,7 +63,7 @@ fn write_rest<S: Sink>(
 }
 
 /// Writes what each thread did, what befell each process, which window each thread overran first, and why the ledger
-/// isn't clean, where it has to be. It takes no memory.
+/// isn't clean, where it has to be. It needs no memory.
 pub fn write_lines<S: Sink>(
     report: &WindowReport,
     strictness: Strictness,
