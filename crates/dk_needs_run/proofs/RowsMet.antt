@@ -1,6 +1,6 @@
 -- When the rows of a need of a run are met.
-use Rattle.std.proofs.Common.{ℕ, ◌≡◌, ◌≤◌, ◌∙◌, ◌++◌, ◌∷◌, [], true, false, List, Some, None, ap, sym, refl, subst, length, arith}
-use Rattle.std.specs.Prelude.{◌↔◌, Bool, ◌&&◌, nat_le, Option, IsTrue, if◌then◌else◌}
+use Rattle.std.proofs.Common.{ℕ, ◌≡◌, ◌≤◌, ◌∙◌, ◌++◌, true, false, Some, None, ap, sym, refl, subst, length, arith}
+use Rattle.std.specs.Prelude.{Bool, ◌&&◌, nat_le, Option, if◌then◌else◌}
 use Rattle.std.specs.List.{list_all}
 use Rattle.std.proofs.lemmas.Bool.{and_from, and_parts}
 use Rattle.std.proofs.lemmas.Bool.Decides.{nat_tests}
@@ -8,13 +8,10 @@ use Rattle.std.proofs.lemmas.List.Folds.{list_all-append}
 use Rattle.dk_config.specs.Configuration.{Configuration}
 use Rattle.dk_trace.specs.Audit.{Audited}
 use Rattle.dk_ledger.specs.Readable.{Journal}
-use Rattle.dk_audit.specs.declared.finding.Finding.{Finding}
 use Rattle.dk_audit.specs.declared.finding.Finding.TheVariants as finding
 use Rattle.dk_audit.specs.Findings.{IsFinding, IsFoundOnce, whole_past}
-use Rattle.dk_needs_check.specs.declared.row.Answer.{Answer}
 use Rattle.dk_needs_check.specs.declared.row.Audit.{Audit}
 use Rattle.dk_needs_check.specs.declared.row.Measure.{Measure}
-use Rattle.dk_needs_check.specs.declared.row.Row.{Row}
 use Rattle.dk_needs_check.specs.declared.row.Verdict.{Verdict}
 use Rattle.dk_needs_check.specs.Bounds.{audit_verdict, is_upper, keeps}
 use Rattle.dk_needs_check.specs.Text.{is_met_row, is_verdict_met}

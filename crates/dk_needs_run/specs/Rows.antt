@@ -1,5 +1,5 @@
 -- The rows of needs, with those of a run where a ledger says what it was.
-use Rattle.std.specs.Prelude.{ℕ, ◌≡◌, ◌≢◌, ◌↔◌, true, List, [], ◌∷◌, ◌++◌, flat_map, slice_get, IsTrue, Option, Some, None}
+use Rattle.std.specs.Prelude.{ℕ, ◌≡◌, ◌≢◌, ◌↔◌, List, [], ◌∷◌, ◌++◌, flat_map, slice_get, IsTrue, Option, Some, None}
 use Rattle.std.specs.Option.{option_map_or}
 use Rattle.dk_config.specs.Configuration.{Configuration}
 use Rattle.dk_ledger.specs.Readable.{Journal}
@@ -13,7 +13,7 @@ use Rattle.dk_needs_check.specs.Rows.{AreRows}
 use Rattle.dk_needs_check.specs.Text.{are_met}
 use Rattle.dk_needs_check.specs.Unknown.{unknown_of}
 use Rattle.dk_needs_run.specs.declared.found.RunFound.{RunFound}
-use Rattle.dk_needs_run.specs.Run.{IsRunIn, IsRunMet, IsRunOf}
+use Rattle.dk_needs_run.specs.Run.{IsRunIn, IsRunMet}
 
 -- the row of a number, where anything is asked of it
 abbrev pub bound_row : ℕ → Measure → ℕ → Option ℕ → List Row

@@ -6,7 +6,7 @@ use Rattle.dk_trace.specs.Audit.{Audited}
 use Rattle.dk_ledger.specs.Heading.{Heading}
 use Rattle.dk_ledger.specs.Readable.{IsNoText, IsReadable, IsWrongLine, Journal, text_of}
 use Rattle.dk_audit.specs.declared.finding.Finding.{Finding}
-use Rattle.dk_audit.specs.Findings.{IsFinding, IsOwnHeading, whole_past}
+use Rattle.dk_audit.specs.Findings.{IsFinding, whole_past}
 use Rattle.dk_audit.specs.Lines.{IsFoundIn}
 use Rattle.dk_window_report.specs.declared.account.Account.{Account}
 use Rattle.dk_window_report.specs.Accounts.{accounts_of}
