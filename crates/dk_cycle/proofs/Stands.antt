@@ -55,9 +55,9 @@ pub saved-now : (c : Configuration) (programs : List (List ℕ)) (p own : ℕ) (
 saved-now c programs p own now period is begins = record { begins = begins-by c p now.tick own period begins; is = is }
 
 -- a search that found a cycle, or keeps what the process is now
-pub with-cycle : (c : Configuration) (programs : List (List ℕ)) (search : OwnSearch) (now : MainState) (y : Cycle) → IsOwnSearch c programs search
+pub with-cycle : (c : Configuration) (programs : List (List ℕ)) (search : OwnSearch) (now : MainState) (y : Cycle) → IsOwnSearch c programs now.tick search
     → IsMainState c programs search.process now → now.tick % search.period ≡ 0 → IsFound search.saved now y
-    → IsOwnSearch c programs (record search { cycle = Some y })
+    → IsOwnSearch c programs now.tick (record search { cycle = Some y })
 with-cycle c programs search now y is state begins found = record {
   known = is.known;
   period = is.period;
@@ -65,10 +65,11 @@ with-cycle c programs search now y is state begins found = record {
   keeping = is.keeping;
   saved = is.saved;
   cycle = process-again c programs search.process search.saved now y is.saved state (begins-by c search.process now.tick search.period is.period begins) found;
+  within = let later = found.later in let start = found.start in let long = found.lasts in omega (arith, later, start, long);
 }
 
-pub with-saved : (c : Configuration) (programs : List (List ℕ)) (search : OwnSearch) (now : MainState) → IsOwnSearch c programs search
-    → IsMainState c programs search.process now → now.tick % search.period ≡ 0 → IsOwnSearch c programs (record search { saved = Some now })
+pub with-saved : (c : Configuration) (programs : List (List ℕ)) (search : OwnSearch) (now : MainState) → IsOwnSearch c programs now.tick search
+    → IsMainState c programs search.process now → now.tick % search.period ≡ 0 → IsOwnSearch c programs now.tick (record search { saved = Some now })
 with-saved c programs search now is state begins = record {
   known = is.known;
   period = is.period;
@@ -76,6 +77,7 @@ with-saved c programs search now is state begins = record {
   keeping = is.keeping;
   saved = saved-now c programs search.process search.period now is.period state begins;
   cycle = is.cycle;
+  within = is.within;
 }
 
 -- states that are the same, place by place

@@ -37,7 +37,7 @@ run-is-told law c programs tick search checked accepted is = record {
 }
 
 pub own-is-told : StandsAgainAsAlone → ProcessesRepeat → OwnIsTold
-own-is-told as-alone repeats c programs search checked accepted is = record {
+own-is-told as-alone repeats c programs tick search checked accepted is = record {
   keeping = is.keeping;
   cycle = λ keeps.
       own-cycle c programs search.process search.cycle as-alone repeats checked accepted (subst (IsKeeping c search.process (slice_index_or programs search.process [])) keeps is.keeping) is.cycle;

@@ -3,3 +3,4 @@ pub mod Own
 pub mod Run
 pub mod Repeating
 pub mod Told
+pub mod Waiting

@@ -44,5 +44,5 @@ RunIsTold = (c : Configuration) (programs : List (List ℕ)) (tick : ℕ) (searc
     → IsRunTold c programs (run_told search)
 
 abbrev pub OwnIsTold : Type 0
-OwnIsTold = (c : Configuration) (programs : List (List ℕ)) (search : OwnSearch) → IsChecked c → IsAccepted c → IsOwnSearch c programs search
+OwnIsTold = (c : Configuration) (programs : List (List ℕ)) (tick : ℕ) (search : OwnSearch) → IsChecked c → IsAccepted c → IsOwnSearch c programs tick search
     → IsOwnTold c programs (own_told search)

@@ -7,11 +7,13 @@ mod keeping;
 mod own;
 mod run;
 mod told;
+mod waiting;
 
 pub use keeping::Keeping;
 pub use own::{MainState, OwnSearch};
 pub use run::{ProcessState, RunSearch, RunState, ThreadState};
 pub use told::{OwnTold, RunTold, own_told, run_told, told_law};
+pub use waiting::{WaitWatch, Waits, waits_law, waits_told};
 
 /// From tick `start` on the same comes every `length` ticks.
 #[derive(Clone, Copy)]

@@ -1,5 +1,5 @@
 //! The search for a cycle of one process by itself.
-ghost use Rattle.std.specs.Prelude.{ℕ, List, [], ◌≡◌, ◌<◌, ◌%◌, length, slice_index_or, true, IfSome};
+ghost use Rattle.std.specs.Prelude.{ℕ, List, [], ◌≡◌, ◌<◌, ◌%◌, length, slice_index_or, true, IfSome, is_some};
 ghost use Rattle.dk_config.specs.Configuration.{Configuration};
 ghost use Rattle.dk_config.specs.Checked.{IsChecked};
 ghost use Rattle.dk_config.specs.Windows.{main_level, period};
@@ -41,7 +41,7 @@ pub(crate) fn period_of(config: &Config, level: usize) -> u32
     }
 }
 
-fn level_of(config: &Config, process: u8) -> u32
+pub(crate) fn level_of(config: &Config, process: u8) -> u32
     ensures { result ≡ main_level config.now process }
 {
     match config.processes.get(process as usize) {
@@ -52,14 +52,16 @@ fn level_of(config: &Config, process: u8) -> u32
 
 /// Whether two contexts are equal.
 pub(crate) fn same_context(one: &Context, other: &Context) -> bool
-    ensures { result ≡ true → one.now ≡ other.now }
+    ensures same { result ≡ true → one.now ≡ other.now }
+    ensures only { one.now ≡ other.now → result ≡ true }
 {
     one.pc == other.pc && one.left == other.left && one.regs == other.regs
 }
 
 /// Whether the process is the same, but for the tick.
 fn same_main(one: &MainState, other: &MainState) -> bool
-    ensures { result ≡ true → IsSameMain one.now other.now }
+    ensures same { result ≡ true → IsSameMain one.now other.now }
+    ensures only { IsSameMain one.now other.now → result ≡ true }
 {
     one.stopped == other.stopped
         && same_context(&one.context, &other.context)
@@ -69,14 +71,14 @@ fn same_main(one: &MainState, other: &MainState) -> bool
 impl OwnSearch {
     ghost use Rattle.std.specs.Prelude.{[], slice_index_or, ℕ, List, ◌%◌};
     ghost use Rattle.dk_config.specs.Configuration.{Configuration};
-    ghost use Rattle.dk_cycle.specs.Own.{IsFound, IsMainState, IsOwnSearch, Looks};
+    ghost use Rattle.dk_cycle.specs.Own.{Finds, IsBack, IsFound, IsMainState, IsOwnSearch, Looks};
 
     /// Before the first tick, of the process with this program.
     pub fn new(config: &Config, process: u8, program: &[u8]) -> OwnSearch
         requires checked { IsChecked config.now }
         requires known { process < length config.now.processes }
         ensures own { (programs : List (List ℕ)) → slice_index_or programs process [] ≡ program.now
-            → IsOwnSearch config.now programs result }
+            → IsOwnSearch config.now programs 0 result }
         ensures process { result.process ≡ process }
     {
         OwnSearch {
@@ -103,7 +105,8 @@ impl OwnSearch {
 
     /// The cycle that ends now, where the process is what it was at the tick that is kept.
     fn ends(&self, now: &MainState) -> Option<Cycle>
-        ensures { IfSome result (IsFound self.now.saved now.now) }
+        ensures found { IfSome result (IsFound self.now.saved now.now) }
+        ensures finds { IsBack self.now.saved now.now → is_some result ≡ true }
     {
         match &self.saved {
             None => None,
@@ -131,6 +134,7 @@ impl OwnSearch {
     /// Looks at what the process is now, where a window of its main begins.
     pub fn look(&mut self, now: MainState)
         ensures own { Looks self.old now self.new }
+        ensures finds { Finds self.old now self.new }
         ensures process { self.new.process ≡ self.old.process }
     {
         if let Some(cycle) = self.ends(&now) {
