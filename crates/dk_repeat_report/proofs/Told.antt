@@ -5,29 +5,42 @@ use Rattle.dk_config.specs.Configuration.{Configuration}
 use Rattle.dk_config.specs.Checked.{IsChecked, IsAccepted}
 use Rattle.dk_cycle.specs.declared.Cycle.{Cycle}
 use Rattle.dk_cycle.specs.declared.run.RunSearch.{RunSearch}
-use Rattle.dk_cycle.specs.declared.told.OwnTold.{OwnTold}
+use Rattle.dk_cycle.specs.declared.keeping.Keeping.{Keeping}
+use Rattle.dk_cycle.specs.declared.keeping.Keeping.TheVariants as kind
 use Rattle.dk_cycle.specs.Told.{HasCycle, IsOwnTold, OwnIsTold, RunIsTold, run_told}
 use Rattle.dk_cycle_counts.specs.declared.process.ProcessUse.{ProcessUse}
 use Rattle.dk_cycle_counts.specs.declared.counts.CycleCounts.{CycleCounts}
 use Rattle.dk_repeat_report.specs.declared.own.OwnFound.{OwnFound}
 use Rattle.dk_repeat_report.specs.Cycles.{CyclesAreAlike}
-use Rattle.dk_repeat_report.specs.OwnUses.{IsEachUse, IsOneFound, IsOneUse, IsOwnFound, OwnCyclesAreAlike}
+use Rattle.dk_repeat_report.specs.OwnUses.{IsEachUse, IsOneFound, IsOneUse, IsOwnFound, OwnCyclesAreAlike, cycle_by, own_cycle}
 use Rattle.dk_repeat_report.specs.Lines.{IsRepeats, names_of}
 use Rattle.dk_repeat_report.specs.Found.{AreOf, Tells, found_text}
 use Rattle.dk_repeat_report.proofs.Cycles.{each-counted}
 
-each-use : (c : Configuration) (programs : List (List ℕ)) (told : OwnTold) (o : Option ProcessUse) → OwnCyclesAreAlike → IsOwnTold c programs told
-    → IfSome o (IsOneUse c programs told) → IfSome o (IsEachUse c programs told)
-each-use c programs told None law is one = tt
-each-use c programs told (Some u) law is one =
-    let has : HasCycle c programs told.process one.cycle = subst (λ (o : Option Cycle). IfSome o (HasCycle c programs told.process)) one.found (is.cycle one.keeps) in
-    record { keeps = one.keeps; cycle = one.cycle; found = one.found; uses = law c programs told.process one.cycle u has one.uses }
+-- where one cycle is counted each is
+each-use : (c : Configuration) (programs : List (List ℕ)) (p : ℕ) (o : Option Cycle) (done : Option ProcessUse) → OwnCyclesAreAlike → IfSome o (HasCycle c programs p)
+    → IsOneUse c programs p o done → IsEachUse c programs p o done
+each-use c programs p None None law has one = tt
+each-use c programs p None (Some u) law has one = one
+each-use c programs p (Some y) None law has one = one
+each-use c programs p (Some y) (Some u) law has one = law c programs p y u has one
+
+-- a process that keeps to itself has the cycle that was found
+has-cycle : (c : Configuration) (programs : List (List ℕ)) (p : ℕ) (keeping : Keeping) (o : Option Cycle)
+    → (keeping ≡ kind.Keeps → IfSome o (HasCycle c programs p)) → IfSome (cycle_by keeping o) (HasCycle c programs p)
+has-cycle c programs p kind.Keeps o has = has refl
+has-cycle c programs p kind.ReadsTick o has = tt
+has-cycle c programs p kind.HasThreads o has = tt
+has-cycle c programs p kind.HasSlack o has = tt
 
 own-found : (c : Configuration) (programs : List (List ℕ)) (f : OwnFound) → OwnIsTold → OwnCyclesAreAlike → IsChecked c → IsAccepted c → IsOneFound c programs f
     → IsOwnFound c programs f
 own-found c programs f told-law law checked accepted one =
-    let told : IsOwnTold c programs f.told = subst (IsOwnTold c programs) (sym one.told) (told-law c programs one.search checked accepted one.is) in
-    record { told = told; done = each-use c programs f.told f.done law told one.done }
+    let told : IsOwnTold c programs f.told = subst (IsOwnTold c programs) (sym one.told) (told-law c programs one.tick one.search checked accepted one.is) in
+    record {
+      told = told;
+      done = each-use c programs f.told.process (own_cycle f.told) f.done law (has-cycle c programs f.told.process f.told.keeping f.told.cycle told.cycle) one.done;
+    }
 
 -- what was found is told
 pub repeats-text : (c : Configuration) (programs : List (List ℕ)) (ticks : ℕ) (run : RunSearch) (counts : Option CycleCounts) (own : List OwnFound) (text : List ℕ)

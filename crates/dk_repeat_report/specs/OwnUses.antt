@@ -1,7 +1,8 @@
 -- What is counted of a cycle of a process by itself, and so of each of its cycles in every run.
-use Rattle.std.specs.Prelude.{ℕ, ◌≡◌, ◌+◌, ◌*◌, List, [], Some, slice_index_or, IfSome}
+use Rattle.std.specs.Prelude.{ℕ, ◌≡◌, ◌+◌, ◌*◌, List, [], Option, Some, None, slice_index_or}
 use Rattle.dk_config.specs.Configuration.{Configuration}
 use Rattle.dk_cycle.specs.declared.Cycle.{Cycle}
+use Rattle.dk_cycle.specs.declared.keeping.Keeping.{Keeping}
 use Rattle.dk_cycle.specs.declared.keeping.Keeping.TheVariants as kind
 use Rattle.dk_cycle.specs.declared.own.OwnSearch.{OwnSearch}
 use Rattle.dk_cycle.specs.declared.told.OwnTold.{OwnTold}
@@ -37,31 +38,42 @@ abbrev pub UsesEach : Configuration → List (List ℕ) → ℕ → Cycle → Pr
 UsesEach c programs p y u =
     (others : List (List ℕ)) (cycles : ℕ) → slice_index_or programs p [] ≡ slice_index_or others p [] → IsUseAfter c others p y u cycles
 
--- the process keeps to itself, and one of its cycles is counted
-pub record IsOneUse (c : Configuration) (programs : List (List ℕ)) (told : OwnTold) (u : ProcessUse) : Type 0 where
-  pub keeps : told.keeping ≡ kind.Keeps
-  pub cycle : Cycle
-  pub found : told.cycle ≡ Some cycle
-  pub uses : UsesOne c programs told.process cycle u
+-- the cycle that was found of a process that keeps to itself
+abbrev pub cycle_by : Keeping → Option Cycle → Option Cycle
+cycle_by kind.Keeps cycle = cycle
+cycle_by kind.ReadsTick cycle = None
+cycle_by kind.HasThreads cycle = None
+cycle_by kind.HasSlack cycle = None
+
+abbrev pub own_cycle : OwnTold → Option Cycle
+own_cycle told = cycle_by told.keeping told.cycle
+
+-- one cycle of the process is counted, where it has cycles, and nothing else is
+abbrev pub IsOneUse : Configuration → List (List ℕ) → ℕ → Option Cycle → Option ProcessUse → Type 0
+IsOneUse c programs p None None = Unit {0}
+IsOneUse c programs p (Some y) (Some u) = UsesOne c programs p y u
+IsOneUse c programs p None (Some u) = ⊥
+IsOneUse c programs p (Some y) None = ⊥
 
 -- and so each of its cycles in every run is
-pub record IsEachUse (c : Configuration) (programs : List (List ℕ)) (told : OwnTold) (u : ProcessUse) : Type 0 where
-  pub keeps : told.keeping ≡ kind.Keeps
-  pub cycle : Cycle
-  pub found : told.cycle ≡ Some cycle
-  pub uses : UsesEach c programs told.process cycle u
+abbrev pub IsEachUse : Configuration → List (List ℕ) → ℕ → Option Cycle → Option ProcessUse → Type 0
+IsEachUse c programs p None None = Unit {0}
+IsEachUse c programs p (Some y) (Some u) = UsesEach c programs p y u
+IsEachUse c programs p None (Some u) = ⊥
+IsEachUse c programs p (Some y) None = ⊥
 
 -- what a search of the run found, and what is counted of one of the cycles of the process
 pub record IsOneFound (c : Configuration) (programs : List (List ℕ)) (f : OwnFound) : Type 0 where
+  pub tick : ℕ
   pub search : OwnSearch
-  pub is : IsOwnSearch c programs search
+  pub is : IsOwnSearch c programs tick search
   pub told : f.told ≡ own_told search
-  pub done : IfSome f.done (IsOneUse c programs f.told)
+  pub done : IsOneUse c programs f.told.process (own_cycle f.told) f.done
 
 -- what is told of the process, of each of its cycles in every run
 pub record IsOwnFound (c : Configuration) (programs : List (List ℕ)) (f : OwnFound) : Type 0 where
   pub told : IsOwnTold c programs f.told
-  pub done : IfSome f.done (IsEachUse c programs f.told)
+  pub done : IsEachUse c programs f.told.process (own_cycle f.told) f.done
 
 -- what is told of one cycle of a process that repeats whatever the others do is told of each, in every run
 abbrev pub OwnCyclesAreAlike : Type 0
