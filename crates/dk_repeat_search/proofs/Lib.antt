@@ -1,4 +1,5 @@
 pub mod Places
 pub mod Shown
 pub mod Counting
+pub mod Owning
 pub mod Told

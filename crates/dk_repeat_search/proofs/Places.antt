@@ -42,5 +42,5 @@ range-more n =
     sym (map-id (range_with_len 0 (n + 1))) ∙ map-range_with_len_more (λ (m : ℕ). m) 0 n n (omega arith)
     ∙ ap (λ ms. ms ++ n ∷ []) (map-id (range_with_len 0 n))
 
-pub many-own : (c : Configuration) (programs : List (List ℕ)) (own : List OwnSearch) → AreOwn c programs own → length own ≡ length c.processes
-many-own c programs own are = sym (length-map own process_of) ∙ ap length are.processes ∙ length-range_with_len 0 (length c.processes)
+pub many-own : (c : Configuration) (programs : List (List ℕ)) (tick : ℕ) (own : List OwnSearch) → AreOwn c programs tick own → length own ≡ length c.processes
+many-own c programs tick own are = sym (length-map own process_of) ∙ ap length are.processes ∙ length-range_with_len 0 (length c.processes)

@@ -1,15 +1,16 @@
 -- What is counted of a cycle.
-use Rattle.std.specs.Prelude.{ℕ, ◌≡◌, ◌+◌, ◌*◌, List, None}
+use Rattle.std.specs.Prelude.{ℕ, ◌≡◌, ◌+◌, ◌*◌, List, length, map, All}
+use Rattle.std.specs.List.{range_with_len}
 use Rattle.dk_config.specs.Configuration.{Configuration}
 use Rattle.dk_loader.specs.Workload.{Workload}
 use Rattle.dk_cycle.specs.declared.Cycle.{Cycle}
-use Rattle.dk_cycle.specs.declared.own.OwnSearch.{OwnSearch}
-use Rattle.dk_cycle.specs.Told.{own_told}
 use Rattle.dk_cycle_counts.specs.declared.process.MainShare.{MainShare}
 use Rattle.dk_cycle_counts.specs.declared.counts.CycleCounts.{CycleCounts}
 use Rattle.dk_cycle_counts.specs.Counts.{AreCountsOf}
 use Rattle.dk_repeat_report.specs.declared.own.OwnFound.{OwnFound}
 use Rattle.dk_repeat_report.specs.Cycles.{entries_from}
+use Rattle.dk_repeat_report.specs.Lines.{process_of}
+use Rattle.dk_repeat_report.specs.OwnUses.{IsOneFound}
 use Rattle.dk_repeat_report.specs.Found.{AreOf}
 use Rattle.dk_repeat_search.specs.declared.count.Found.{Found}
 
@@ -26,6 +27,7 @@ pub record CountsSome (c : Configuration) (programs : List (List ℕ)) (shares :
 abbrev pub IsFound : Workload → Found → Type 0
 IsFound w f = AreOf w.config w.programs f.run f.counts f.own.items
 
--- what a search found of a process by itself
-abbrev pub found_of : OwnSearch → OwnFound
-found_of search = record { told = own_told search; done = None }
+-- what was found of each process by itself, in the order of the rows
+pub record AreOwnFound (c : Configuration) (programs : List (List ℕ)) (own : List OwnFound) : Type 0 where
+  pub all : All (IsOneFound c programs) own
+  pub processes : map process_of own ≡ range_with_len 0 (length c.processes)

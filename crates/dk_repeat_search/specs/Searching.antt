@@ -16,14 +16,14 @@ begun w = record { config = w.config; programs = w.programs; ticks = 0 }
 abbrev pub process_of : OwnSearch → ℕ
 process_of search = search.process
 
--- they are of this run, one for each process, in the order of the rows
-pub record AreOwn (c : Configuration) (programs : List (List ℕ)) (own : List OwnSearch) : Type 0 where
-  pub all : All (IsOwnSearch c programs) own
+-- they are of this run up to the tick, one for each process, in the order of the rows
+pub record AreOwn (c : Configuration) (programs : List (List ℕ)) (tick : ℕ) (own : List OwnSearch) : Type 0 where
+  pub all : All (IsOwnSearch c programs tick) own
   pub processes : map process_of own ≡ range_with_len 0 (length c.processes)
 
 pub record IsSearching (k : Running) (s : Searches) : Type 0 where
   pub run : IsRunSearch k.config k.programs k.ticks s.run
-  pub own : AreOwn k.config k.programs s.own.items
+  pub own : AreOwn k.config k.programs k.ticks s.own.items
 
 -- after some ticks of the run of this configuration with these programs
 abbrev pub IsSearched : Workload → Searches → Type 0

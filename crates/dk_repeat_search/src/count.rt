@@ -1,5 +1,5 @@
 //! What is counted of a cycle of the run, of which one tells of all.
-ghost use Rattle.std.specs.Prelude.{List, [], ◌≡◌, ◌+◌, ◌*◌, ◌<◌, ◌≤◌, map, take, IfOk, OnOk};
+ghost use Rattle.std.specs.Prelude.{List, [], ◌≡◌, ◌+◌, ◌*◌, ◌<◌, ◌≤◌, take, IfOk, OnOk};
 ghost use Rattle.dk_config.specs.declared.TheConstants.{MAX_RUN_TICKS, MAX_TICKS};
 ghost use Rattle.dk_config.specs.Windows.{budget, main_level, period};
 ghost use Rattle.dk_kernel.specs.Booting.{IsLoaded};
@@ -8,10 +8,10 @@ ghost use Rattle.dk_cycle.specs.Run.{IsRunSearch};
 ghost use Rattle.dk_cycle_counts.specs.declared.process.MainShare.{MainShare};
 ghost use Rattle.dk_cycle_counts.specs.Counts.{AreCountsOf};
 ghost use Rattle.dk_repeat_report.specs.Cycles.{IsOneCounted, share_at, shares_of};
-ghost use Rattle.dk_repeat_search.specs.Counting.{CountsSome, StartsCycle, found_of};
+ghost use Rattle.dk_repeat_search.specs.Counting.{CountsSome, StartsCycle};
 
 use dk_config::{Config, MAX_RUN_TICKS, MAX_TICKS, NoMemory};
-use dk_cycle::{Cycle, OwnSearch, RunSearch, own_told};
+use dk_cycle::{Cycle, RunSearch};
 use dk_cycle_counts::{CycleCounts, MainShare};
 use dk_kernel::Kernel;
 use dk_loader::Loaded;
@@ -113,7 +113,7 @@ fn count<L: Ledger>(counts: &mut CycleCounts, kernel: &mut Kernel, ticks: u32, s
 }
 
 /// Counts the cycle that starts next, of these processes.
-fn count_cycle<L: Ledger>(
+pub(crate) fn count_cycle<L: Ledger>(
     alloc: Global,
     kernel: &mut Kernel,
     cycle: Cycle,
@@ -126,6 +126,7 @@ fn count_cycle<L: Ledger>(
     ensures counts { IfOk result (CountsSome kernel.old.config kernel.old.programs shares.now cycle) }
     ensures config { OnOk result (kernel.new.config ≡ kernel.old.config) }
     ensures programs { OnOk result (kernel.new.programs ≡ kernel.old.programs) }
+    ensures low { OnOk result (kernel.old.ticks ≤ kernel.new.ticks) }
     ensures ticks { OnOk result (kernel.new.ticks ≤ kernel.old.ticks + 2 * cycle.length) }
 {
     let mut counts = CycleCounts::new(alloc, shares)?;
@@ -149,6 +150,7 @@ pub(crate) fn count_run<L: Ledger>(
     ensures counted { IfOk result (IsOneCounted kernel.old.config kernel.old.programs search.now.cycle) }
     ensures config { OnOk result (kernel.new.config ≡ kernel.old.config) }
     ensures programs { OnOk result (kernel.new.programs ≡ kernel.old.programs) }
+    ensures low { OnOk result (kernel.old.ticks ≤ kernel.new.ticks) }
     ensures ticks { OnOk result (kernel.new.ticks ≤ 3 * MAX_RUN_TICKS) }
 {
     match search.cycle {
@@ -158,18 +160,4 @@ pub(crate) fn count_run<L: Ledger>(
             Ok(Some(counts))
         }
     }
-}
-
-/// What was found of each process by itself.
-pub(crate) fn all_found(alloc: Global, own: &[OwnSearch]) -> Result<Vec<OwnFound>, NoMemory>
-    ensures { IfOk result (λ all. all.items ≡ map found_of own.now) }
-{
-    let mut all = Vec::new(alloc);
-    for search in own {
-        all.push(OwnFound {
-            told: own_told(search),
-            done: None,
-        })?;
-    }
-    Ok(all)
 }

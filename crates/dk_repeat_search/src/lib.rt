@@ -2,6 +2,7 @@
 #![tactic(auto)]
 
 mod count;
+mod own;
 mod report;
 mod search;
 mod states;

@@ -6,7 +6,8 @@ ghost use Rattle.dk_repeat_report.specs.Lines.{names_of};
 ghost use Rattle.dk_repeat_search.specs.Repeats.{IsRepeatsOf, repeats};
 ghost use Rattle.dk_repeat_search.specs.Counting.{IsFound};
 
-use crate::count::{Found, all_found, count_run, shares_of};
+use crate::count::{Found, count_run, shares_of};
+use crate::own::all_found;
 use crate::search::Searches;
 use dk_config::{Config, MAX_RUN_TICKS, NoMemory, Text};
 use dk_config_report::Page;
@@ -44,7 +45,7 @@ fn names_of(alloc: Global, config: &Config) -> Result<Vec<Text>, NoMemory>
     Ok(names)
 }
 
-/// The ticks of the kernel, whose steps aren't counted: those of the searches, and those of a cycle that is counted.
+/// The ticks of the kernel, whose steps aren't counted: those of the searches, and those of the cycles that are counted.
 fn searched_by<L: Ledger>(
     alloc: Global,
     loaded: Loaded,
@@ -64,6 +65,7 @@ fn searched_by<L: Ledger>(
     match Kernel::boot(alloc, loaded) {
         Ok(mut kernel) => {
             searches.search(alloc, &mut kernel, ticks, &mut steps)?;
+            let reached = kernel.now();
             let counts = count_run(
                 alloc,
                 &mut kernel,
@@ -71,7 +73,14 @@ fn searched_by<L: Ledger>(
                 shares.as_slice(),
                 &mut steps,
             )?;
-            let own = all_found(alloc, searches.own.as_slice())?;
+            let own = all_found(
+                alloc,
+                &mut kernel,
+                searches.own.as_slice(),
+                shares.as_slice(),
+                reached,
+                &mut steps,
+            )?;
             Ok(Found {
                 run: searches.run,
                 counts,

@@ -14,6 +14,7 @@ use dk_isa::holds_call;
 use dk_kernel::Kernel;
 use dk_loader::Loaded;
 use dk_steps::Steps;
+use dk_trace::Entry;
 use std::alloc::Global;
 use std::sync::ledger::Ledger;
 
@@ -56,7 +57,7 @@ fn reader_of(loaded: &Loaded) -> Option<u8>
 /// The search for the cycle of each process, before the first tick.
 fn own_searches(alloc: Global, loaded: &Loaded) -> Result<Vec<OwnSearch>, NoMemory>
     requires { IsLoaded loaded.now }
-    ensures { IfOk result (λ own. AreOwn loaded.now.config loaded.now.programs own.items) }
+    ensures { IfOk result (λ own. AreOwn loaded.now.config loaded.now.programs 0 own.items) }
 {
     let mut own = Vec::new(alloc);
     for process in 0..loaded.config.processes.len() {
@@ -74,9 +75,9 @@ fn look_at(
     kernel: &Kernel,
     tick: u32,
 ) -> Result<(), NoMemory>
-    requires own { IsOwnSearch kernel.now.config kernel.now.programs search.old }
+    requires own { IsOwnSearch kernel.now.config kernel.now.programs kernel.now.ticks search.old }
     requires tick { tick ≡ kernel.now.ticks }
-    ensures own { OnOk result (IsOwnSearch kernel.now.config kernel.now.programs search.new) }
+    ensures own { OnOk result (IsOwnSearch kernel.now.config kernel.now.programs kernel.now.ticks search.new) }
     ensures same { OnOk result (search.new.process ≡ search.old.process) }
 {
     if search.is_done() || !search.begins(tick) {
@@ -95,9 +96,9 @@ fn look_all(
     kernel: &Kernel,
     tick: u32,
 ) -> Result<(), NoMemory>
-    requires own { All (IsOwnSearch kernel.now.config kernel.now.programs) own.old.items }
+    requires own { All (IsOwnSearch kernel.now.config kernel.now.programs kernel.now.ticks) own.old.items }
     requires tick { tick ≡ kernel.now.ticks }
-    ensures own { OnOk result (All (IsOwnSearch kernel.now.config kernel.now.programs) own.new.items) }
+    ensures own { OnOk result (All (IsOwnSearch kernel.now.config kernel.now.programs kernel.now.ticks) own.new.items) }
     ensures same { OnOk result (map process_of own.new.items ≡ map process_of own.old.items) }
 {
     for search in own.iter_mut() {
@@ -107,6 +108,8 @@ fn look_all(
 }
 
 impl Searches {
+    ghost use Rattle.std.specs.Prelude.{◌∷◌};
+    ghost use Rattle.dk_kernel.specs.Running.{trace_of};
     ghost use Rattle.dk_repeat_search.specs.Searching.{IsSearching, begun};
 
     /// The searches before the first tick.
@@ -137,7 +140,7 @@ impl Searches {
     }
 
     /// Looks at the present tick.
-    fn look(&mut self, alloc: Global, kernel: &Kernel) -> Result<(), NoMemory>
+    pub(crate) fn look(&mut self, alloc: Global, kernel: &Kernel) -> Result<(), NoMemory>
         requires { IsSearching kernel.now self.old }
         ensures { OnOk result (IsSearching kernel.now self.new) }
     {
@@ -147,19 +150,21 @@ impl Searches {
     }
 
     /// Whether nothing is looked for any more.
-    fn is_done(&self) -> bool {
+    pub(crate) fn is_done(&self) -> bool {
         self.run.is_done() && self.own.iter().all(|search| search.is_done())
     }
 
-    /// Does one tick.
-    fn follow<L: Ledger>(&mut self, kernel: &mut Kernel, steps: &mut Steps<L>)
+    /// Does one tick, and hands its entry back.
+    pub(crate) fn follow<L: Ledger>(&mut self, kernel: &mut Kernel, steps: &mut Steps<L>) -> Entry
         requires room { kernel.old.ticks < MAX_TICKS }
         requires is { IsSearching kernel.old self.old }
         ensures next { kernel.new ≡ record kernel.old { ticks = kernel.old.ticks + 1 } }
+        ensures entry { trace_of kernel.new ≡ result ∷ trace_of kernel.old }
         ensures is { IsSearching kernel.new self.new }
     {
         let entry = kernel.tick(steps);
         self.run.follow(&entry);
+        entry
     }
 
     /// Does up to so many ticks, and looks for the cycles that end in them. `Err` is want of memory.
@@ -182,7 +187,7 @@ impl Searches {
             if self.is_done() {
                 return Ok(());
             }
-            self.follow(kernel, steps);
+            let _entry = self.follow(kernel, steps);
             self.look(alloc, kernel)?;
         }
         Ok(())

@@ -11,6 +11,6 @@ loop-search-preserved c =
     let i = c.loop-search.search-index in
     let k = c.args.kernel.now in
     record {
-      own = All-set (IsOwnSearch k.config k.programs) items i c.look_at.new.search c.in_ok-look_at.ensures.own c.loop-search.invariant.own;
+      own = All-set (IsOwnSearch k.config k.programs k.ticks) items i c.look_at.new.search c.in_ok-look_at.ensures.own c.loop-search.invariant.own;
       same = set-same process_of items i c.search-item.result c.look_at.new.search (omega arith) c.in_ok-look_at.ensures.same ∙ c.loop-search.invariant.same;
     }

@@ -16,9 +16,9 @@ loop-process-preserved c =
     let own = c.loop-process.own.items in
     let n = c.loop-process.process in
     let new = c.new-search.result in
-    let all = IsOwnSearch w.config w.programs in
+    let all = IsOwnSearch w.config w.programs 0 in
     let config : c.loaded.inside.config ≡ w.config = ap (λ (v : Workload). v.config) c.loaded.view_is in
-    let is : all new = subst (λ (z : Configuration). IsOwnSearch z w.programs new) config (c.new-search.ensures.own w.programs (sym c.program_of-program.ensures)) in
+    let is : all new = subst (λ (z : Configuration). IsOwnSearch z w.programs 0 new) config (c.new-search.ensures.own w.programs (sym c.program_of-program.ensures)) in
     record {
       all = subst (All all) (sym c.in_ok-push.ensures.items) (All-push all own new c.loop-process.invariant.all is);
       processes = ap (map process_of) c.in_ok-push.ensures.items ∙ map-append process_of own (new ∷ [])

@@ -7,6 +7,6 @@ use Rattle.dk_repeat_search.proofs.search.own_searches.Given as goal
 
 abbrev pub invariant-loop-process : goal.invariant-loop-process
 invariant-loop-process l = record {
-  all : All (IsOwnSearch l.loaded.config l.loaded.programs) l.own.items;
+  all : All (IsOwnSearch l.loaded.config l.loaded.programs 0) l.own.items;
   processes : map process_of l.own.items ≡ range_with_len 0 l.process;
 }

@@ -6,7 +6,7 @@ pub overflow_cast-len : goal.overflow_cast-len
 overflow_cast-len c =
     let k = c.args.kernel.now in
     let counted : c.len.result ≡ length c.args.self.now.own.items = search rules in
-    let many = many-own k.config k.programs c.args.self.now.own.items c.requires.is.own in
+    let many = many-own k.config k.programs k.ticks c.args.self.now.own.items c.requires.is.own in
     let few = c.dispatcher.ensures.ruled.limits.few_processes in
     omega (arith, counted, many, few)
 
@@ -14,4 +14,4 @@ pub run_state-requires : goal.run_state-requires
 run_state-requires c =
     let k = c.args.kernel.now in
     let counted : c.len.result ≡ length c.args.self.now.own.items = search rules in
-    counted ∙ many-own k.config k.programs c.args.self.now.own.items c.requires.is.own
+    counted ∙ many-own k.config k.programs k.ticks c.args.self.now.own.items c.requires.is.own
