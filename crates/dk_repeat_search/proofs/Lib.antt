@@ -2,4 +2,5 @@ pub mod Places
 pub mod Shown
 pub mod Counting
 pub mod Owning
+pub mod Watching
 pub mod Told

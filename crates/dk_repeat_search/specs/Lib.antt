@@ -2,3 +2,4 @@ pub mod States
 pub mod Searching
 pub mod Counting
 pub mod Repeats
+pub mod Always

@@ -1,10 +1,9 @@
-use Rattle.std.proofs.Common.{ℕ, ◌≡◌, ◌<◌, ◌∙◌, List, length, get_or, map, ap, sym, subst, arith}
+use Rattle.std.proofs.Common.{ℕ, ◌≡◌, ◌∙◌, List, length, get_or, map, ap, sym, subst, arith}
 use Rattle.std.specs.Prelude.{All}
 use Rattle.std.proofs.lemmas.List.Elements.{All-push}
 use Rattle.dk_config.specs.Configuration.{Configuration}
 use Rattle.dk_cycle.specs.Own.{IsOwnSearch}
 use Rattle.dk_cycle_counts.specs.declared.process.MainShare.{MainShare}
-use Rattle.dk_repeat_report.specs.declared.own.OwnFound.{OwnFound}
 use Rattle.dk_repeat_report.specs.Cycles.{share_at}
 use Rattle.dk_repeat_report.specs.Lines as lines
 use Rattle.dk_repeat_report.specs.OwnUses.{IsOneFound}

@@ -1,0 +1,120 @@
+-- What is told of each process's windows.
+use Rattle.std.proofs.Common.{ℕ, zero, suc, ◌≡◌, ◌+◌, ◌<◌, ◌≤◌, ◌≢◌, ◌∙◌, ◌∷◌, ◌++◌, inl, inr, List, [], length, get_or, set, map, false, None, refl, sym, ap, subst, arith}
+use Rattle.std.specs.Prelude.{slice_index_or}
+use Rattle.std.specs.List.{range_with_len}
+use Rattle.std.proofs.lemmas.Bool.{cases_eq}
+use Rattle.std.proofs.lemmas.List.{get_or-set_other, get_or-set_same, get_or_append_left, length-map, length-set, length_push}
+use Rattle.std.proofs.lemmas.List.FromFn.{get_or-range_with_len, length-range_with_len}
+use Rattle.std.proofs.lemmas.Option.{get_or_from_slice_get, slice_get_within}
+use Rattle.std.proofs.Math.Seq.{get_or-append_seam}
+use Rattle.dk_config.specs.Configuration.{Configuration}
+use Rattle.dk_config.specs.Checked.{IsChecked, IsAccepted}
+use Rattle.dk_loader.specs.Workload.{Workload}
+use Rattle.dk_kernel.specs.Booting.{IsLoaded}
+use Rattle.dk_kernel.specs.Running.{Running}
+use Rattle.dk_cycle.specs.declared.keeping.Keeping.TheVariants as kind
+use Rattle.dk_cycle.specs.declared.own.OwnSearch.{OwnSearch}
+use Rattle.dk_cycle.specs.declared.told.RunTold.{RunTold}
+use Rattle.dk_cycle.specs.Told.{IsRunTold, RunIsTold, run_told}
+use Rattle.dk_cycle.specs.declared.waiting.Waits.{Waits}
+use Rattle.dk_cycle.specs.declared.waiting.WaitWatch.{WaitWatch}
+use Rattle.dk_cycle.specs.Waiting.{IsWaits, WaitsAreTold, waits_told}
+use Rattle.dk_repeat_search.specs.Searching.{AreOwn, process_of}
+use Rattle.dk_repeat_search.specs.Always.{AreTold, AreWaits, AreWatches, IsWatching, watched_process}
+use Rattle.dk_repeat_search.specs.declared.always.Watching.{Watching}
+use Rattle.dk_repeat_search.proofs.Places.{many-own}
+
+abbrev pub no_search : OwnSearch
+no_search = record { process = 0; period = 0; keeping = kind.Keeps; saved = None; cycle = None }
+
+abbrev pub no_watch : WaitWatch
+no_watch = record { process = 0; period = 0; begins = 0; passed = 0; waited = false; missed = None }
+
+pub many-watches : (c : Configuration) (programs : List (List ℕ)) (tick : ℕ) (watches : List WaitWatch) → AreWatches c programs tick watches → length watches ≡ length c.processes
+many-watches c programs tick watches are = sym (length-map watches watched_process) ∙ ap length are.processes ∙ length-range_with_len 0 (length c.processes)
+
+-- one more process
+pub told-more : (own : List OwnSearch) (watches : List WaitWatch) (n : ℕ) (waits : List Waits) (x : Waits) → AreTold own watches n waits
+    → ((s : OwnSearch) (w : WaitWatch) → x ≡ waits_told (slice_index_or own n s) (slice_index_or watches n w)) → AreTold own watches (n + 1) (waits ++ x ∷ [])
+told-more own watches n waits x told is = record {
+  all = length_push waits x ∙ ap (λ m. m + 1) told.all;
+  each = λ p s w d less.
+      elim (cases_eq n p) [
+        | inl same ↦
+            subst (λ q. slice_index_or (waits ++ x ∷ []) q d ≡ waits_told (slice_index_or own q s) (slice_index_or watches q w)) same
+            (ap (λ m. get_or (waits ++ x ∷ []) m d) (sym told.all) ∙ get_or-append_seam waits x [] d ∙ is s w)
+        | inr other ↦
+            let many = told.all in
+            get_or_append_left waits (x ∷ []) d p (omega (arith, less, other, many)) ∙ told.each p s w d (omega (arith, less, other))
+      ];
+}
+
+-- the process at a place
+at-place : {X : Type 0} (f : X → ℕ) (xs : List X) (n i : ℕ) (d : X) → map f xs ≡ range_with_len 0 n → i < n → f (get_or xs i d) ≡ i
+at-place f xs n i d are less =
+    let none : 0 + i ≡ i = omega arith in
+    sym (get-mapped f xs i d) ∙ ap (λ ns. get_or ns i (f d)) are ∙ get_or-range_with_len 0 n i (f d) less ∙ none
+  where
+    get-mapped : {X : Type 0} (f : X → ℕ) (xs : List X) (i : ℕ) (d : X) → get_or (map f xs) i (f d) ≡ f (get_or xs i d)
+    get-mapped f [] i d = refl
+    get-mapped f (x ∷ xs) zero d = refl
+    get-mapped f (x ∷ xs) (suc i) d = get-mapped f xs i d
+
+-- what is told of each process holds
+pub are-waits : WaitsAreTold → (c : Configuration) (programs : List (List ℕ)) (tick : ℕ) (own : List OwnSearch) (watches : List WaitWatch) (waits : List Waits) → IsChecked c
+    → IsAccepted c → AreOwn c programs tick own → AreWatches c programs tick watches → AreTold own watches (length own) waits
+    → AreWaits c programs waits
+are-waits law c programs tick own watches waits checked accepted are seen told = record {
+  many = told.all ∙ long;
+  each = λ p x there.
+      let low = slice_get_within waits p x there in
+      let many = told.all in
+      let here : p < length own = omega (arith, low, many) in
+      let few : p < length c.processes = omega (arith, here, long) in
+      let known : p < length watches = omega (arith, few, wide) in
+      let mine : process_of (slice_index_or own p no_search) ≡ p = at-place process_of own (length c.processes) p no_search are.processes few in
+      let its : watched_process (slice_index_or watches p no_watch) ≡ p = at-place watched_process watches (length c.processes) p no_watch seen.processes few in
+      let is : x ≡ waits_told (slice_index_or own p no_search) (slice_index_or watches p no_watch) = sym (get_or_from_slice_get waits p x x there) ∙ told.each p no_search no_watch x here in
+      subst (λ q. IsWaits c programs q x) mine
+      (subst (IsWaits c programs (process_of (slice_index_or own p no_search))) (sym is)
+      (law c programs tick (slice_index_or own p no_search) (slice_index_or watches p no_watch) checked accepted (are.all p no_search here) (seen.all p no_watch known) (its ∙ sym mine)));
+}
+  where
+    long : length own ≡ length c.processes
+    long = many-own c programs tick own are
+
+    wide : length watches ≡ length c.processes
+    wide = many-watches c programs tick watches seen
+
+-- what a kernel's searches and watches tell of its run
+pub always-of : (w : Workload) (k : Running) (s : Watching) (run : RunTold) (waits : List Waits) → RunIsTold → WaitsAreTold → k.config ≡ w.config → k.programs ≡ w.programs
+    → IsLoaded w → IsWatching k s → run ≡ run_told s.searches.run → AreTold s.searches.own.items s.watches.items (length s.searches.own.items) waits
+    → IsRunTold w.config w.programs run × AreWaits w.config w.programs waits
+always-of w k s run waits run-law waits-law config programs loaded is run-is told =
+    let checked = subst (λ (z : Configuration). IsChecked z) (sym config) loaded.checked in
+    let accepted = subst (λ (z : Configuration). IsAccepted z) (sym config) loaded.accepted in
+    let of-run : IsRunTold k.config k.programs run =
+    subst (IsRunTold k.config k.programs) (sym run-is) (run-law k.config k.programs k.ticks s.searches.run checked accepted is.searches.run) in
+    let of-waits : AreWaits k.config k.programs waits =
+    are-waits waits-law k.config k.programs k.ticks s.searches.own.items s.watches.items waits checked accepted is.searches.own is.watches told in (
+      subst (λ (z : Configuration). IsRunTold z w.programs run) config (subst (λ (ps : List (List ℕ)). IsRunTold k.config ps run) programs of-run),
+      subst (λ (z : Configuration). AreWaits z w.programs waits) config (subst (λ (ps : List (List ℕ)). AreWaits k.config ps waits) programs of-waits),
+    )
+
+-- ---- a watch after the other sees an entry
+
+pub seen-more : (Q : WaitWatch → Type 0) (items : List WaitWatch) (i : ℕ) (new : WaitWatch) → i < length items → ((k : ℕ) (d : WaitWatch) → k < i → Q (get_or items k d))
+    → Q new → (k : ℕ) (d : WaitWatch) → k < i + 1 → Q (get_or (set items i new) k d)
+seen-more Q items i new within before here = λ k d less.
+    elim (cases_eq k i) [
+      | inl same ↦ subst (λ j. Q (get_or (set items i new) j d)) (sym same) (subst Q (sym (get_or-set_same items i new d within)) here)
+      | inr other ↦ subst Q (sym (get_or-set_other items i k new d other)) (before k d (omega (arith, less, other)))
+    ]
+
+pub ahead-more : (P : WaitWatch → Type 0) (items : List WaitWatch) (i : ℕ) (new : WaitWatch)
+    → ((k : ℕ) (d : WaitWatch) → k < length items → i ≤ k → P (get_or items k d)) → (k : ℕ) (d : WaitWatch) → k < length (set items i new) → i + 1 ≤ k
+    → P (get_or (set items i new) k d)
+ahead-more P items i new ahead = λ k d within later.
+    let long = length-set items i new in
+    let other : k ≢ i = omega (arith, later) in
+    subst P (sym (get_or-set_other items i k new d other)) (ahead k d (omega (arith, within, long)) (omega (arith, later)))

@@ -1,0 +1,9 @@
+use Rattle.std.proofs.Common.{◌≡◌, ◌+◌}
+use Rattle.dk_repeat_search.specs.Always.{IsWatching}
+use Rattle.dk_repeat_search.proofs.always.Watching.watch.Given as goal
+
+abbrev pub invariant-loop-step : goal.invariant-loop-step
+invariant-loop-step g l = record {
+  is : IsWatching l.kernel l.self;
+  next : l.kernel ≡ record l.fn.kernel { ticks = l.fn.kernel.ticks + l.step };
+}

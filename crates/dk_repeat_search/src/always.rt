@@ -1,0 +1,169 @@
+//! What is so for ever in a run: whether it repeats, and of each process whether its main waits in each of its windows.
+ghost use Rattle.std.specs.Prelude.{◌≡◌, ◌+◌, ◌<◌, ◌≤◌, length, IfOk, OnOk};
+ghost use Rattle.dk_config.specs.declared.TheConstants.{MAX_RUN_TICKS, MAX_TICKS};
+ghost use Rattle.dk_kernel.specs.Booting.{IsLoaded};
+ghost use Rattle.dk_repeat_search.specs.Always.{AreTold, AreWatches, IsAlways};
+ghost use Rattle.dk_repeat_search.specs.Searching.{begun};
+
+use crate::search::Searches;
+use dk_config::{MAX_RUN_TICKS, MAX_TICKS, NoMemory};
+use dk_cycle::{OwnSearch, RunTold, WaitWatch, Waits, run_told, told_law, waits_law, waits_told};
+use dk_kernel::Kernel;
+use dk_loader::Loaded;
+use dk_steps::Steps;
+use std::alloc::Global;
+use std::marker::Brand;
+use std::sync::ledger::{Blank, Ledger};
+
+/// What is so for ever in a run.
+#[derive(Drop)]
+pub struct Always {
+    /// The cycle of the run as a whole.
+    pub run: RunTold,
+    /// Of each process, in the order of the rows, whether its main waits in each of its windows.
+    pub waits: Vec<Waits>,
+}
+
+/// The searches for cycles, with what is seen of each main's windows meanwhile, in the order of the rows.
+#[derive(Drop)]
+pub(crate) struct Watching {
+    pub(crate) searches: Searches,
+    pub(crate) watches: Vec<WaitWatch>,
+}
+
+/// Before the first tick.
+fn new_watches(alloc: Global, loaded: &Loaded) -> Result<Vec<WaitWatch>, NoMemory>
+    requires { IsLoaded loaded.now }
+    ensures { IfOk result (λ watches. AreWatches loaded.now.config loaded.now.programs 0 watches.items) }
+{
+    let mut watches = Vec::new(alloc);
+    for process in 0..loaded.config.processes.len() {
+        watches.push(WaitWatch::new(&loaded.config, process as u8))?;
+    }
+    Ok(watches)
+}
+
+impl Watching {
+    ghost use Rattle.std.specs.Prelude.{◌+◌};
+    ghost use Rattle.dk_repeat_search.specs.Always.{IsWatching};
+
+    /// Before the first tick.
+    fn of(alloc: Global, loaded: &Loaded) -> Result<Watching, NoMemory>
+        requires { IsLoaded loaded.now }
+        ensures { IfOk result (IsWatching (begun loaded.now)) }
+    {
+        Ok(Watching {
+            searches: Searches::of(alloc, loaded)?,
+            watches: new_watches(alloc, loaded)?,
+        })
+    }
+
+    /// Does one tick.
+    fn follow<L: Ledger>(&mut self, kernel: &mut Kernel, steps: &mut Steps<L>)
+        requires room { kernel.old.ticks < MAX_TICKS }
+        requires is { IsWatching kernel.old self.old }
+        ensures next { kernel.new ≡ record kernel.old { ticks = kernel.old.ticks + 1 } }
+        ensures is { IsWatching kernel.new self.new }
+    {
+        let entry = self.searches.follow(kernel, steps);
+        for watch in self.watches.iter_mut() {
+            watch.follow(&entry);
+        }
+    }
+
+    /// Looks at the present tick.
+    fn look(&mut self, alloc: Global, kernel: &Kernel) -> Result<(), NoMemory>
+        requires { IsWatching kernel.now self.old }
+        ensures { OnOk result (IsWatching kernel.now self.new) }
+    {
+        self.searches.look(alloc, kernel)
+    }
+
+    /// Does up to so many ticks, until all cycles are found. `Err` is want of memory.
+    fn watch<L: Ledger>(
+        &mut self,
+        alloc: Global,
+        kernel: &mut Kernel,
+        ticks: u32,
+        steps: &mut Steps<L>,
+    ) -> Result<(), NoMemory>
+        requires room { kernel.old.ticks + ticks ≤ MAX_TICKS }
+        requires is { IsWatching kernel.old self.old }
+        ensures is { OnOk result (IsWatching kernel.new self.new) }
+        ensures config { kernel.new.config ≡ kernel.old.config }
+        ensures programs { kernel.new.programs ≡ kernel.old.programs }
+    {
+        self.look(alloc, kernel)?;
+        for step in 0..ticks {
+            if self.searches.is_done() {
+                return Ok(());
+            }
+            self.follow(kernel, steps);
+            self.look(alloc, kernel)?;
+        }
+        Ok(())
+    }
+}
+
+/// What is told of each process.
+fn all_waits(
+    alloc: Global,
+    own: &[OwnSearch],
+    watches: &[WaitWatch],
+) -> Result<Vec<Waits>, NoMemory>
+    requires { length own.now ≡ length watches.now }
+    ensures { IfOk result (λ waits. AreTold own.now watches.now (length own.now) waits.items) }
+{
+    let mut waits = Vec::new(alloc);
+    for process in 0..own.len() {
+        waits.push(waits_told(&own[process], &watches[process]))?;
+    }
+    Ok(waits)
+}
+
+/// The ticks of the kernel, whose steps aren't counted.
+fn watched_by<L: Ledger>(
+    alloc: Global,
+    loaded: Loaded,
+    ticks: u32,
+    blank: Blank,
+) -> Result<Always, NoMemory>
+    requires loaded { IsLoaded loaded }
+    requires few { ticks ≤ MAX_RUN_TICKS }
+    requires name { blank.name ≡ L.name }
+    requires parts { blank.parts ≡ L.parts }
+    requires some { 0 < L.parts }
+    ensures { IfOk result (IsAlways loaded) }
+{
+    told_law();
+    waits_law();
+    let mut watching = Watching::of(alloc, &loaded)?;
+    let mut steps = Steps::<L>::new(blank);
+    match Kernel::boot(alloc, loaded) {
+        Ok(mut kernel) => {
+            watching.watch(alloc, &mut kernel, ticks, &mut steps)?;
+            let own = watching.searches.own.as_slice();
+            let waits = all_waits(alloc, own, watching.watches.as_slice())?;
+            Ok(Always {
+                run: run_told(&watching.searches.run),
+                waits,
+            })
+        }
+        Err(_) => Err(NoMemory),
+    }
+}
+
+/// What is so for ever in the run of a configuration with its programs, as is found in so many ticks, at most 10,000,000:
+/// whether the run as a whole repeats, and whether the main of each process waits in each of its windows. `Err` is want of
+/// memory.
+pub fn find_always(alloc: Global, loaded: Loaded, ticks: u32) -> Result<Always, NoMemory>
+    requires { IsLoaded loaded }
+    ensures { IfOk result (IsAlways loaded) }
+{
+    let few = if ticks < MAX_RUN_TICKS {
+        ticks
+    } else {
+        MAX_RUN_TICKS
+    };
+    watched_by::<Brand>(alloc, loaded, few, Blank::new(1))
+}
