@@ -37,6 +37,7 @@ loud why.LongSource s silent other = refl
 loud why.LongNeeds s silent other = refl
 loud why.NeedsNotToml s silent other = refl
 loud why.OtherLedger s silent other = refl
+loud why.LongProfile s silent other = refl
 loud (why.Rule f) s silent other = refl
 loud why.NoProcess s silent other = refl
 loud (why.LongProgram p) s silent other = refl

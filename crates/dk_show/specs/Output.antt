@@ -1,5 +1,5 @@
 -- What is written for the words and the files, and how the call ends.
-use Rattle.std.specs.Prelude.{ℕ, ◌≡◌, ◌≤◌, ◌<◌, ◌⊎◌, ◌++◌, length, List, [], ◌∷◌, Option, Some, None, IfSome, MatchBool, Result, Ok, Err}
+use Rattle.std.specs.Prelude.{ℕ, ◌≡◌, ◌≤◌, ◌<◌, ◌⊎◌, ◌++◌, length, List, [], ◌∷◌, Option, Some, None, IfSome, MatchBool, Result, Ok, Err, Bool, true, false}
 use Rattle.dk_config.specs.declared.TheConstants.{MAX_CONFIG_BYTES, MAX_LEDGER_BYTES}
 use Rattle.dk_config.specs.Configuration.{Configuration}
 use Rattle.dk_certify.specs.declared.certifying.Verdict.{Verdict}
@@ -38,7 +38,7 @@ pub use Rattle.dk_show.specs.Answers.{Files, IsOfNamed, IsWrong, Says}
 use Rattle.dk_show.specs.Chains.{IsChainTold, IsOfReactions, chain_at}
 use Rattle.dk_show.specs.Held.{IsOfHeld}
 use Rattle.dk_show.specs.Impacts.{IsOfImpact}
-use Rattle.dk_show.specs.Loading.{IsOf, IsOfLoaded}
+use Rattle.dk_show.specs.Loading.{IsOf, IsOfLoaded, certified_at}
 use Rattle.dk_show.specs.Needed.{IsOfCheck, asked_at}
 use Rattle.dk_show_request.specs.Meaning.{meaning}
 use Rattle.dk_show_request.specs.Reasons.{wrong_text}

@@ -7,7 +7,7 @@ ghost use Rattle.dk_show.specs.Asking.{Asks, MissesAfter, MissesLedger, handed_a
 ghost use Rattle.dk_show.specs.Leaves.{Reads};
 ghost use Rattle.dk_show.specs.Loading.{IsOf, Loads, certified_at};
 ghost use Rattle.dk_show.specs.Needed.{IsAskedOf, IsOfCheck, IsOfNeeds, asked_at, asked_of};
-ghost use Rattle.dk_show.specs.Works.{IsWhole, Plans};
+ghost use Rattle.dk_show.specs.Works.{IsMade, IsWhole, Plans};
 ghost use Rattle.std.specs.Prelude.{Some};
 
 use crate::Refusal;
@@ -109,6 +109,15 @@ fn with_ledger<D: Depot>(
     )
 }
 
+/// Which needs are met, where no ledger is asked for.
+fn without_ledger(alloc: Global, form: CheckForm, asked: &Asked) -> Result<Work, Refusal>
+    requires { IsAskedOf asked.now }
+    ensures plans { Plans (IsOfNeeds form asked.now.config None asked.now.needs) result }
+    ensures made { IsMade IsWhole result }
+{
+    of_bytes(alloc, form, &asked.config, asked.needs.as_slice())
+}
+
 /// Which needs are met, and by a ledger where one is asked for.
 fn answered<D: Depot>(
     alloc: Global,
@@ -126,7 +135,7 @@ fn answered<D: Depot>(
 {
     match &request.ledger {
         Some(ledger) => with_ledger(alloc, request.form, asked, ledger.as_str(), depot),
-        None => of_bytes(alloc, request.form, &asked.config, asked.needs.as_slice()),
+        None => without_ledger(alloc, request.form, asked),
     }
 }
 

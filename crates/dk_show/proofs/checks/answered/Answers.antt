@@ -35,13 +35,12 @@ returns-in-None-clause-plans g c =
     let files = (g.D.Depot.seen c.args.depot.now).files in
     let a = c.args.asked.now in
     let f = c.args.request.now.form in
-    let result = c.of_bytes.result in
-    let plans = rw c.as_slice.ensures.value at c.of_bytes.ensures.plans in
-    subst (λ (o : Option (List ℕ)). IfSome files (λ at. Plans (IsOfCheck at f o a) result)) (sym c.in-None.is) (in_any files plans)
+    let result = c.without_ledger.result in
+    subst (λ (o : Option (List ℕ)). IfSome files (λ at. Plans (IsOfCheck at f o a) result)) (sym c.in-None.is) (in_any files c.without_ledger.ensures.plans)
 
 pub returns-in-None-clause-asks : goal.returns-in-None-clause-asks
 returns-in-None-clause-asks g c =
     let files = (g.D.Depot.seen c.args.depot.now).files in
     let view = g.D.Depot.seen c.args.depot.now in
-    subst (λ (o : Option (List ℕ)). Asks files (λ at. handed_ledger at o) (λ at. MissesLedger at o) view view c.of_bytes.result) (sym c.in-None.is)
-    (asks_nothing files view c.of_bytes.result)
+    subst (λ (o : Option (List ℕ)). Asks files (λ at. handed_ledger at o) (λ at. MissesLedger at o) view view c.without_ledger.result) (sym c.in-None.is)
+    (asks_nothing files view c.without_ledger.result)

@@ -1,10 +1,10 @@
-use Rattle.std.proofs.Common.{ℕ, ◌≡◌, ◌∙◌, ◌⊎◌, List, map, string_bytes, subst, sym}
+use Rattle.std.proofs.Common.{ℕ, ◌≡◌, ◌≢◌, ◌+◌, ◌∙◌, ◌⊎◌, List, map, string_bytes, subst, sym}
 use Rattle.std.specs.Prelude.{IfSome, Option}
 use Rattle.dk_show_request.specs.Meaning.{IsSought}
 use Rattle.dk_show_request.specs.declared.request.Request.{Request}
 use Rattle.dk_show.specs.declared.status.Status.TheVariants as status
 use Rattle.dk_show.specs.Answers.{IsFaulty}
-use Rattle.dk_show.specs.Asking.{WordsMiss}
+use Rattle.dk_show.specs.Asking.{WordsMiss, handed_for_words}
 use Rattle.dk_show.specs.Leaves.{Leaves}
 use Rattle.dk_show.specs.Output.{IsOfMeaning}
 use Rattle.dk_show.proofs.show.deosk_show.Goals as goal
@@ -32,3 +32,12 @@ returns-in-Ok-Some-clause-strays g c =
     let files = (g.D.Depot.seen c.args.depot.now).files in
     subst (λ (o : Option Request). IfSome files (λ at. (WordsMiss o at → ⊥) → (g.D.Depot.seen c.perform.new.depot).strays ≡ (g.D.Depot.seen c.args.depot.now).strays))
     meant c.perform.ensures.strays
+
+pub returns-in-Ok-Some-clause-given : goal.returns-in-Ok-Some-clause-given
+returns-in-Ok-Some-clause-given g c =
+    let meant = sym c.in-Ok-Some.field-0-is ∙ c.in-Ok-Some.ensures.is in
+    let files = (g.D.Depot.seen c.args.depot.now).files in
+    let result = c.perform.result in
+    subst (λ (o : Option Request). IfSome files (λ at. result ≢ status.DepotFault → result ≢ status.NoMemory
+    → (g.D.Depot.seen c.perform.new.depot).given ≡ (g.D.Depot.seen c.args.depot.now).given + handed_for_words o at))
+    meant c.perform.ensures.given

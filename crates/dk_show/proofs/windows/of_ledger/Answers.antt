@@ -1,4 +1,4 @@
-use Rattle.std.proofs.Common.{inl, inr, refl, reverse}
+use Rattle.std.proofs.Common.{inl, inr, reverse, rules}
 use Rattle.dk_ledger.specs.Readable.{Journal}
 use Rattle.dk_show.specs.Windowed.{AreWindowsTold, IsOfWindows}
 use Rattle.dk_show.proofs.Planning.{plans_wider}
@@ -19,4 +19,4 @@ pub returns-in-Err-Line-clause-plans : goal.returns-in-Err-Line-clause-plans
 returns-in-Err-Line-clause-plans c = λ told.
     let n = c.in-Err-Line.line in
     let found = c.of.ensures.line n (cc) in
-    inl (record { line = n; wrong = found.0; none = found.1; says = (refl, refl) })
+    inl (record { line = n; wrong = found.0; none = found.1; says = search rules })

@@ -9,7 +9,7 @@ returns-in-Some-clause-plans c = λ past is text has.
     lines_told c.args.form report.heading past report.kept text c.sound_end-ended.result is c.in-Some.strictness c.in-Some.ensures has
     (c.sound_end-ended.ensures.is ∙ ap sound_end c.is_sound.ensures.kept)
 
-pub returns-in_ok-table-clause-plans : goal.returns-in_ok-table-clause-plans
-returns-in_ok-table-clause-plans c = λ past is text has.
+pub returns-in_ok-table-in-None-clause-plans : goal.returns-in_ok-table-in-None-clause-plans
+returns-in_ok-table-in-None-clause-plans c = λ past is text has.
     let report = c.args.report in
-    table_told c.args.form report.heading past report.kept text _ is c.in-None.ensures (has ∙ c.new.ensures ∙ c.in_ok-table.ensures.wrote) refl
+    table_told c.args.form report.heading past report.kept text _ is c.in-None.ensures (has ∙ c.new.ensures ∙ c.in_ok-table-in-None.ensures.wrote) refl
