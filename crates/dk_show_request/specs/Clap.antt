@@ -30,8 +30,8 @@ range_app word = with_rule (with_rule (with_rule (new_app word) (argument (codes
     (argument (codes "FROM") false)) (argument (codes "TO") false)
 
 abbrev pub windows_app : List ℕ → App
-windows_app word = with_rule (with_rule (with_rule (with_rule (new_app word) (argument (codes "LEDGER") true))
-    (flag (codes "strict"))) (flag (codes "sparing"))) (flag (codes "csv"))
+windows_app word = with_rule (with_rule (with_rule (with_rule (with_rule (new_app word) (argument (codes "LEDGER") true))
+    (flag (codes "strict"))) (flag (codes "sparing"))) (flag (codes "all"))) (flag (codes "csv"))
 
 abbrev pub holds_app : List ℕ → App
 holds_app word = with_rule (with_rule (new_app word) (argument (codes "LEDGER") true)) (argument (codes "FILE") false)

@@ -27,7 +27,7 @@ range_form = plain (codes "LEDGER" ∷ []) (codes "FROM" ∷ codes "TO" ∷ []) 
 
 abbrev pub windows_form : Form
 windows_form = record (plain (codes "LEDGER" ∷ []) [] false) {
-  marks = codes "--strict" ∷ codes "--sparing" ∷ codes "--csv" ∷ [];
+  marks = codes "--strict" ∷ codes "--sparing" ∷ codes "--all" ∷ codes "--csv" ∷ [];
 }
 
 abbrev pub holds_form : Form

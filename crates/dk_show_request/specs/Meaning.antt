@@ -45,6 +45,7 @@ abbrev pub windows_form_in : List Row → WindowsForm
 windows_form_in rows =
     if has (codes "strict") rows then windows_form.Strict
     else if has (codes "sparing") rows then windows_form.Sparing
+    else if has (codes "all") rows then windows_form.All
     else if has (codes "csv") rows then windows_form.Csv
     else windows_form.Plain
 

@@ -113,6 +113,8 @@ fn windows_form_in(given: &Given) -> WindowsForm
         WindowsForm::Strict
     } else if given.has("sparing") {
         WindowsForm::Sparing
+    } else if given.has("all") {
+        WindowsForm::All
     } else if given.has("csv") {
         WindowsForm::Csv
     } else {

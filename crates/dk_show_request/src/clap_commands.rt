@@ -75,6 +75,7 @@ pub fn windows_command<'a>(alloc: Global, word: &'a str) -> Result<ClapCommand<'
     let command = add_argument(alloc, command, "LEDGER", true)?;
     let command = add_flag(alloc, command, "strict")?;
     let command = add_flag(alloc, command, "sparing")?;
+    let command = add_flag(alloc, command, "all")?;
     add_flag(alloc, command, "csv")
 }
 

@@ -49,6 +49,8 @@ pub enum WindowsForm {
     Strict,
     /// The same, but threads that live on slack may overrun.
     Sparing,
+    /// With each window that was overrun.
+    All,
     Csv,
 }
 
