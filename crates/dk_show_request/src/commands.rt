@@ -49,10 +49,12 @@ pub enum Command {
     Check,
     /// The source of a program that takes the times of a profile.
     Replay,
+    /// A page for the review of a configuration.
+    Page,
 }
 
 /// In the order of the usage line.
-const COMMANDS: [Command; 16] = [
+const COMMANDS: [Command; 17] = [
     Command::Picture,
     Command::Draw(Drawing::Trace),
     Command::Draw(Drawing::Vcd),
@@ -69,6 +71,7 @@ const COMMANDS: [Command; 16] = [
     Command::Repeats,
     Command::Check,
     Command::Replay,
+    Command::Page,
 ];
 
 impl Command {
@@ -93,6 +96,7 @@ impl Command {
             Command::Repeats => "repeats",
             Command::Check => "check",
             Command::Replay => "replay",
+            Command::Page => "page",
         }
     }
 
