@@ -35,7 +35,6 @@ loud why.LongConfig s silent other = refl
 loud why.NotToml s silent other = refl
 loud why.LongSource s silent other = refl
 loud why.LongNeeds s silent other = refl
-loud why.NeedsNotToml s silent other = refl
 loud why.OtherLedger s silent other = refl
 loud why.LongProfile s silent other = refl
 loud (why.Rule f) s silent other = refl

@@ -1,10 +1,11 @@
 -- What a command asks of the files, and what it leaves of a depot's counts.
-use Rattle.std.specs.Prelude.{ℕ, ◌≡◌, ◌+◌, min, false, length, List, Option, Some, None, IfSome, Result, Ok, Err}
+use Rattle.std.specs.Prelude.{ℕ, ◌≡◌, ◌+◌, min, false, length, List, Option, Some, None, IfSome, Result, Ok, Err, if◌then◌else◌}
 use Rattle.dk_config.specs.declared.TheConstants.{MAX_CONFIG_BYTES, MAX_LEDGER_BYTES}
 use Rattle.dk_profile.specs.declared.TheConstants.{MAX_PROFILE_BYTES}
 use Rattle.dk_config.specs.Configuration.{Configuration}
 use Rattle.dk_outside.specs.Views.{DepotView}
 use Rattle.dk_loader.specs.Programs.{bytes_read}
+use Rattle.dk_needs.specs.Reading.{reading}
 use Rattle.dk_show_request.specs.declared.request.CheckRequest.{CheckRequest}
 use Rattle.dk_show_request.specs.declared.request.Request.{Request}
 use Rattle.dk_show_request.specs.declared.request.Request.TheVariants as request
@@ -13,7 +14,7 @@ use Rattle.dk_show.specs.declared.refusal.Refusal.TheVariants as why
 use Rattle.dk_show.specs.Answers.{Files, is_silent}
 use Rattle.dk_show.specs.Chains.{chain_at}
 use Rattle.dk_show.specs.Loading.{certified_at, loaded}
-use Rattle.dk_show.specs.Needed.{asked_at}
+use Rattle.dk_show.specs.Needed.{AskedIn, asked_at, asks_programs, ready_at, ready_of}
 use Rattle.dk_show.specs.Sources.{most_of}
 
 -- how many bytes a read hands out: all of a file, or one more than the most
@@ -42,6 +43,14 @@ abbrev pub handed_needs : Files → CheckRequest → ℕ
 handed_needs at r =
     handed_out MAX_CONFIG_BYTES (at r.file) + handed_after (λ _. handed_out MAX_CONFIG_BYTES (at r.needs)) (certified_at (at r.file))
 
+-- those of the programs, where needs of all time are asked for
+abbrev pub handed_programs : Files → AskedIn → ℕ
+handed_programs at a = if asks_programs (reading a.needs) then bytes_read at a.config.processes else 0
+
+-- those of all that needs are decided with
+abbrev pub handed_ready : Files → CheckRequest → ℕ
+handed_ready at r = handed_needs at r + handed_after (handed_programs at) (asked_at at r)
+
 -- those of a ledger, where one is asked for
 abbrev pub handed_ledger : Files → Option (List ℕ) → ℕ
 handed_ledger at None = 0
@@ -60,7 +69,7 @@ handed_for (request.Reactions r ledger) at =
     handed_out MAX_CONFIG_BYTES (at r.file) + handed_after (λ _. handed_out MAX_LEDGER_BYTES (at ledger)) (chain_at at r)
 handed_for (request.Impact r) at = handed_load at r.old + handed_after (λ _. handed_load at r.new) (loaded at r.old)
 handed_for (request.Repeats file ticks) at = handed_load at file
-handed_for (request.Check r) at = handed_needs at r + handed_after (λ _. handed_ledger at r.ledger) (asked_at at r)
+handed_for (request.Check r) at = handed_ready at r + handed_after (λ _. handed_ledger at r.ledger) (ready_at at r)
 handed_for (request.Replay r) at =
     handed_out MAX_CONFIG_BYTES (at r.file)
     + handed_after (λ _. handed_out MAX_PROFILE_BYTES (at r.profile)) (certified_at (at r.file))
@@ -73,6 +82,10 @@ MissesAfter Missing (Err e) = e ≡ why.Depot
 abbrev pub MissesHeld : Option (List ℕ) → Files → List ℕ → Type 0
 MissesHeld None at ledger = at ledger ≡ None
 MissesHeld (Some file) at ledger = MissesAfter (λ _. at ledger ≡ None) (certified_at (at file))
+
+-- a program isn't there, where they are asked for
+abbrev pub MissesReady : Files → CheckRequest → Type 0
+MissesReady at r = MissesAfter (λ a. ready_of at a ≡ Err why.Depot) (asked_at at r)
 
 -- the ledger isn't there, where one is asked for
 abbrev pub MissesLedger : Files → Option (List ℕ) → Type 0
@@ -91,7 +104,7 @@ Misses (request.Chain r) at = at r.file ≡ None
 Misses (request.Reactions r ledger) at = MissesAfter (λ _. at ledger ≡ None) (chain_at at r)
 Misses (request.Impact r) at = MissesAfter (λ _. loaded at r.new ≡ Err why.Depot) (loaded at r.old)
 Misses (request.Repeats file ticks) at = loaded at file ≡ Err why.Depot
-Misses (request.Check r) at = MissesAfter (λ _. MissesLedger at r.ledger) (asked_at at r)
+Misses (request.Check r) at = MissesAfter (λ _. MissesLedger at r.ledger) (ready_at at r)
 Misses (request.Replay r) at = MissesAfter (λ _. at r.profile ≡ None) (certified_at (at r.file))
 
 abbrev pub IsLoud : {A : Type 0} → Result A Refusal → Type 0

@@ -39,7 +39,7 @@ use Rattle.dk_show.specs.Chains.{IsChainTold, IsOfReactions, chain_at}
 use Rattle.dk_show.specs.Held.{IsOfHeld}
 use Rattle.dk_show.specs.Impacts.{IsOfImpact}
 use Rattle.dk_show.specs.Loading.{IsOf, IsOfLoaded, certified_at}
-use Rattle.dk_show.specs.Needed.{IsOfCheck, asked_at}
+use Rattle.dk_show.specs.Needed.{IsOfCheck, ready_at}
 use Rattle.dk_show_request.specs.Meaning.{meaning}
 use Rattle.dk_show_request.specs.Reasons.{wrong_text}
 use Rattle.dk_show_request.specs.Usage.{usage_text}
@@ -187,7 +187,7 @@ IsOfRequest (request.Reactions r ledger) at text ended =
     IsOf (chain_at at r) (λ chain. IsOfNamed at ledger MAX_LEDGER_BYTES why.LongLedger (IsOfReactions chain)) text ended
 IsOfRequest (request.Impact r) at text ended = IsOfImpact at r text ended
 IsOfRequest (request.Repeats file ticks) at text ended = IsOfLoaded at file (IsOfRepeats ticks) text ended
-IsOfRequest (request.Check r) at text ended = IsOf (asked_at at r) (IsOfCheck at r.form r.ledger) text ended
+IsOfRequest (request.Check r) at text ended = IsOf (ready_at at r) (IsOfCheck at r.form r.ledger) text ended
 IsOfRequest (request.Replay r) at text ended =
     IsOf (certified_at (at r.file))
     (λ c. IsOfNamed at r.profile MAX_PROFILE_BYTES why.LongProfile (IsOfProfile c r.name)) text ended

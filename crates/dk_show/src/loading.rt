@@ -79,7 +79,11 @@ pub(crate) fn certified_at<D: Depot>(
 }
 
 /// The configuration with the programs of its processes.
-fn with_programs<D: Depot>(alloc: Global, config: Config, depot: &mut D) -> Result<Loaded, Refusal>
+pub(crate) fn with_programs<D: Depot>(
+    alloc: Global,
+    config: Config,
+    depot: &mut D,
+) -> Result<Loaded, Refusal>
     requires unbroken { BreaksNoRule config }
     requires checked { IsChecked config }
     requires accepted { IsAccepted config }

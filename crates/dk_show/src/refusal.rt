@@ -29,8 +29,6 @@ pub enum Refusal {
     NoProcess,
     /// The needs have more than 65,536 bytes.
     LongNeeds,
-    /// The bytes of the needs are no TOML document.
-    NeedsNotToml,
     /// The profile has more than 1,048,576 bytes.
     LongProfile,
     /// The program of the process with this number has more than 65,536 bytes.
@@ -61,7 +59,6 @@ impl Refusal {
             Refusal::Rule(_) => Status::Config,
             Refusal::NoProcess => Status::Refused,
             Refusal::LongNeeds => Status::Config,
-            Refusal::NeedsNotToml => Status::Config,
             Refusal::LongProfile => Status::Refused,
             Refusal::Uncertified { .. } => Status::Uncertified,
             Refusal::LongProgram(_) => Status::Refused,
@@ -90,7 +87,6 @@ impl Refusal {
                 window,
             } => uncertified_text(alloc, *level, *needs, *window),
             Refusal::LongNeeds => too_long(alloc, "needs:", MAX_CONFIG_BYTES),
-            Refusal::NeedsNotToml => String::from_str(alloc, "needs: not TOML\n"),
             Refusal::LongProfile => too_long(alloc, "profile:", MAX_PROFILE_BYTES),
             Refusal::LongProgram(process) => long_program_text(alloc, *process),
             Refusal::LongLedger => too_long(alloc, "ledger:", MAX_LEDGER_BYTES),
