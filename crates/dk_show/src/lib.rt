@@ -15,6 +15,7 @@ mod reactions;
 mod refusal;
 mod repeats;
 mod replays;
+mod reviews;
 mod show;
 mod status;
 mod telling;

@@ -10,6 +10,7 @@ use dk_config_report::Page;
 use dk_csv::CsvTable;
 use dk_groups::WriteFault;
 use dk_outside::Sink;
+use dk_page::ReviewPage;
 use dk_show_request::Drawing;
 use dk_trace_events::Trace;
 use dk_vcd::Dump;
@@ -35,6 +36,8 @@ pub(crate) enum Work {
     Windows(WindowReport, Strictness, Status),
     /// A whole page, and the status of the call once it is written.
     Page(Page, Status),
+    /// A page for a review, and the status of the call once it is written.
+    Review(ReviewPage, Status),
 }
 
 /// Writes the drawing.
