@@ -340,18 +340,11 @@ fn replay_by(
     }
 }
 
-fn page_by(
-    alloc: Global,
-    file: Option<&str>,
-    ledger: Option<&str>,
-) -> Result<Option<Request>, NoMemory>
-    ensures { IfOk result (λ r. r ≡ page_by (option_map (λ w. w.now) file.entry) (option_map (λ w. w.now) ledger.entry)) }
+fn page_by(alloc: Global, file: Option<&str>) -> Result<Option<Request>, NoMemory>
+    ensures { IfOk result (λ r. r ≡ page_by (option_map (λ w. w.now) file.entry)) }
 {
     match file {
-        Some(file) => Ok(Some(Request::Page {
-            file: copy_of(alloc, file)?,
-            ledger: copy_if(alloc, ledger)?,
-        })),
+        Some(file) => Ok(Some(Request::Page(copy_of(alloc, file)?))),
         None => Ok(None),
     }
 }
@@ -398,6 +391,6 @@ pub fn asked(alloc: Global, command: Command, given: &Given) -> Result<Option<Re
             given.word("NAME"),
             given.word("FILE"),
         ),
-        Command::Page => page_by(alloc, given.word("FILE"), given.word("LEDGER")),
+        Command::Page => page_by(alloc, given.word("FILE")),
     }
 }
