@@ -7,7 +7,6 @@ use Rattle.dk_document_report.specs.Reasons.{kind_at, kind_text, shown_key}
 use Rattle.dk_needs.specs.declared.fault.Fault.{Fault}
 use Rattle.dk_needs.specs.declared.fault.Place.{Place}
 use Rattle.dk_needs.specs.declared.fault.Key.{Key}
-use Rattle.dk_needs.specs.declared.fault.Key.TheVariants as key
 use Rattle.dk_needs.specs.declared.fault.Why.{Why}
 use Rattle.dk_needs.specs.declared.fault.Why.TheVariants as why
 use Rattle.dk_needs.specs.declared.keys.Shape.{Shape}
@@ -43,24 +42,24 @@ value_at p k ms = option_map_or (λ t. get_member (key_name k) t) (table_at p ms
 abbrev pub flag_text : Bool → List ℕ
 flag_text b = if b then codes "true" else codes "false"
 
--- what a value is
-abbrev pub found_text : Key → Data → List ℕ
-found_text key.Processes d = kind_at field.Users d
-found_text key.Waits d = option_map_or flag_text (as_bool d) (kind_text d)
+-- what stands where such values are wanted
+abbrev pub found_text : Shape → Data → List ℕ
+found_text Shape.Names d = kind_at field.Users d
+found_text Shape.True d = option_map_or flag_text (as_bool d) (kind_text d)
 found_text _ d = kind_text d
 
-abbrev pub this_is : Key → Option Data → List ℕ
-this_is k None = []
-this_is k (Some d) = codes ", this is " ++ found_text k d
+abbrev pub this_is : Shape → Option Data → List ℕ
+this_is s None = []
+this_is s (Some d) = codes ", this is " ++ found_text s d
 
 -- of a value of another kind, and of a number that is out of its range
-abbrev pub found_at : Why → Key → Option Data → List ℕ
-found_at why.Kind k v = this_is k v
-found_at why.Range k v = this_is k v
-found_at _ k v = []
+abbrev pub found_at : Why → Shape → Option Data → List ℕ
+found_at why.Kind s v = this_is s v
+found_at why.Range s v = this_is s v
+found_at _ s v = []
 
 abbrev pub wrong_text : Members → Fault → List ℕ
-wrong_text ms f = wanted_at f.place f.key ms ++ found_at f.why f.key (value_at f.place f.key ms)
+wrong_text ms f = wanted_at f.place f.key ms ++ found_at f.why (shape_of f.key) (value_at f.place f.key ms)
 
 abbrev pub missing_text : Fault → List ℕ
 missing_text f = codes "it is missing, " ++ wanted_text (shape_of f.key)

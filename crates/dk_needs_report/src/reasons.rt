@@ -75,7 +75,7 @@ fn wrong_text(alloc: Global, table: &Table, fault: Fault) -> Result<String, Allo
 {
     let wanted = wanted_at(alloc, table, fault.place, fault.key)?;
     let value = value_at(table, fault.place, fault.key);
-    let found = found_at(alloc, fault.why, fault.key, value)?;
+    let found = found_at(alloc, fault.why, shape_of(fault.key), value)?;
     let text = wrong_line(alloc, wanted.as_str(), found.as_str())?;
     Ok(text)
 }

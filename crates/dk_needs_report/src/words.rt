@@ -71,8 +71,8 @@ fn flag_text(flag: bool) -> &'static str
     if flag { "true" } else { "false" }
 }
 
-fn waits_text(alloc: Global, value: &Value) -> Result<String, AllocError>
-    ensures { IfOk result (λ s. string_bytes s ≡ found_text Key.Waits (view value.now)) }
+fn true_text(alloc: Global, value: &Value) -> Result<String, AllocError>
+    ensures { IfOk result (λ s. string_bytes s ≡ found_text Shape.True (view value.now)) }
 {
     match value.as_bool() {
         Some(flag) => String::from_str(alloc, flag_text(flag)),
@@ -80,13 +80,13 @@ fn waits_text(alloc: Global, value: &Value) -> Result<String, AllocError>
     }
 }
 
-/// What a value is.
-fn found_text(alloc: Global, key: Key, value: &Value) -> Result<String, AllocError>
-    ensures { IfOk result (λ s. string_bytes s ≡ found_text key (view value.now)) }
+/// What stands where such values are wanted.
+fn found_text(alloc: Global, shape: Shape, value: &Value) -> Result<String, AllocError>
+    ensures { IfOk result (λ s. string_bytes s ≡ found_text shape (view value.now)) }
 {
-    match key {
-        Key::Processes => kind_at(alloc, Field::Users, value),
-        Key::Waits => waits_text(alloc, value),
+    match shape {
+        Shape::Names => kind_at(alloc, Field::Users, value),
+        Shape::True => true_text(alloc, value),
         _ => kind_text(alloc, value),
     }
 }
@@ -97,12 +97,12 @@ fn this_text(alloc: Global, found: &str) -> Result<String, AllocError>
     format!(in alloc; ", this is {found}")
 }
 
-fn this_is(alloc: Global, key: Key, value: Option<&Value>) -> Result<String, AllocError>
-    ensures { IfOk result (λ s. string_bytes s ≡ this_is key (option_map (λ v. view v.now) value.entry)) }
+fn this_is(alloc: Global, shape: Shape, value: Option<&Value>) -> Result<String, AllocError>
+    ensures { IfOk result (λ s. string_bytes s ≡ this_is shape (option_map (λ v. view v.now) value.entry)) }
 {
     match value {
         Some(value) => {
-            let found = found_text(alloc, key, value)?;
+            let found = found_text(alloc, shape, value)?;
             this_text(alloc, found.as_str())
         }
         None => String::from_str(alloc, ""),
@@ -113,14 +113,14 @@ fn this_is(alloc: Global, key: Key, value: Option<&Value>) -> Result<String, All
 pub(crate) fn found_at(
     alloc: Global,
     why: Why,
-    key: Key,
+    shape: Shape,
     value: Option<&Value>,
 ) -> Result<String, AllocError>
     ensures { IfOk result (λ s. string_bytes s
-        ≡ found_at why key (option_map (λ v. view v.now) value.entry)) }
+        ≡ found_at why shape (option_map (λ v. view v.now) value.entry)) }
 {
     match why {
-        Why::Kind | Why::Range => this_is(alloc, key, value),
+        Why::Kind | Why::Range => this_is(alloc, shape, value),
         _ => String::from_str(alloc, ""),
     }
 }
