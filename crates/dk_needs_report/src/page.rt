@@ -1,5 +1,5 @@
 //! The lines of all that is wrong.
-ghost use Rattle.std.specs.Prelude.{◌≡◌, ◌≤◌, ◌++◌, codes, Err, IfOk, OnOk, Some, length, string_bytes};
+ghost use Rattle.std.specs.Prelude.{◌≡◌, ◌≤◌, codes, Err, IfOk, OnOk, Some, length, string_bytes};
 ghost use Rattle.toml.specs.View.{table_view};
 ghost use Rattle.dk_config.specs.declared.TheConstants.{MAX_CONFIG_BYTES};
 ghost use Rattle.dk_config_report.specs.FaultLines.{count_line};

@@ -1,10 +1,11 @@
 //! Where in a document of needs a thing stands.
-ghost use Rattle.std.specs.Prelude.{◌≡◌, ◌≤◌, ◌&&◌, length, string_bytes, true, IfOk, Some};
-ghost use Rattle.toml.specs.View.{table_view};
+ghost use Rattle.std.specs.Prelude.{◌≡◌, ◌≤◌, ◌&&◌, length, option_map, string_bytes, false, true, IfOk, Some};
+ghost use Rattle.std.specs.Option.{option_map_or};
+ghost use Rattle.toml.specs.View.{table_view, view};
 ghost use Rattle.dk_config.specs.declared.TheConstants.{MAX_CONFIG_BYTES};
 ghost use Rattle.dk_loader.specs.Reading.{document};
 ghost use Rattle.dk_document_report.specs.Expressions.{AreEnds};
-ghost use Rattle.dk_document_report.specs.Standing.{IsPlaced};
+ghost use Rattle.dk_document_report.specs.Standing.{IsPlaced, row_has};
 ghost use Rattle.dk_needs_report.specs.Placing.{IsPlaceText, key_stands, stands, stands_in};
 
 use crate::found::{Finding, row_at};
@@ -12,17 +13,23 @@ use dk_config::NoMemory;
 use dk_document_report::{find, find_place, row_has, table_of};
 use dk_needs::{Place, Why, key_name};
 use std::alloc::Global;
-use toml::Table;
+use toml::{Table, Value};
+
+fn row_stands(row: Option<&Value>, key: &str) -> bool
+    ensures { result ≡ option_map_or (row_has key.now) (option_map (λ v. view v.now) row) false }
+{
+    match row {
+        Some(row) => row_has(key, row),
+        None => false,
+    }
+}
 
 fn key_stands(table: &Table, place: Option<Place>, key: &str) -> bool
     ensures { result ≡ key_stands place key.now (table_view table.now) }
 {
-    if place.is_none() {
-        return find(table, key).is_some();
-    }
-    match row_at(table, place) {
-        Some(row) => row_has(key, row),
-        None => false,
+    match place {
+        Some(_) => row_stands(row_at(table, place), key),
+        None => find(table, key).is_some(),
     }
 }
 

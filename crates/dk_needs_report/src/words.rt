@@ -1,7 +1,6 @@
 //! What a key takes and what stands there, in words.
-ghost use Rattle.std.specs.Prelude.{◌≡◌, ◌++◌, [], codes, is_some, option_map, string_bytes, IfOk};
+ghost use Rattle.std.specs.Prelude.{◌≡◌, ◌++◌, codes, option_map, string_bytes, IfOk};
 ghost use Rattle.toml.specs.View.{table_view, view};
-ghost use Rattle.dk_needs_report.specs.Found.{table_at};
 ghost use Rattle.dk_needs_report.specs.Reasons.{flag_text, found_at, found_text, this_is, value_at, wanted_at, wanted_text};
 
 use crate::found::{row_at, table_at};
