@@ -91,7 +91,7 @@ shape_refusal bytes ms t told text is =
 pub faults_refusal : (c : Configuration) (f : ConfigFault) (fs : List ConfigFault) → broken (all_tests c) ≡ f ∷ fs → IsRefusal (faults_text c)
 faults_refusal c f fs is = rw is (refusal_behind _ _ (refusal_behind _ _ (head_refusal f _)))
 
-not_toml_refusal : (bytes text : List ℕ) → IsNotTomlText bytes text → IsRefusal text
+not_toml_refusal : (bytes text : List ℕ) → IsNotTomlText (codes "config") bytes text → IsRefusal text
 not_toml_refusal bytes text is = (_, is.whole)
 
 no_shape : (bytes : List ℕ) → document bytes ≡ None → shaped bytes ≡ Err why.NotToml

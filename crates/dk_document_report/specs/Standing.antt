@@ -1,5 +1,6 @@
 -- Where in a document a thing stands: in the expression up to whose start it doesn't, and up to whose end it does.
-use Rattle.std.specs.Prelude.{ℕ, ◌≡◌, ◌≤◌, ◌<◌, ◌==◌, ◌&&◌, ◌||◌, Bool, not, true, false, Option, Some, None, is_some, codes, decimal, List, [], ◌++◌, length, take, slice_index, MatchBool, if◌then◌else◌}
+use Rattle.std.specs.Borrow.{Bor}
+use Rattle.std.specs.Prelude.{ℕ, ◌≡◌, ◌≤◌, ◌<◌, ◌==◌, ◌&&◌, ◌||◌, Bool, not, true, false, Option, is_some, codes, decimal, IfOk, List, [], ◌++◌, length, take, slice_index, MatchBool, Result, if◌then◌else◌}
 use Rattle.std.specs.Option.{option_map_or}
 use Rattle.toml.specs.Data.{Data, as_table, get_member, Members}
 use Rattle.dk_config.specs.declared.fault.Section.{Section}
@@ -37,23 +38,27 @@ stands_by t bytes = option_map_or (stands t) (document bytes) false
 abbrev pub place_text : Place → List ℕ
 place_text p = codes "line " ++ (decimal p.line ++ (codes " column " ++ (decimal p.column ++ codes ": ")))
 
--- What is looked for stands by these bytes; where it is nothing, they are no document.
-abbrev pub is_reached : Option Told → List ℕ → Bool
-is_reached None bytes = not (is_document bytes)
-is_reached (Some t) bytes = stands_by t bytes
+abbrev pub is_refused : List ℕ → Bool
+is_refused bytes = not (is_document bytes)
 
--- the expression that brings it
-pub record IsReachedIn (bytes : List ℕ) (sought : Option Told) (start stop : ℕ) : Type 0 where
+-- a test of the bytes up to a place tells whether what is looked for is reached there
+abbrev pub Decides : {E : Type 0} → (Bor (List ℕ) → Result Bool E → Type 0) → (List ℕ → Bool) → Type 0
+Decides {E} post reached = (part : Bor (List ℕ)) (r : Result Bool E) → post part r → IfOk r (λ found. found ≡ reached part.now)
+
+-- the expression that brings what is looked for
+pub record IsReachedIn (bytes : List ℕ) (reached : List ℕ → Bool) (start stop : ℕ) : Type 0 where
   pub is : IsExpression bytes start stop
-  pub before : 0 < start → is_reached sought (take start bytes) ≡ false
-  pub after : is_reached sought (take stop bytes) ≡ true
+  pub before : 0 < start → reached (take start bytes) ≡ false
+  pub after : reached (take stop bytes) ≡ true
 
--- it is reached with one of these expressions
-pub record IsSearch (bytes ends : List ℕ) (sought : Option Told) (s : Search) : Type 0 where
-  pub order : s.low ≤ s.high
-  pub inside : s.high ≤ length ends
-  pub before : 0 < s.low → is_reached sought (take (start_of ends s.low) bytes) ≡ false
-  pub after : is_reached sought (take (stop_of bytes ends s.high) bytes) ≡ true
+-- one of these expressions
+abbrev pub IsWithin : List ℕ → Search → Type 0
+IsWithin ends s = (s.low ≤ s.high) × (s.high ≤ length ends)
+
+-- it is reached with one of these
+pub record IsSearch (bytes ends : List ℕ) (reached : List ℕ → Bool) (s : Search) : Type 0 where
+  pub before : 0 < s.low → reached (take (start_of ends s.low) bytes) ≡ false
+  pub after : reached (take (stop_of bytes ends s.high) bytes) ≡ true
 
 abbrev pub is_blank : ℕ → Bool
 is_blank b = ((b == 32 || b == 9) || b == 13) || b == 10
@@ -65,15 +70,15 @@ pub record IsFirstWord (bytes : List ℕ) (start stop at : ℕ) : Type 0 where
   pub blank : (k : ℕ) → start ≤ k → k < at → is_blank (slice_index bytes k) ≡ true
   pub word : at < stop → is_blank (slice_index bytes at) ≡ false
 
--- the place where the expression begins that brings the key, or the row
-pub record IsPlaced (bytes : List ℕ) (t : Told) (text : List ℕ) : Type 0 where
+-- the place where the expression begins that brings what is looked for
+pub record IsPlaced (bytes : List ℕ) (reached : List ℕ → Bool) (text : List ℕ) : Type 0 where
   pub start : ℕ
   pub stop : ℕ
   pub at : ℕ
-  pub is : IsReachedIn bytes (Some t) start stop
+  pub is : IsReachedIn bytes reached start stop
   pub first : IsFirstWord bytes start stop at
   pub whole : text ≡ place_text (place_after (take at bytes))
 
 -- a place where it is asked for and there is one, and else none
 abbrev pub IsPlaceText : List ℕ → Members → Bool → Told → List ℕ → Type 0
-IsPlaceText bytes ms asked t text = MatchBool (asked && stands t ms) (IsPlaced bytes t text) (text ≡ [])
+IsPlaceText bytes ms asked t text = MatchBool (asked && stands t ms) (IsPlaced bytes (stands_by t) text) (text ≡ [])

@@ -1,5 +1,5 @@
 -- What is told of a document.
-use Rattle.std.specs.Prelude.{ℕ, ◌≡◌, ◌≤◌, ◌<◌, nat_lt, Bool, false, List, ◌++◌, length, take, codes, decimal, slice_get, Some, None, Result, Ok, Err}
+use Rattle.std.specs.Prelude.{ℕ, ◌≡◌, ◌≤◌, ◌<◌, nat_lt, Bool, false, List, ◌++◌, length, take, codes, decimal, slice_get, Some, Result, Ok, Err}
 use Rattle.std.specs.List.{list_any}
 use Rattle.toml.specs.Data.{Members}
 use Rattle.dk_config.specs.Configuration.{Configuration}
@@ -13,12 +13,13 @@ use Rattle.dk_document_report.specs.declared.place.Place.{Place}
 use Rattle.dk_document_report.specs.Places.{place_after}
 use Rattle.dk_document_report.specs.Found.{Told, told_all}
 use Rattle.dk_document_report.specs.Reasons.{is_control, told_text}
-use Rattle.dk_document_report.specs.Standing.{IsPlaceText, IsReachedIn}
+use Rattle.dk_document_report.specs.Standing.{IsPlaceText, IsReachedIn, is_refused}
 
-abbrev pub not_toml_text : Place → List ℕ → List ℕ
-not_toml_text p message = codes "config: not TOML: line "
+-- of a document of this kind
+abbrev pub not_toml_text : List ℕ → Place → List ℕ → List ℕ
+not_toml_text kind p message = kind ++ (codes ": not TOML: line "
     ++ (decimal p.line
-    ++ (codes " column " ++ (decimal p.column ++ (codes ": " ++ (message ++ codes "\nfaults 1\n")))))
+    ++ (codes " column " ++ (decimal p.column ++ (codes ": " ++ (message ++ codes "\nfaults 1\n"))))))
 
 -- a message that fits on the line
 pub record IsMessage (message : List ℕ) : Type 0 where
@@ -26,16 +27,16 @@ pub record IsMessage (message : List ℕ) : Type 0 where
   pub one_line : list_any is_control message ≡ false
 
 -- why it isn't, and a place in the expression with which the bytes are no document any more
-pub record IsNotTomlText (bytes text : List ℕ) : Type 0 where
+pub record IsNotTomlText (kind bytes text : List ℕ) : Type 0 where
   pub start : ℕ
   pub stop : ℕ
   pub at : ℕ
   pub message : List ℕ
-  pub is : IsReachedIn bytes None start stop
+  pub is : IsReachedIn bytes is_refused start stop
   pub low : start ≤ at
   pub high : at ≤ stop
   pub fits : IsMessage message
-  pub whole : text ≡ not_toml_text (place_after (take at bytes)) message
+  pub whole : text ≡ not_toml_text kind (place_after (take at bytes)) message
 
 -- what is wrong, with its place
 pub record IsToldLine (bytes : List ℕ) (ms : Members) (asked : Bool) (t : Told) (line : List ℕ) : Type 0 where
@@ -67,7 +68,7 @@ pub record IsShapeText (bytes text : List ℕ) : Type 0 where
 
 abbrev pub TellsOf : List ℕ → Result Configuration LoadFault → List ℕ → Type 0
 TellsOf bytes (Ok c) text = text ≡ faults_text c
-TellsOf bytes (Err why.NotToml) text = IsNotTomlText bytes text
+TellsOf bytes (Err why.NotToml) text = IsNotTomlText (codes "config") bytes text
 TellsOf bytes (Err (why.Config f)) text = IsShapeText bytes text
 TellsOf bytes (Err _) text = ⊥
 

@@ -28,7 +28,7 @@ impl Model for Finding {
 }
 
 /// The keys of a table, in the order of their bytes.
-fn keys_in(alloc: Global, table: &Table) -> Result<Vec<&String>, AllocError>
+pub fn keys_in(alloc: Global, table: &Table) -> Result<Vec<&String>, AllocError>
     ensures { IfOk result (λ v. map (λ k. k.now) v.items ≡ keys table.now) }
 {
     table.keys().collect(alloc)

@@ -55,7 +55,8 @@ fn with_article(alloc: Global, name: &str) -> Result<String, AllocError>
     format!(in alloc; "{article}{name}")
 }
 
-fn kind_text(alloc: Global, value: &Value) -> Result<String, AllocError>
+/// What a value is: a whole number by itself, any other by its kind.
+pub fn kind_text(alloc: Global, value: &Value) -> Result<String, AllocError>
     ensures { IfOk result (λ s. string_bytes s ≡ kind_text (view value.now)) }
 {
     match value.as_integer() {
@@ -74,7 +75,7 @@ fn kind_of_users(alloc: Global, value: &Value) -> Result<String, AllocError>
 }
 
 /// What a value of the wrong kind is.
-pub(crate) fn kind_at(alloc: Global, field: Field, value: &Value) -> Result<String, AllocError>
+pub fn kind_at(alloc: Global, field: Field, value: &Value) -> Result<String, AllocError>
     ensures { IfOk result (λ s. string_bytes s ≡ kind_at field (view value.now)) }
 {
     match field {

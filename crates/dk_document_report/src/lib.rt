@@ -13,5 +13,12 @@ mod reasons;
 mod shape;
 mod telling;
 
+pub use findings::keys_in;
+pub use kinds::{kind_at, kind_text};
 pub use laws::tells_none_law;
-pub use telling::document_faults;
+pub use looks::find;
+pub use marks::ends_of_expressions;
+pub use places::{find_place, row_has};
+pub use reading::table_of;
+pub use reasons::shown_key;
+pub use telling::{document_faults, not_toml};

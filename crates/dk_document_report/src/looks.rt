@@ -40,7 +40,7 @@ pub(crate) fn key_name(field: Field) -> &'static str
 }
 
 /// The value at a key.
-pub(crate) fn find<'a>(table: &'a Table, key: &str) -> Option<&'a Value>
+pub fn find<'a>(table: &'a Table, key: &str) -> Option<&'a Value>
     ensures { option_map (λ v. view v.now) result ≡ get_member key.now (table_view table.now) }
 {
     table.get(key)

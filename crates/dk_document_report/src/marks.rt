@@ -64,7 +64,7 @@ fn take_byte(alloc: Global, bytes: &[u8], cuts: &mut Cuts, at: usize) -> Result<
 
 /// The ends of the expressions of a document, but of the last, which ends with it: what stands from one to the next is a
 /// document by itself.
-pub(crate) fn ends_of_expressions(alloc: Global, bytes: &[u8]) -> Result<Vec<usize>, NoMemory>
+pub fn ends_of_expressions(alloc: Global, bytes: &[u8]) -> Result<Vec<usize>, NoMemory>
     ensures { IfOk result (λ ends. AreEnds bytes.now ends.items) }
 {
     let mut cuts = Cuts {

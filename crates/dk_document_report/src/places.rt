@@ -1,20 +1,21 @@
 //! Where in a document a thing stands.
-ghost use Rattle.std.specs.Prelude.{◌≡◌, ◌≤◌, ◌<◌, ◌-◌, ◌&&◌, length, option_map, string_bytes, true, IfOk, Some};
+ghost use Rattle.std.specs.Prelude.{ℕ, ◌≡◌, ◌≤◌, ◌<◌, ◌-◌, ◌&&◌, Bool, List, length, string_bytes, true, IfOk, Some};
 ghost use Rattle.toml.specs.View.{table_view, view};
 ghost use Rattle.dk_config.specs.declared.TheConstants.{MAX_CONFIG_BYTES};
 ghost use Rattle.dk_loader.specs.Reading.{document};
 ghost use Rattle.dk_document_report.specs.Expressions.{AreEnds, start_of, stop_of};
-ghost use Rattle.dk_document_report.specs.Standing.{IsFirstWord, IsPlaceText, IsPlaced, IsReachedIn, IsSearch, is_blank, is_reached, key_stands, place_text, row_has, stands, stands_by, told_key};
+ghost use Rattle.dk_document_report.specs.Standing.{Decides, IsFirstWord, IsPlaceText, IsPlaced, IsReachedIn, IsSearch, IsWithin, is_blank, key_stands, place_text, row_has, stands, stands_by, told_key};
 
 use crate::findings::Finding;
 use crate::looks::{find, is_top, key_name, row_in};
 use crate::place::{Place, place_after};
-use crate::reading::{is_document, table_of};
+use crate::reading::table_of;
 use dk_config::{NoMemory, Section};
 use std::alloc::{AllocError, Global};
 use toml::{Table, Value};
 
-fn row_has(key: &str, row: &Value) -> bool
+/// Whether a row is a table with this key, or no table.
+pub fn row_has(key: &str, row: &Value) -> bool
     ensures { result ≡ row_has key.now (view row.now) }
 {
     match row.as_table() {
@@ -66,16 +67,6 @@ fn stands_by(alloc: Global, bytes: &[u8], told: &Finding) -> Result<bool, NoMemo
     }
 }
 
-/// Whether what is looked for stands by these bytes; where it is nothing, whether they are no document.
-fn is_reached(alloc: Global, bytes: &[u8], sought: Option<&Finding>) -> Result<bool, NoMemory>
-    ensures { IfOk result (λ found. found ≡ is_reached (option_map (λ t. t.now) sought.entry) bytes.now) }
-{
-    match sought {
-        Some(told) => stands_by(alloc, bytes, told),
-        None => Ok(!is_document(alloc, bytes)?),
-    }
-}
-
 /// A part of a document, its first byte and the first one behind it.
 #[derive(Clone, Copy)]
 pub struct Piece {
@@ -91,23 +82,25 @@ pub struct Search {
 }
 
 /// The search with at most half of the expressions left.
-fn halved(
-    alloc: Global,
+fn halved<F: Fn(&[u8]) -> Result<bool, NoMemory>>(
     bytes: &[u8],
     ends: &[usize],
-    sought: Option<&Finding>,
+    test: &F,
     search: Search,
 ) -> Result<Search, NoMemory>
+    requires callable { F.IsAlwaysCallable test.now }
     requires ends { AreEnds bytes.now ends.now }
-    requires search { IsSearch bytes.now ends.now (option_map (λ t. t.now) sought) search }
+    requires within { IsWithin ends.now search }
     requires left { search.low < search.high }
-    ensures search { IfOk result (IsSearch bytes.now ends.now (option_map (λ t. t.now) sought.entry)) }
+    ensures within { IfOk result (IsWithin ends.now) }
     ensures less { IfOk result (λ s. s.high - s.low < search.high - search.low) }
+    ensures search { (reached : List ℕ → Bool) → Decides (F.post test.now) reached
+        → IsSearch bytes.now ends.now reached search → IfOk result (IsSearch bytes.now ends.now reached) }
 {
     let Search { low, high } = search;
     let middle = low + (high - low) / 2;
     let stop = ends[middle];
-    if is_reached(alloc, &bytes[..stop], sought)? {
+    if test(&bytes[..stop])? {
         return Ok(Search { low, high: middle });
     }
     Ok(Search {
@@ -133,22 +126,22 @@ fn stop_at(bytes: &[u8], ends: &[usize], k: usize) -> usize
 }
 
 /// The expression that brings what is looked for.
-pub(crate) fn piece_of(
-    alloc: Global,
+pub(crate) fn piece_of<F: Fn(&[u8]) -> Result<bool, NoMemory>>(
     bytes: &[u8],
     ends: &[usize],
-    sought: Option<&Finding>,
+    test: F,
 ) -> Result<Piece, NoMemory>
+    requires callable { F.IsAlwaysCallable test }
     requires ends { AreEnds bytes.now ends.now }
-    requires reached { is_reached (option_map (λ t. t.now) sought) bytes.now ≡ true }
-    ensures { IfOk result (λ p. IsReachedIn bytes.now (option_map (λ t. t.now) sought.entry) p.start p.stop) }
+    ensures { (reached : List ℕ → Bool) → Decides (F.post test) reached → reached bytes.now ≡ true
+        → IfOk result (λ p. IsReachedIn bytes.now reached p.start p.stop) }
 {
     let mut search = Search {
         low: 0,
         high: ends.len(),
     };
     while search.low < search.high {
-        search = halved(alloc, bytes, ends, sought, search)?;
+        search = halved(bytes, ends, &test, search)?;
     }
     Ok(Piece {
         start: start_at(ends, search.low),
@@ -184,6 +177,27 @@ fn place_text(alloc: Global, place: Place) -> Result<String, AllocError>
     format!(in alloc; "line {line} column {column}: ")
 }
 
+/// The place where the expression begins that brings what is looked for: `test` tells of the bytes up to a place whether it
+/// is reached there. The ends are those of all expressions of the document but the last. `Err` is what the test answers, or
+/// want of memory.
+pub fn find_place<F: Fn(&[u8]) -> Result<bool, NoMemory>>(
+    alloc: Global,
+    bytes: &[u8],
+    ends: &[usize],
+    test: F,
+) -> Result<String, NoMemory>
+    requires callable { F.IsAlwaysCallable test }
+    requires few { length bytes.now ≤ MAX_CONFIG_BYTES }
+    requires ends { AreEnds bytes.now ends.now }
+    ensures { (reached : List ℕ → Bool) → Decides (F.post test) reached → reached bytes.now ≡ true
+        → IfOk result (λ s. IsPlaced bytes.now reached (string_bytes s)) }
+{
+    let piece = piece_of(bytes, ends, test)?;
+    let at = first_word(bytes, piece);
+    let place = place_after(&bytes[..at]);
+    Ok(place_text(alloc, place)?)
+}
+
 fn found_place(
     alloc: Global,
     bytes: &[u8],
@@ -193,12 +207,9 @@ fn found_place(
     requires few { length bytes.now ≤ MAX_CONFIG_BYTES }
     requires ends { AreEnds bytes.now ends.now }
     requires stands { stands_by told.now bytes.now ≡ true }
-    ensures { IfOk result (λ s. IsPlaced bytes.now told.now (string_bytes s)) }
+    ensures { IfOk result (λ s. IsPlaced bytes.now (stands_by told.now) (string_bytes s)) }
 {
-    let piece = piece_of(alloc, bytes, ends, Some(told))?;
-    let at = first_word(bytes, piece);
-    let place = place_after(&bytes[..at]);
-    Ok(place_text(alloc, place)?)
+    find_place(alloc, bytes, ends, |part| stands_by(alloc, part, told))
 }
 
 fn has_place(table: &Table, asked: bool, told: &Finding) -> bool

@@ -9,7 +9,7 @@ use std::alloc::Global;
 use toml::Table;
 
 /// The table of these bytes, where they are a document.
-pub(crate) fn table_of(alloc: Global, bytes: &[u8]) -> Result<Option<Table>, NoMemory>
+pub fn table_of(alloc: Global, bytes: &[u8]) -> Result<Option<Table>, NoMemory>
     ensures { IfOk result (λ t. option_map table_view t ≡ document bytes.now) }
 {
     match toml::de::table_from_slice(alloc, bytes) {

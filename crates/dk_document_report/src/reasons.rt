@@ -25,7 +25,8 @@ pub(crate) fn has_control(bytes: &[u8]) -> bool
     bytes.iter().any(|b| is_control(*b))
 }
 
-fn shown_key(key: &str) -> &str
+/// The key, or words in its place where it would break the line.
+pub fn shown_key(key: &str) -> &str
     ensures { result.now ≡ shown_key key.now }
 {
     if has_control(key.as_bytes()) {

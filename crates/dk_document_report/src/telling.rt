@@ -2,6 +2,7 @@
 ghost use Rattle.std.specs.Prelude.{◌≡◌, ◌≤◌, IfOk, false, length, string_bytes};
 ghost use Rattle.dk_config.specs.declared.TheConstants.{MAX_CONFIG_BYTES};
 ghost use Rattle.dk_document_report.specs.Expressions.{is_document};
+ghost use Rattle.dk_document_report.specs.Standing.{is_refused};
 ghost use Rattle.dk_document_report.specs.Telling.{IsMessage, IsNotTomlText, Tells, not_toml_text};
 
 use crate::marks::ends_of_expressions;
@@ -15,12 +16,23 @@ use dk_config_report::{Page, faults};
 use dk_loader::{LoadFault, read_shaped};
 use std::alloc::{AllocError, Global};
 
-fn not_toml_line(alloc: Global, place: Place, message: &str) -> Result<String, AllocError>
-    ensures { IfOk result (λ s. string_bytes s ≡ not_toml_text place message.now) }
+fn not_toml_line(
+    alloc: Global,
+    kind: &str,
+    place: Place,
+    message: &str,
+) -> Result<String, AllocError>
+    ensures { IfOk result (λ s. string_bytes s ≡ not_toml_text kind.now place message.now) }
 {
     let line = place.line;
     let column = place.column;
-    format!(in alloc; "config: not TOML: line {line} column {column}: {message}\nfaults 1\n")
+    format!(in alloc; "{kind}: not TOML: line {line} column {column}: {message}\nfaults 1\n")
+}
+
+fn is_refused(alloc: Global, bytes: &[u8]) -> Result<bool, NoMemory>
+    ensures { IfOk result (λ found. found ≡ is_refused bytes.now) }
+{
+    Ok(!is_document(alloc, bytes)?)
 }
 
 /// The reader's message, where it fits on the line.
@@ -37,25 +49,27 @@ fn shown_message(message: &str) -> &str
 /// The line of a document that isn't TOML: the place is that at which the reader stopped, in the expression at fault.
 fn stopped_page(
     alloc: Global,
+    kind: &str,
     bytes: &[u8],
     stopped: usize,
     message: &str,
 ) -> Result<Page, NoMemory>
     requires few { length bytes.now ≤ MAX_CONFIG_BYTES }
     requires refused { is_document bytes.now ≡ false }
-    ensures { IfOk result (λ page. IsNotTomlText bytes.now page) }
+    ensures { IfOk result (λ page. IsNotTomlText kind.now bytes.now page) }
 {
     let ends = ends_of_expressions(alloc, bytes)?;
-    let piece = piece_of(alloc, bytes, ends.as_slice(), None)?;
+    let piece = piece_of(bytes, ends.as_slice(), |part| is_refused(alloc, part))?;
     let at = stopped.max(piece.start).min(piece.stop);
     let place = place_after(&bytes[..at]);
-    Ok(Page::new(not_toml_line(alloc, place, shown_message(message))?))
+    Ok(Page::new(not_toml_line(alloc, kind, place, shown_message(message))?))
 }
 
-/// The line of a document that isn't TOML.
-fn not_toml(alloc: Global, bytes: &[u8]) -> Result<Page, NoMemory>
+/// The line of a document of this kind that isn't TOML, `config` or another: the line, the column and the reader's message.
+/// It has at most 65,536 bytes. `Err` is want of memory, or that it is TOML.
+pub fn not_toml(alloc: Global, kind: &str, bytes: &[u8]) -> Result<Page, NoMemory>
     requires few { length bytes.now ≤ MAX_CONFIG_BYTES }
-    ensures { IfOk result (λ page. IsNotTomlText bytes.now page) }
+    ensures { IfOk result (λ page. IsNotTomlText kind.now bytes.now page) }
 {
     // The reader has just refused it.
     if is_document(alloc, bytes)? {
@@ -66,7 +80,7 @@ fn not_toml(alloc: Global, bytes: &[u8]) -> Result<Page, NoMemory>
         Err(error) => error,
     };
     match error.span() {
-        Some(span) => stopped_page(alloc, bytes, span.start, error.message()),
+        Some(span) => stopped_page(alloc, kind, bytes, span.start, error.message()),
         None => Err(NoMemory),
     }
 }
@@ -80,7 +94,7 @@ pub fn document_faults(alloc: Global, bytes: &[u8]) -> Result<Page, NoMemory>
 {
     match read_shaped(alloc, bytes) {
         Ok(config) => faults(alloc, &config),
-        Err(LoadFault::NotToml) => not_toml(alloc, bytes),
+        Err(LoadFault::NotToml) => not_toml(alloc, "config", bytes),
         Err(LoadFault::Config(_)) => shape_page(alloc, bytes),
         Err(_) => Err(NoMemory),
     }

@@ -8,7 +8,7 @@ use dk_config::{MAX_SPAN, MAX_TICKS};
 
 /// The keys of a row, by what it asks for.
 #[derive(Clone, Copy)]
-pub(crate) enum Form {
+pub enum Form {
     Deadline,
     /// A chain with a reaction time, and maybe an age.
     Chain,
@@ -148,7 +148,7 @@ pub fn section_key(section: Section) -> Key
 }
 
 /// The keys that a document may have beside its version.
-pub(crate) fn top_keys() -> &'static [Key]
+pub fn top_keys() -> &'static [Key]
     ensures { result.now ≡ top_keys }
 {
     &[
@@ -164,7 +164,7 @@ pub(crate) fn top_keys() -> &'static [Key]
 }
 
 /// The keys that a row must have.
-pub(crate) fn needed_keys(form: Form) -> &'static [Key]
+pub fn needed_keys(form: Form) -> &'static [Key]
     ensures { result.now ≡ needed_keys form }
 {
     match form {
@@ -182,7 +182,7 @@ pub(crate) fn needed_keys(form: Form) -> &'static [Key]
 }
 
 /// The keys that it may have beside these.
-pub(crate) fn other_keys(form: Form) -> &'static [Key]
+pub fn other_keys(form: Form) -> &'static [Key]
     ensures { result.now ≡ other_keys form }
 {
     match form {

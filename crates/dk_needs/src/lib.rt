@@ -15,9 +15,11 @@ mod shape;
 mod tick;
 
 pub use fault::{Fault, Faults, Key, NeedsError, Place, Section, Why};
-pub use keys::{Shape, key_name, section_key, shape_of};
+pub use keys::{Form, Shape, key_name, needed_keys, other_keys, section_key, shape_of, top_keys};
+pub use look::{is_known, rows_at};
 pub use needs::{Names, Need, Needs, Tick, Unit, What};
 pub use reading::read_needs;
+pub use shape::form_of;
 
 /// The greatest number of rows of a section.
 pub const MAX_ROWS: usize = 256;

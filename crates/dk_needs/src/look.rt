@@ -59,7 +59,7 @@ pub(crate) fn number_at(table: &Table, key: Key) -> u32
 }
 
 /// The elements of the array at a key.
-pub(crate) fn rows_at<'a>(table: &'a Table, key: Key) -> &'a [Value]
+pub fn rows_at<'a>(table: &'a Table, key: Key) -> &'a [Value]
     ensures { map view result.now ≡ rows_at (key_name key) (table_view table.now) }
 {
     match find(table, key) {
@@ -77,7 +77,8 @@ fn is_among(keys: &[Key], name: &str) -> bool
     keys.iter().any(|k| key_name(*k) == name)
 }
 
-fn is_known(needed: &[Key], others: &[Key], name: &str) -> bool
+/// Whether one of these keys is spelled so.
+pub fn is_known(needed: &[Key], others: &[Key], name: &str) -> bool
     ensures { result ≡ is_known needed.now others.now name.now }
 {
     is_among(needed, name) || is_among(others, name)

@@ -12,7 +12,7 @@ use std::alloc::{AllocError, Global};
 use toml::{Table, Value};
 
 /// What a row of the section asks for, by its keys.
-pub(crate) fn form_of(section: Section, table: &Table) -> Form
+pub fn form_of(section: Section, table: &Table) -> Form
     ensures { result ≡ form_of section (table_view table.now) }
 {
     match section {
