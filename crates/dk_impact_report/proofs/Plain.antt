@@ -1,85 +1,49 @@
--- No field of the table calls for quotes, so a row is its fields with commas between them.
-use Rattle.std.proofs.Common.{ℕ, zero, suc, ◌≡◌, ◌∙◌, ◌<◌, ◌^◌, ◌++◌, true, false, List, [], ◌∷◌, sym, ap, refl, arith, append_assoc}
-use Rattle.std.specs.Prelude.{◌||◌, if◌then◌else◌, decimal, slice_get}
-use Rattle.std.specs.List.{AllByRecursion, list_all, list_any}
-use Rattle.std.specs.Char.{is_ascii_digit}
+-- No key of the table calls for quotes.
+use Rattle.std.proofs.Common.{ℕ, ◌≡◌, ◌∙◌, ◌++◌, List, [], ◌∷◌, ap, refl}
+use Rattle.std.specs.Prelude.{◌||◌, codes, slice_get, Option, Some, None}
+use Rattle.std.specs.List.{list_any}
 use Rattle.std.specs.Option.{option_map_or}
-use Rattle.std.specs.Str.{all_ascii_digits}
-use Rattle.std.specs.Str.Parse.{digits_value}
-use Rattle.std.proofs.lemmas.Bool.{and_parts}
-use Rattle.std.proofs.lemmas.Bool.Decides.{nat_tests}
-use Rattle.std.proofs.lemmas.Fmt.{digits_decimal}
 use Rattle.std.proofs.lemmas.List.Folds.{list_any-append}
-use Rattle.std.proofs.lemmas.Str.Parse.{IsNumeralModel, numerals_by_value, tells_all_ascii_digits}
 use Rattle.csv.specs.Quoting.{needs_byte}
-use Rattle.csv.specs.Writing.{default_writer, field_text, fields_text, is_blank, quoted}
+use Rattle.csv.specs.Writing.{default_writer}
 use Rattle.dk_config.specs.Configuration.{Configuration}
-use Rattle.dk_config.specs.Checked.{IsWithinLimits}
-use Rattle.dk_config.specs.Rules.{is_name, is_word}
-use Rattle.dk_config.specs.Windows.{process_name}
-use Rattle.dk_config.specs.declared.rows.ProcessRow.{ProcessRow}
-use Rattle.dk_impact_report.specs.Forms.{IsPlain, joined_record, joined_rest, record_text}
+use Rattle.dk_config.specs.Mutex.{Mutex}
+use Rattle.dk_impact.specs.declared.change.Change.{Change}
+use Rattle.dk_table.specs.Names.{HasPlainNames, mutex_name}
+use Rattle.dk_table.specs.Records.{IsPlain}
+use Rattle.dk_impact_report.specs.declared.impact.Cause.{Cause}
+use Rattle.dk_impact_report.specs.declared.impact.Impact.{Impact}
+use Rattle.dk_impact_report.specs.Told.{change_text, key_text, mutex_told}
 
-word-plain : (b : ℕ) → is_word b ≡ true → needs_byte default_writer b ≡ false
-word-plain b is = grind (arith, nat_tests)
-
-digit-plain : (b : ℕ) → is_ascii_digit b ≡ true → needs_byte default_writer b ≡ false
-digit-plain b is = grind (arith, nat_tests)
-
-one-more : (b : ℕ) (f : List ℕ) → needs_byte default_writer b ≡ false → IsPlain f → IsPlain (b ∷ f)
-one-more b f one rest = ap (λ n. n || list_any (needs_byte default_writer) f) one ∙ rest
-
-words-plain : (f : List ℕ) → list_all is_word f ≡ true → IsPlain f
-words-plain [] are = refl
-words-plain (b ∷ f) are =
-    let both = and_parts (is_word b) (list_all is_word f) are in
-    one-more b f (word-plain b both.0) (words-plain f both.1)
-
-digits-plain : (f : List ℕ) → all_ascii_digits f ≡ true → IsPlain f
-digits-plain [] are = refl
-digits-plain (b ∷ f) are =
-    let both = and_parts (is_ascii_digit b) (all_ascii_digits f) are in
-    one-more b f (digit-plain b both.0) (digits-plain f both.1)
-
-own : IsNumeralModel (λ ds. all_ascii_digits ds ≡ true) (digits_value 10)
-own = numerals_by_value _ tells_all_ascii_digits
-
--- a number is
-pub number_is_plain : (n : ℕ) → n < 2 ^ 64 → IsPlain (decimal n)
-number_is_plain n small = digits-plain (decimal n) (digits_decimal own n small)
-
--- and a number behind a plain word
-pub behind_is_plain : (f g : List ℕ) → IsPlain f → IsPlain g → IsPlain (f ++ g)
-behind_is_plain f g one two =
+-- a plain word behind another
+behind-plain : (f g : List ℕ) → IsPlain f → IsPlain g → IsPlain (f ++ g)
+behind-plain f g one two =
     list_any-append (needs_byte default_writer) f g ∙ ap (λ n. n || list_any (needs_byte default_writer) g) one ∙ two
 
-name_at : (rows : List ProcessRow) (p : ℕ) → list_all (λ row. is_name row.name) rows ≡ true
-    → list_all is_word (option_map_or (λ row. row.name) (slice_get rows p) []) ≡ true
-name_at [] p are = refl
-name_at (row ∷ rows) zero are = (and_parts _ (list_all is_word row.name) (and_parts (is_name row.name) _ are).0).1
-name_at (row ∷ rows) (suc p) are = name_at rows p (and_parts (is_name row.name) (list_all (λ r. is_name r.name) rows) are).1
+either-plain : (row : Option Mutex) (other : List ℕ) → IsPlain (option_map_or (λ (m : Mutex). m.name) row []) → IsPlain other
+    → IsPlain (option_map_or (λ (m : Mutex). m.name) row other)
+either-plain None other one two = two
+either-plain (Some m) other one two = one
 
--- the name of a process is
-pub name_is_plain : (c : Configuration) (p : ℕ) → IsWithinLimits c → IsPlain (process_name c p)
-name_is_plain c p limits = words-plain (process_name c p) (name_at c.processes p limits.names)
+module _ (old new : Configuration) (before : HasPlainNames old) (now : HasPlainNames new) where
+  mutex-plain : (m : ℕ) → IsPlain (mutex_told old new m)
+  mutex-plain m = either-plain (slice_get new.mutexes m) (mutex_name old m) (now.mutexes m) (before.mutexes m)
 
-field-plain : (f : List ℕ) → IsPlain f → field_text default_writer f ≡ f
-field-plain f plain = ap (λ b. if b then (quoted default_writer f) else f) plain
+  change-plain : (change : Change) → IsPlain (change_text old new change)
+  change-plain Change.Switch = refl
+  change-plain Change.Call = refl
+  change-plain Change.Period = refl
+  change-plain Change.Budget = refl
+  change-plain Change.Memory = refl
+  change-plain (Change.User m) = behind-plain (codes "user ") (mutex_told old new m) refl (mutex-plain m)
+  change-plain (Change.Hold m) = behind-plain (codes "hold ") (mutex_told old new m) refl (mutex-plain m)
+  change-plain Change.Levels = refl
 
-rest-plain : (fs : List (List ℕ)) → AllByRecursion IsPlain fs → fields_text default_writer fs ++ 10 ∷ [] ≡ joined_rest fs
-unfolding fields_text
-rest-plain [] all = refl
-rest-plain (f ∷ fs) all =
-    ap (λ t. 44 ∷ ((t ++ fields_text default_writer fs) ++ 10 ∷ [])) (field-plain f all.0)
-    ∙ ap (λ t. 44 ∷ t) (append_assoc f (fields_text default_writer fs) (10 ∷ []))
-    ∙ ap (λ t. 44 ∷ (f ++ t)) (rest-plain fs all.1)
-
--- a row of plain fields
-pub record_of_plain : (first second : List ℕ) (rest : List (List ℕ)) → IsPlain first → AllByRecursion IsPlain (second ∷ rest)
-    → joined_record first (second ∷ rest) ≡ record_text (first ∷ second ∷ rest)
-unfolding is_blank
-record_of_plain first second rest plain all =
-    let fs = second ∷ rest in
-    sym (ap (λ t. (t ++ fields_text default_writer fs) ++ 10 ∷ []) (field-plain first plain)
-    ∙ append_assoc first (fields_text default_writer fs) (10 ∷ [])
-    ∙ ap (λ t. first ++ t) (rest-plain fs all))
+  pub key_is_plain : (impact : Impact) → IsPlain (key_text old new impact)
+  key_is_plain Impact.Same = refl
+  key_is_plain Impact.Program = refl
+  key_is_plain (Impact.Changed change) = change-plain change
+  key_is_plain (Impact.Open Cause.Threads) = refl
+  key_is_plain (Impact.Open Cause.Slack) = refl
+  key_is_plain (Impact.Open Cause.Clock) = refl
+  key_is_plain Impact.New = refl

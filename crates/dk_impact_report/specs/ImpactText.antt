@@ -7,20 +7,23 @@ use Rattle.dk_config.specs.Sums.{below}
 use Rattle.dk_config.specs.Windows.{process_name}
 use Rattle.dk_impact_report.specs.declared.impact.Impact.{Impact}
 use Rattle.dk_impact_report.specs.declared.impact.Row.{Row}
-use Rattle.dk_impact_report.specs.declared.told.Form.{Form}
+use Rattle.dk_table.specs.declared.form.Form.{Form}
+use Rattle.dk_table.specs.Records.{record_text}
 use Rattle.dk_impact_report.specs.Impacts.{is_same, is_there}
-use Rattle.dk_impact_report.specs.Forms.{columns, record_text, told_text}
-use Rattle.dk_impact_report.specs.Told.{told_gone, told_of}
+use Rattle.dk_impact_report.specs.Forms.{columns, told_text}
+use Rattle.dk_impact_report.specs.Told.{key_text, told_gone, told_of}
 
--- process q of the new configuration
+-- process q of the new configuration, by its row
+abbrev pub row_text : Form → Configuration → Configuration → Row → ℕ → List ℕ
+row_text form old new row q = told_text form (process_name new q) (key_text old new row.impact) (told_of old new row q)
+
 abbrev pub process_text : Form → Configuration → Configuration → List Row → ℕ → List ℕ
-process_text form old new rows q =
-    option_map_or (λ row. told_text form (process_name new q) (told_of old new row q)) (slice_get rows q) []
+process_text form old new rows q = option_map_or (λ row. row_text form old new row q) (slice_get rows q) []
 
 -- process p of the old configuration, if it is gone
 abbrev pub gone_text : Form → Configuration → Configuration → ℕ → List ℕ
 gone_text form old new p =
-    if is_there new (process_name old p) then [] else told_text form (process_name old p) told_gone
+    if is_there new (process_name old p) then [] else told_text form (process_name old p) [] told_gone
 
 -- each process of the new configuration, and then each that is gone
 abbrev pub all_told : Form → Configuration → Configuration → List Row → List ℕ

@@ -1,8 +1,10 @@
 -- What is told of a process.
-use Rattle.std.specs.Prelude.{ℕ, List, [], ◌++◌, Option, Some, None, option_map, codes, decimal}
+use Rattle.std.specs.Prelude.{ℕ, List, [], ◌++◌, Option, Some, None, option_map, slice_get, codes}
+use Rattle.std.specs.Option.{option_map_or}
 use Rattle.dk_config.specs.Configuration.{Configuration}
 use Rattle.dk_config.specs.Windows.{budget, longest_hold, main_level, memory, period, process_name}
 use Rattle.dk_impact.specs.declared.change.Change.{Change}
+use Rattle.dk_table.specs.Names.{mutex_name}
 use Rattle.dk_impact_report.specs.declared.impact.Cause.{Cause}
 use Rattle.dk_impact_report.specs.declared.impact.Impact.{Impact}
 use Rattle.dk_impact_report.specs.declared.impact.Row.{Row}
@@ -46,16 +48,20 @@ cause_word Cause.Threads = codes "threads"
 cause_word Cause.Slack = codes "slack"
 cause_word Cause.Clock = codes "clock"
 
--- a mutex is told by its number, by which programs name it
-abbrev pub change_text : Change → List ℕ
-change_text Change.Switch = codes "switch"
-change_text Change.Call = codes "call"
-change_text Change.Period = codes "period"
-change_text Change.Budget = codes "budget"
-change_text Change.Memory = codes "memory"
-change_text (Change.User m) = codes "user " ++ decimal m
-change_text (Change.Hold m) = codes "hold " ++ decimal m
-change_text Change.Levels = codes "level"
+-- A mutex is told by its name in the new configuration, and where that hasn't got it in the old. Which one it is goes by its
+-- number, by which programs name it.
+abbrev pub mutex_told : Configuration → Configuration → ℕ → List ℕ
+mutex_told old new m = option_map_or (λ row. row.name) (slice_get new.mutexes m) (mutex_name old m)
+
+abbrev pub change_text : Configuration → Configuration → Change → List ℕ
+change_text old new Change.Switch = codes "switch"
+change_text old new Change.Call = codes "call"
+change_text old new Change.Period = codes "period"
+change_text old new Change.Budget = codes "budget"
+change_text old new Change.Memory = codes "memory"
+change_text old new (Change.User m) = codes "user " ++ mutex_told old new m
+change_text old new (Change.Hold m) = codes "hold " ++ mutex_told old new m
+change_text old new Change.Levels = codes "level"
 
 -- what becomes of the process, in a word
 abbrev pub impact_word : Option Impact → List ℕ
@@ -67,8 +73,8 @@ impact_word (Some (Impact.Open cause)) = codes "open"
 impact_word (Some Impact.New) = codes "new"
 
 -- and by what, if by anything
-abbrev pub key_text : Option Impact → List ℕ
-key_text (Some Impact.Program) = codes "program"
-key_text (Some (Impact.Changed change)) = change_text change
-key_text (Some (Impact.Open cause)) = cause_word cause
-key_text _ = []
+abbrev pub key_text : Configuration → Configuration → Impact → List ℕ
+key_text old new Impact.Program = codes "program"
+key_text old new (Impact.Changed change) = change_text old new change
+key_text old new (Impact.Open cause) = cause_word cause
+key_text old new _ = []

@@ -1,8 +1,10 @@
 //! The two forms in which a process is told.
-ghost use Rattle.std.specs.Prelude.{◌≡◌, ◌∷◌, [], ◌++◌, IfOk, codes, decimal, string_bytes};
-ghost use Rattle.dk_impact_report.specs.Forms.{IsPlain, behind_space, columns, fields, joined_line, joined_record, line_text, number_field, record_text, times_text, told_text, values_text};
+ghost use Rattle.std.specs.Prelude.{◌≡◌, IfOk, Some, string_bytes};
+ghost use Rattle.dk_table.specs.Records.{IsPlain, record_text};
+ghost use Rattle.dk_impact_report.specs.Forms.{behind_space, columns, joined_line, line_text, times_text, told_record, told_text, values_text};
 
-use crate::told::{Form, Told, impact_word, key_text};
+use crate::told::{Told, impact_word};
+use dk_table::{Form, optional_number, record_of_three};
 use std::alloc::{AllocError, Global};
 
 /// A word behind others, if there is one.
@@ -57,11 +59,10 @@ fn joined_line(
     format!(in alloc; "process {name} {impact}{key}{values}{times}\n")
 }
 
-fn line_text(alloc: Global, name: &str, told: Told) -> Result<String, AllocError>
-    ensures { IfOk result (λ s. string_bytes s ≡ line_text name.now told) }
+fn line_text(alloc: Global, name: &str, key: &str, told: Told) -> Result<String, AllocError>
+    ensures { IfOk result (λ s. string_bytes s ≡ line_text name.now key.now told) }
 {
-    let key = key_text(alloc, told.impact)?;
-    let key = behind_space(alloc, key.as_str())?;
+    let key = behind_space(alloc, key)?;
     let values = values_text(alloc, told.before, told.now)?;
     let times = times_text(alloc, told.done_before, told.done_now)?;
     joined_line(
@@ -74,7 +75,7 @@ fn line_text(alloc: Global, name: &str, told: Told) -> Result<String, AllocError
     )
 }
 
-/// The names of the columns, as a row.
+/// The names of the columns, as a record.
 pub(crate) fn column_names(alloc: Global) -> Result<String, AllocError>
     ensures { IfOk result (λ s. string_bytes s ≡ record_text columns) }
 {
@@ -84,124 +85,34 @@ pub(crate) fn column_names(alloc: Global) -> Result<String, AllocError>
     )
 }
 
-fn number_text(alloc: Global, number: u32) -> Result<String, AllocError>
-    ensures text { IfOk result (λ s. string_bytes s ≡ decimal number) }
-    ensures plain { IfOk result (λ s. IsPlain (string_bytes s)) }
-{
-    format!(in alloc; "{number}")
-}
-
-/// A field that is empty where there is no number.
-fn number_field(alloc: Global, number: Option<u32>) -> Result<String, AllocError>
-    ensures text { IfOk result (λ s. string_bytes s ≡ number_field number) }
-    ensures plain { IfOk result (λ s. IsPlain (string_bytes s)) }
-{
-    match number {
-        Some(number) => number_text(alloc, number),
-        None => String::from_str(alloc, ""),
-    }
-}
-
-fn joined_numbers(
-    alloc: Global,
-    before: &str,
-    now: &str,
-    done_before: &str,
-    done_now: &str,
-) -> Result<String, AllocError>
-    ensures { IfOk result (λ s. string_bytes s ≡ joined_record before.now (now.now ∷ done_before.now ∷ done_now.now ∷ [])) }
-{
-    format!(in alloc; "{before},{now},{done_before},{done_now}\n")
-}
-
-fn joined_words(
-    alloc: Global,
-    name: &str,
-    impact: &str,
-    key: &str,
-    rest: &str,
-) -> Result<String, AllocError>
-    ensures { IfOk result (λ s. string_bytes s
-        ≡ name.now ++ (codes "," ++ (impact.now ++ (codes "," ++ (key.now ++ (codes "," ++ rest.now)))))) }
-{
-    format!(in alloc; "{name},{impact},{key},{rest}")
-}
-
-fn joined_record(
-    alloc: Global,
-    name: &str,
-    impact: &str,
-    key: &str,
-    before: &str,
-    now: &str,
-    done_before: &str,
-    done_now: &str,
-) -> Result<String, AllocError>
-    ensures { IfOk result (λ s. string_bytes s
-        ≡ joined_record name.now (impact.now ∷ key.now ∷ before.now ∷ now.now ∷ done_before.now ∷ done_now.now ∷ [])) }
-{
-    let numbers = joined_numbers(alloc, before, now, done_before, done_now)?;
-    joined_words(alloc, name, impact, key, numbers.as_str())
-}
-
-/// No field has a byte that calls for quotes, so a row is its fields with commas between them.
-fn record_of(
-    alloc: Global,
-    name: &str,
-    impact: &str,
-    key: &str,
-    before: &str,
-    now: &str,
-    done_before: &str,
-    done_now: &str,
-) -> Result<String, AllocError>
+fn told_record(alloc: Global, name: &str, key: &str, told: Told) -> Result<String, AllocError>
     requires name { IsPlain name.now }
-    requires impact { IsPlain impact.now }
     requires key { IsPlain key.now }
-    requires before { IsPlain before.now }
-    requires now { IsPlain now.now }
-    requires done_before { IsPlain done_before.now }
-    requires done_now { IsPlain done_now.now }
-    ensures { IfOk result (λ s. string_bytes s
-        ≡ record_text (name.now ∷ impact.now ∷ key.now ∷ before.now ∷ now.now ∷ done_before.now ∷ done_now.now ∷ [])) }
+    ensures { IfOk result (λ s. string_bytes s ≡ told_record name.now key.now told) }
 {
-    joined_record(alloc, name, impact, key, before, now, done_before, done_now)
+    let numbers = [
+        optional_number(told.before),
+        optional_number(told.now),
+        optional_number(told.done_before),
+        optional_number(told.done_now),
+    ];
+    record_of_three(alloc, name, impact_word(told.impact), key, &numbers)
 }
 
-/// A row of the table.
-fn record_text(alloc: Global, name: &str, told: Told) -> Result<String, AllocError>
-    requires { IsPlain name.now }
-    ensures { IfOk result (λ s. string_bytes s ≡ record_text (fields name.now told)) }
-{
-    let key = key_text(alloc, told.impact)?;
-    let before = number_field(alloc, told.before)?;
-    let now = number_field(alloc, told.now)?;
-    let done_before = number_field(alloc, told.done_before)?;
-    let done_now = number_field(alloc, told.done_now)?;
-    record_of(
-        alloc,
-        name,
-        impact_word(told.impact),
-        key.as_str(),
-        before.as_str(),
-        now.as_str(),
-        done_before.as_str(),
-        done_now.as_str(),
-    )
-}
-
-/// What is told of the process of this name, in the form.
+/// What is told of the process of this name, by this key, in the form.
 pub(crate) fn told_text(
     alloc: Global,
     form: Form,
     name: &str,
+    key: &str,
     told: Told,
 ) -> Result<String, AllocError>
-    requires { IsPlain name.now }
-    ensures { IfOk result (λ s. string_bytes s ≡ told_text form name.now told) }
+    requires name { form ≡ Form.Record → IsPlain name.now }
+    requires key { form ≡ Form.Record → IsPlain key.now }
+    ensures { IfOk result (λ s. string_bytes s ≡ told_text form name.now key.now told) }
 {
     match form {
-        Form::Line => line_text(alloc, name, told),
-        Form::Record => record_text(alloc, name, told),
+        Form::Line => line_text(alloc, name, key, told),
+        Form::Record => told_record(alloc, name, key, told),
     }
 }

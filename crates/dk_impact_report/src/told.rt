@@ -1,24 +1,16 @@
 //! What is told of a process.
-ghost use Rattle.std.specs.Prelude.{◌≡◌, ◌++◌, IfOk, decimal, option_map, string_bytes};
+ghost use Rattle.std.specs.Prelude.{◌≡◌, ◌++◌, IfOk, option_map, string_bytes};
 ghost use Rattle.dk_config.specs.Checked.{IsWithinLimits};
 ghost use Rattle.dk_config.specs.Windows.{budget, longest_hold, main_level, memory, period, process_name};
-ghost use Rattle.dk_impact_report.specs.Forms.{IsPlain};
-ghost use Rattle.dk_impact_report.specs.Told.{cause_word, change_text, impact_word, key_text, told_gone, told_of, told_value, value_of};
+ghost use Rattle.dk_table.specs.Names.{HasPlainNames, mutex_name};
+ghost use Rattle.dk_table.specs.Records.{IsPlain};
+ghost use Rattle.dk_impact_report.specs.Told.{cause_word, change_text, impact_word, key_text, mutex_told, told_gone, told_of, told_value, value_of};
 
 use crate::comparing::place_of;
 use crate::{Cause, Impact, Row};
 use dk_config::Config;
 use dk_impact::Change;
 use std::alloc::{AllocError, Global};
-
-/// In which form processes are told.
-#[derive(Clone, Copy)]
-pub(crate) enum Form {
-    /// A line of the text.
-    Line,
-    /// A row of the table.
-    Record,
-}
 
 /// What is told of a process of either configuration.
 #[derive(Clone, Copy)]
@@ -35,7 +27,8 @@ pub(crate) struct Told {
 
 /// The name of the process.
 pub(crate) fn name_of(config: &Config, process: u32) -> &str
-    ensures { result.now ≡ process_name config.now process }
+    ensures name { result.now ≡ process_name config.now process }
+    ensures plain { HasPlainNames config.now → IsPlain result.now }
 {
     match config.processes.get(process as usize) {
         Some(row) => row.name.as_str(),
@@ -152,8 +145,7 @@ pub(crate) fn told_gone() -> Told
 }
 
 fn cause_word(cause: Cause) -> &'static str
-    ensures text { result.now ≡ cause_word cause }
-    ensures plain { IsPlain result.now }
+    ensures { result.now ≡ cause_word cause }
 {
     match cause {
         Cause::Threads => "threads",
@@ -162,37 +154,48 @@ fn cause_word(cause: Cause) -> &'static str
     }
 }
 
-/// A word that calls for no quotes.
-fn plain_text(alloc: Global, word: &str) -> Result<String, AllocError>
-    requires { IsPlain word.now }
-    ensures text { IfOk result (λ s. string_bytes s ≡ word.now) }
-    ensures plain { IfOk result (λ s. IsPlain (string_bytes s)) }
+fn mutex_name(config: &Config, mutex: u32) -> &str
+    ensures { result.now ≡ mutex_name config.now mutex }
 {
-    String::from_str(alloc, word)
+    match config.mutexes.get(mutex as usize) {
+        Some(row) => row.name.as_str(),
+        None => "",
+    }
 }
 
-/// Such a word with a mutex's number behind it.
-fn numbered_text(alloc: Global, word: &str, number: u32) -> Result<String, AllocError>
-    requires { IsPlain word.now }
-    ensures text { IfOk result (λ s. string_bytes s ≡ word.now ++ decimal number) }
-    ensures plain { IfOk result (λ s. IsPlain (string_bytes s)) }
+/// The name of the mutex in the new configuration, and where that hasn't got it in the old.
+fn mutex_told<'a>(old: &'a Config, new: &'a Config, mutex: u32) -> &'a str
+    ensures { result.now ≡ mutex_told old.now new.now mutex }
 {
-    format!(in alloc; "{word}{number}")
+    match new.mutexes.get(mutex as usize) {
+        Some(row) => row.name.as_str(),
+        None => mutex_name(old, mutex),
+    }
 }
 
-fn change_text(alloc: Global, change: Change) -> Result<String, AllocError>
-    ensures text { IfOk result (λ s. string_bytes s ≡ change_text change) }
-    ensures plain { IfOk result (λ s. IsPlain (string_bytes s)) }
+fn with_mutex(alloc: Global, word: &str, name: &str) -> Result<String, AllocError>
+    ensures { IfOk result (λ s. string_bytes s ≡ word.now ++ name.now) }
+{
+    format!(in alloc; "{word}{name}")
+}
+
+fn change_text(
+    alloc: Global,
+    old: &Config,
+    new: &Config,
+    change: Change,
+) -> Result<String, AllocError>
+    ensures { IfOk result (λ s. string_bytes s ≡ change_text old.now new.now change) }
 {
     match change {
-        Change::Switch => plain_text(alloc, "switch"),
-        Change::Call => plain_text(alloc, "call"),
-        Change::Period => plain_text(alloc, "period"),
-        Change::Budget => plain_text(alloc, "budget"),
-        Change::Memory => plain_text(alloc, "memory"),
-        Change::User(mutex) => numbered_text(alloc, "user ", mutex),
-        Change::Hold(mutex) => numbered_text(alloc, "hold ", mutex),
-        Change::Levels => plain_text(alloc, "level"),
+        Change::Switch => String::from_str(alloc, "switch"),
+        Change::Call => String::from_str(alloc, "call"),
+        Change::Period => String::from_str(alloc, "period"),
+        Change::Budget => String::from_str(alloc, "budget"),
+        Change::Memory => String::from_str(alloc, "memory"),
+        Change::User(mutex) => with_mutex(alloc, "user ", mutex_told(old, new, mutex)),
+        Change::Hold(mutex) => with_mutex(alloc, "hold ", mutex_told(old, new, mutex)),
+        Change::Levels => String::from_str(alloc, "level"),
     }
 }
 
@@ -212,14 +215,18 @@ pub(crate) fn impact_word(impact: Option<Impact>) -> &'static str
 }
 
 /// And by what, if by anything.
-pub(crate) fn key_text(alloc: Global, impact: Option<Impact>) -> Result<String, AllocError>
-    ensures text { IfOk result (λ s. string_bytes s ≡ key_text impact) }
-    ensures plain { IfOk result (λ s. IsPlain (string_bytes s)) }
+pub(crate) fn key_text(
+    alloc: Global,
+    old: &Config,
+    new: &Config,
+    impact: Impact,
+) -> Result<String, AllocError>
+    ensures { IfOk result (λ s. string_bytes s ≡ key_text old.now new.now impact) }
 {
     match impact {
-        Some(Impact::Program) => plain_text(alloc, "program"),
-        Some(Impact::Changed(change)) => change_text(alloc, change),
-        Some(Impact::Open(cause)) => plain_text(alloc, cause_word(cause)),
-        _ => plain_text(alloc, ""),
+        Impact::Program => String::from_str(alloc, "program"),
+        Impact::Changed(change) => change_text(alloc, old, new, change),
+        Impact::Open(cause) => String::from_str(alloc, cause_word(cause)),
+        _ => String::from_str(alloc, ""),
     }
 }
