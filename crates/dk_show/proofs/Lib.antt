@@ -5,8 +5,7 @@ pub mod Hearing
 pub mod Changing
 pub mod Ends
 pub mod HoldEnds
-pub mod WindowPages
-mod Loads
+pub mod Loads
 pub mod Wholes
 pub mod Asks
 pub mod Wanting

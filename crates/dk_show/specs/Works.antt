@@ -21,12 +21,14 @@ IsRangeReady w = (j : Journal) × IsReadable j × (text_of j ≡ w.bytes.items)
 abbrev pub IsWhole : Work → Type 0
 IsWhole (work.Draw w) = ⊥
 IsWhole (work.Windows report strictness ended) = IsPrintable report.heading × IsEnd ended
+IsWhole (work.AllWindows windows) = Unit {0}
 IsWhole (work.Page page ended) = IsEnd ended
 IsWhole (work.Review page ended) = IsEnd ended
 
 abbrev pub IsReady : Work → Type 0
 IsReady (work.Draw w) = IsRangeReady w
 IsReady (work.Windows report strictness ended) = IsPrintable report.heading × IsEnd ended
+IsReady (work.AllWindows windows) = Unit {0}
 IsReady (work.Page page ended) = IsEnd ended
 IsReady (work.Review page ended) = IsEnd ended
 
@@ -35,6 +37,7 @@ abbrev pub HasText : Work → List ℕ → Type 0
 HasText (work.Draw w) text =
     (j : Journal) × IsReadable j × (text_of j ≡ w.bytes.items) × (text ≡ drawn_text w.drawing w.from w.to j)
 HasText (work.Windows report strictness ended) text = text ≡ kept_lines strictness report.heading report.kept
+HasText (work.AllWindows windows) text = text ≡ windows
 HasText (work.Page page ended) text = text ≡ page
 HasText (work.Review page ended) text = text ≡ page
 
@@ -42,6 +45,7 @@ HasText (work.Review page ended) text = text ≡ page
 abbrev pub ended_of : Work → Status
 ended_of (work.Draw w) = status.Done
 ended_of (work.Windows report strictness ended) = ended
+ended_of (work.AllWindows windows) = status.Done
 ended_of (work.Page page ended) = ended
 ended_of (work.Review page ended) = ended
 

@@ -21,6 +21,7 @@ use dk_outside::{Depot, Sink, write_all_to};
 use dk_page::ReviewPage;
 use dk_show_request::{Request, meaning, usage, wrong_words};
 use dk_window_lines::{Strictness, write_lines};
+use dk_window_overruns::AllWindows;
 use dk_window_report::WindowReport;
 use std::alloc::{AllocError, Global};
 
@@ -116,6 +117,17 @@ fn put_windows<S: Sink>(
     }
 }
 
+/// Writes that, and each window that they overran.
+fn put_all<S: Sink>(windows: &AllWindows, sink: &mut S) -> Status
+    ensures left { Leaves S.seen (λ text s. (text ≡ windows.now) × (s ≡ Status.Done)) sink.old sink.new result }
+    ensures only { (result ≡ Status.Done) ⊎ (result ≡ Status.SinkFault) }
+{
+    match windows.write(sink) {
+        Ok(()) => Status::Done,
+        Err(_) => Status::SinkFault,
+    }
+}
+
 /// Writes what is ready.
 fn put<S: Sink>(alloc: Global, work: &Work, sink: &mut S) -> Status
     requires { IsReady work.now }
@@ -128,6 +140,7 @@ fn put<S: Sink>(alloc: Global, work: &Work, sink: &mut S) -> Status
     match work {
         Work::Draw(work) => put_drawing(alloc, work, sink),
         Work::Windows(report, strictness, ended) => put_windows(report, *strictness, *ended, sink),
+        Work::AllWindows(windows) => put_all(windows, sink),
         Work::Page(page, ended) => put_page(page, *ended, sink),
         Work::Review(page, ended) => put_review(page, *ended, sink),
     }

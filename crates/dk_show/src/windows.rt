@@ -1,5 +1,5 @@
 //! What the threads of a ledger did in their windows.
-ghost use Rattle.std.specs.Prelude.{List, ◌≡◌, ◌≢◌, ◌^◌, ◌<◌, IfOk, IfErr, IfSome, None};
+ghost use Rattle.std.specs.Prelude.{ℕ, List, ◌≡◌, ◌≢◌, ◌^◌, ◌<◌, IfOk, IfErr, IfSome, None};
 ghost use Rattle.dk_trace.specs.declared.Entry.{Entry};
 ghost use Rattle.dk_ledger.specs.Heading.{IsPrintable};
 ghost use Rattle.dk_window_report.specs.Rows.{IsKeptOf};
@@ -7,8 +7,11 @@ ghost use Rattle.dk_show.specs.Answers.{IsEnd};
 ghost use Rattle.dk_show.specs.Asking.{Asks, handed_out};
 ghost use Rattle.dk_show.specs.Leaves.{Reads};
 ghost use Rattle.dk_show.specs.Output.{IsOfNamed};
-ghost use Rattle.dk_show.specs.Windowed.{AreWindowsTold, IsOfWindows, sound_end, strictness_of};
-ghost use Rattle.dk_show.specs.Works.{IsMade, IsWhole, Plans};
+ghost use Rattle.dk_show.specs.Windowed.{AreTold, IsOfPage, IsOfWindows, done_end, lines_end, sound_end};
+ghost use Rattle.dk_show.specs.Works.{HasText, IsMade, IsWhole, Plans, ended_of};
+ghost use Rattle.dk_window_lines.specs.Lines.{windows_lines};
+ghost use Rattle.dk_window_overruns.specs.Overruns.{all_windows};
+ghost use Rattle.dk_window_table.specs.Table.{windows_csv};
 
 use crate::files::file_at;
 use crate::work::Work;
@@ -19,21 +22,10 @@ use dk_ledger::LedgerFault;
 use dk_outside::Depot;
 use dk_show_request::WindowsForm;
 use dk_window_lines::{Strictness, is_sound};
+use dk_window_overruns::AllWindows;
 use dk_window_report::WindowReport;
 use dk_window_table::windows_csv;
 use std::alloc::Global;
-
-/// Whether the ledger has to be clean, where its windows are told as lines.
-fn strictness_of(form: WindowsForm) -> Option<Strictness>
-    ensures { result ≡ strictness_of form }
-{
-    match form {
-        WindowsForm::Plain => Some(Strictness::Free),
-        WindowsForm::Strict => Some(Strictness::Strict),
-        WindowsForm::Sparing => Some(Strictness::Sparing),
-        WindowsForm::Csv => None,
-    }
-}
 
 /// How the call ends.
 fn sound_end(sound: bool) -> Status
@@ -43,22 +35,61 @@ fn sound_end(sound: bool) -> Status
     if sound { Status::Done } else { Status::Refused }
 }
 
-/// What is told of a report.
-fn of_report(alloc: Global, form: WindowsForm, report: WindowReport) -> Result<Work, Refusal>
+/// What is told of a report as lines.
+fn lines_work(report: WindowReport, strictness: Strictness) -> Work
     requires { IsPrintable report.heading }
-    ensures plans { (past : List Entry) → IsKeptOf report.heading past report.kept
-        → Plans (AreWindowsTold form report.heading past) result }
+    ensures told { (past : List Entry) (text : List ℕ) → IsKeptOf report.heading past report.kept → HasText result text
+        → AreTold (windows_lines strictness) (lines_end strictness) report.heading past text (ended_of result) }
+    ensures whole { IsWhole result }
+{
+    let ended = sound_end(is_sound(&report, strictness));
+    Work::Windows(report, strictness, ended)
+}
+
+/// What the threads of the ledger in these bytes did, as lines.
+fn of_lines(alloc: Global, strictness: Strictness, bytes: &[u8]) -> Result<Work, Refusal>
+    ensures plans { Plans (IsOfPage (windows_lines strictness) (lines_end strictness) bytes.now) result }
     ensures made { IsMade IsWhole result }
 {
-    match strictness_of(form) {
-        Some(strictness) => {
-            let ended = sound_end(is_sound(&report, strictness));
-            Ok(Work::Windows(report, strictness, ended))
-        }
-        None => {
-            let table = windows_csv(alloc, &report)?;
-            Ok(Work::Page(Page::new(table), Status::Done))
-        }
+    match WindowReport::of(alloc, bytes) {
+        Ok(report) => Ok(lines_work(report, strictness)),
+        Err(LedgerFault::Line(line)) => Err(Refusal::LedgerLine(line)),
+        Err(LedgerFault::NoMemory) => Err(Refusal::NoMemory),
+    }
+}
+
+/// What is told of a report as a table.
+fn table_work(alloc: Global, report: &WindowReport) -> Result<Work, Refusal>
+    requires { IsPrintable report.now.heading }
+    ensures plans { (past : List Entry) → IsKeptOf report.now.heading past report.now.kept
+        → Plans (AreTold windows_csv done_end report.now.heading past) result }
+    ensures made { IsMade IsWhole result }
+{
+    let table = windows_csv(alloc, report)?;
+    Ok(Work::Page(Page::new(table), Status::Done))
+}
+
+/// What the threads of the ledger in these bytes did, as a table.
+fn of_table(alloc: Global, bytes: &[u8]) -> Result<Work, Refusal>
+    ensures plans { Plans (IsOfPage windows_csv done_end bytes.now) result }
+    ensures made { IsMade IsWhole result }
+{
+    match WindowReport::of(alloc, bytes) {
+        Ok(report) => table_work(alloc, &report),
+        Err(LedgerFault::Line(line)) => Err(Refusal::LedgerLine(line)),
+        Err(LedgerFault::NoMemory) => Err(Refusal::NoMemory),
+    }
+}
+
+/// What the threads of the ledger in these bytes did, with each window that was overrun.
+fn of_all(alloc: Global, bytes: &[u8]) -> Result<Work, Refusal>
+    ensures plans { Plans (IsOfPage all_windows done_end bytes.now) result }
+    ensures made { IsMade IsWhole result }
+{
+    match AllWindows::of(alloc, bytes) {
+        Ok(windows) => Ok(Work::AllWindows(windows)),
+        Err(LedgerFault::Line(line)) => Err(Refusal::LedgerLine(line)),
+        Err(LedgerFault::NoMemory) => Err(Refusal::NoMemory),
     }
 }
 
@@ -67,10 +98,12 @@ fn of_ledger(alloc: Global, form: WindowsForm, bytes: &[u8]) -> Result<Work, Ref
     ensures plans { Plans (IsOfWindows form bytes.now) result }
     ensures made { IsMade IsWhole result }
 {
-    match WindowReport::of(alloc, bytes) {
-        Ok(report) => of_report(alloc, form, report),
-        Err(LedgerFault::Line(line)) => Err(Refusal::LedgerLine(line)),
-        Err(LedgerFault::NoMemory) => Err(Refusal::NoMemory),
+    match form {
+        WindowsForm::Plain => of_lines(alloc, Strictness::Free, bytes),
+        WindowsForm::Strict => of_lines(alloc, Strictness::Strict, bytes),
+        WindowsForm::Sparing => of_lines(alloc, Strictness::Sparing, bytes),
+        WindowsForm::All => of_all(alloc, bytes),
+        WindowsForm::Csv => of_table(alloc, bytes),
     }
 }
 

@@ -15,6 +15,7 @@ use dk_show_request::Drawing;
 use dk_trace_events::Trace;
 use dk_vcd::Dump;
 use dk_window_lines::Strictness;
+use dk_window_overruns::AllWindows;
 use dk_window_report::WindowReport;
 use std::alloc::Global;
 
@@ -34,6 +35,8 @@ pub(crate) enum Work {
     Draw(RangeWork),
     /// What threads did in their windows, whether the ledger has to be clean, and the status of the call once it is written.
     Windows(WindowReport, Strictness, Status),
+    /// That, and each window that they overran.
+    AllWindows(AllWindows),
     /// A whole page, and the status of the call once it is written.
     Page(Page, Status),
     /// A page for a review, and the status of the call once it is written.

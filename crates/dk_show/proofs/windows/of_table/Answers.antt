@@ -1,8 +1,9 @@
 use Rattle.std.proofs.Common.{inl, inr, reverse, rules}
 use Rattle.dk_ledger.specs.Readable.{Journal}
-use Rattle.dk_show.specs.Windowed.{AreWindowsTold, IsOfWindows}
+use Rattle.dk_window_table.specs.Table.{windows_csv}
+use Rattle.dk_show.specs.Windowed.{AreTold, IsOfPage, done_end}
 use Rattle.dk_show.proofs.Planning.{plans_wider}
-use Rattle.dk_show.proofs.windows.of_ledger.Goals as goal
+use Rattle.dk_show.proofs.windows.of_table.Goals as goal
 
 pub returns-in-Ok-clause-plans : goal.returns-in-Ok-clause-plans
 returns-in-Ok-clause-plans c =
@@ -11,9 +12,9 @@ returns-in-Ok-clause-plans c =
     let es = all.0 in
     let read = all.1 in
     let j : Journal = record { heading = report.heading; entries = es } in
-    plans_wider (AreWindowsTold c.args.form report.heading (reverse es)) (IsOfWindows c.args.form c.args.bytes.now)
+    plans_wider (AreTold windows_csv done_end report.heading (reverse es)) (IsOfPage windows_csv done_end c.args.bytes.now)
     (λ t s told. inr (record { ledger = j; readable = read.readable; bytes_are = read.text; told = told }))
-    c.of_report.result (c.of_report.ensures.plans (reverse es) all.2)
+    c.table_work.result (c.table_work.ensures.plans (reverse es) all.2)
 
 pub returns-in-Err-Line-clause-plans : goal.returns-in-Err-Line-clause-plans
 returns-in-Err-Line-clause-plans c = λ told.

@@ -1,0 +1,13 @@
+use Rattle.std.proofs.Common.{◌∙◌, inl, inr, refl, rules}
+use Rattle.dk_show.proofs.windows.of_all.Goals as goal
+
+pub returns-in-Ok-clause-plans : goal.returns-in-Ok-clause-plans
+returns-in-Ok-clause-plans c = λ text has.
+    let all = c.in-Ok.ensures.text in
+    inr (record { ledger = all.0; readable = all.1; bytes_are = all.2.0; told = (has ∙ all.2.1, refl) })
+
+pub returns-in-Err-Line-clause-plans : goal.returns-in-Err-Line-clause-plans
+returns-in-Err-Line-clause-plans c = λ told.
+    let n = c.in-Err-Line.line in
+    let found = c.of.ensures.line n (cc) in
+    inl (record { line = n; wrong = found.0; none = found.1; says = search rules })
