@@ -73,12 +73,12 @@ one-met w p (waits.NotFrom tick) is met = absurd (let bad : Verdict.Missed ≡ V
 one-met w p waits.NotWithin is met = absurd (let bad : Verdict.Open ≡ Verdict.Met = met in cc)
 one-met w p (waits.Unknown k) is met = absurd (unless-met k met)
 
-one-missed : (w : Workload) (p : ℕ) (x : Waits) → IsWaits w.config w.programs p x → waiting_verdict (waiting_of x) ≡ Verdict.Missed
-    → (tick : ℕ) × (Answer.Waits (waiting_of x) ≡ Answer.Waits (Waiting.NotFrom tick)) × WaitsNotFrom w p tick
-one-missed w p waits.Always is met = absurd (let bad : Verdict.Met ≡ Verdict.Missed = met in cc)
-one-missed w p (waits.NotFrom tick) is met = (tick, refl, is)
-one-missed w p waits.NotWithin is met = absurd (let bad : Verdict.Open ≡ Verdict.Missed = met in cc)
-one-missed w p (waits.Unknown k) is met = absurd (unless-missed k met)
+one-missed : (w : Workload) (p : ℕ) (x : Waits) (t : Answer) → IsWaits w.config w.programs p x → t ≡ Answer.Waits (waiting_of x)
+    → waiting_verdict (waiting_of x) ≡ Verdict.Missed → (tick : ℕ) × (t ≡ Answer.Waits (Waiting.NotFrom tick)) × WaitsNotFrom w p tick
+one-missed w p waits.Always t is same met = absurd (let bad : Verdict.Met ≡ Verdict.Missed = met in cc)
+one-missed w p (waits.NotFrom tick) t is same met = (tick, same, is)
+one-missed w p waits.NotWithin t is same met = absurd (let bad : Verdict.Open ≡ Verdict.Missed = met in cc)
+one-missed w p (waits.Unknown k) t is same met = absurd (unless-missed k met)
 
 abbrev answer_at : Option Waits → Answer
 answer_at o = option_map_or (λ w. Answer.Waits (waiting_of w)) o (Answer.Open Reason.NotTested)
@@ -88,27 +88,35 @@ waits-met : (w : Workload) (ws : List Waits) (p : ℕ) (o : Option Waits) → Ar
 waits-met w ws p None are is met = absurd (let bad : Verdict.Open ≡ Verdict.Met = met in cc)
 waits-met w ws p (Some x) are is met = one-met w p x (are.each p x is) met
 
-waits-missed : (w : Workload) (ws : List Waits) (p : ℕ) (o : Option Waits) → AreWaits w.config w.programs ws → slice_get ws p ≡ o
-    → verdict_of (answer_at o) ≡ Verdict.Missed → (tick : ℕ) × (answer_at o ≡ Answer.Waits (Waiting.NotFrom tick)) × WaitsNotFrom w p tick
-waits-missed w ws p None are is met = absurd (let bad : Verdict.Open ≡ Verdict.Missed = met in cc)
-waits-missed w ws p (Some x) are is met = one-missed w p x (are.each p x is) met
+waits-missed : (w : Workload) (ws : List Waits) (p : ℕ) (o : Option Waits) (t : Answer) → AreWaits w.config w.programs ws → slice_get ws p ≡ o
+    → t ≡ answer_at o → verdict_of (answer_at o) ≡ Verdict.Missed
+    → (tick : ℕ) × (t ≡ Answer.Waits (Waiting.NotFrom tick)) × WaitsNotFrom w p tick
+waits-missed w ws p None t are is same met = absurd (let bad : Verdict.Open ≡ Verdict.Missed = met in cc)
+waits-missed w ws p (Some x) t are is same met = one-missed w p x t (are.each p x is) same met
 
 -- ---- what is told of the run
 
-cycle-met : (w : Workload) (y : Cycle) (b : Bool) → nat_lt 0 y.length ≡ b → RepeatsForEver w.config w.programs y.start y.length
-    → repeating_verdict (if b then (Repeating.Every y.start y.length) else (cycle_told None)) ≡ Verdict.Met
-    → (start : ℕ) × (every : ℕ) × ((if b then (Repeating.Every y.start y.length) else (cycle_told None)) ≡ Repeating.Every start every)
-    × (0 < every) × RepeatsForEver w.config w.programs start every
-cycle-met w y true is repeats met = (y.start, y.length, refl, grind (arith, nat_tests), repeats)
-cycle-met w y false is repeats met = absurd (let bad : Verdict.Open ≡ Verdict.Met = met in cc)
-
-repeats-met : (w : Workload) (reader : Option ℕ) (cycle : Option Cycle) → IfSome cycle (λ y. RepeatsForEver w.config w.programs y.start y.length)
-    → repeating_verdict (repeating_by reader cycle) ≡ Verdict.Met
-    → (start : ℕ) × (every : ℕ) × (repeating_by reader cycle ≡ Repeating.Every start every) × (0 < every)
+-- the run repeats as the answer tells
+abbrev AsTold : Workload → Answer → Type 0
+AsTold w t =
+    (start : ℕ) × (every : ℕ) × (t ≡ Answer.Repeats (Repeating.Every start every)) × (0 < every)
     × RepeatsForEver w.config w.programs start every
-repeats-met w (Some p) cycle is met = absurd (let bad : Verdict.Open ≡ Verdict.Met = met in cc)
-repeats-met w None None is met = absurd (let bad : Verdict.Open ≡ Verdict.Met = met in cc)
-repeats-met w None (Some y) is met = cycle-met w y (nat_lt 0 y.length) refl is met
+
+some-length : (n : ℕ) → nat_lt 0 n ≡ true → 0 < n
+some-length n is = grind (arith, nat_tests)
+
+cycle-met : (w : Workload) (y : Cycle) (b : Bool) (t : Answer) → nat_lt 0 y.length ≡ b → RepeatsForEver w.config w.programs y.start y.length
+    → t ≡ Answer.Repeats (if b then (Repeating.Every y.start y.length) else (cycle_told None))
+    → repeating_verdict (if b then (Repeating.Every y.start y.length) else (cycle_told None)) ≡ Verdict.Met → AsTold w t
+cycle-met w y true t is repeats same met = (y.start, y.length, same, some-length y.length is, repeats)
+cycle-met w y false t is repeats same met = absurd (let bad : Verdict.Open ≡ Verdict.Met = met in cc)
+
+repeats-met : (w : Workload) (reader : Option ℕ) (cycle : Option Cycle) (t : Answer)
+    → IfSome cycle (λ y. RepeatsForEver w.config w.programs y.start y.length) → t ≡ Answer.Repeats (repeating_by reader cycle)
+    → repeating_verdict (repeating_by reader cycle) ≡ Verdict.Met → AsTold w t
+repeats-met w (Some p) cycle t is same met = absurd (let bad : Verdict.Open ≡ Verdict.Met = met in cc)
+repeats-met w None None t is same met = absurd (let bad : Verdict.Open ≡ Verdict.Met = met in cc)
+repeats-met w None (Some y) t is same met = cycle-met w y (nat_lt 0 y.length) t refl is same met
 
 pub sound : (w : Workload) (a : Always) → IsAlways w a → IsSound w a
 sound w a is =
@@ -118,10 +126,8 @@ sound w a is =
           (ap verdict_of (sym (told-waits w needs a row p asks)) ∙ met);
       misses = λ needs row p asks missed.
           let same = told-waits w needs a row p asks in
-          let found = waits-missed w a.waits.items p (slice_get a.waits.items p) is.waits refl (ap verdict_of (sym same) ∙ missed) in
-          (found.0, same ∙ found.1, found.2);
+          waits-missed w a.waits.items p (slice_get a.waits.items p) (told w needs a row) is.waits refl same (ap verdict_of (sym same) ∙ missed);
       repeats = λ needs row asks met.
           let same = told-repeats w needs a row asks in
-          let found = repeats-met w a.run.reader a.run.cycle is.run.cycle (ap verdict_of (sym same) ∙ met) in
-          (found.0, found.1, same ∙ ap (λ (r : Repeating). Answer.Repeats r) found.2, found.3, found.4);
+          repeats-met w a.run.reader a.run.cycle (told w needs a row) is.run.cycle same (ap verdict_of (sym same) ∙ met);
     }

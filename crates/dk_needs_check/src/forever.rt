@@ -39,15 +39,22 @@ pub(crate) fn waiting_text(alloc: Global, waiting: Waiting) -> Result<String, Al
     }
 }
 
+/// The name at this place.
+fn text_at(names: &[Text], place: u8) -> &str
+    ensures { result.now ≡ name_at names.now place }
+{
+    match names.get(place as usize) {
+        Some(name) => name.as_str(),
+        None => "",
+    }
+}
+
 /// The name of the process of this number.
 fn name_at(names: &[Text], process: u8) -> &str
     ensures text { result.now ≡ name_at names.now process }
     ensures plain { AreNamed names.now → IsPlain result.now }
 {
-    match names.get(process as usize) {
-        Some(name) => name.as_str(),
-        None => "",
-    }
+    text_at(names, process)
 }
 
 /// Whether the run repeats.
