@@ -3,7 +3,7 @@ ghost use Rattle.std.specs.Prelude.{ℕ, ◌≡◌, ◌≤◌, ◌<◌, ◌-◌,
 ghost use Rattle.toml.specs.View.{table_view, view};
 ghost use Rattle.dk_config.specs.declared.TheConstants.{MAX_CONFIG_BYTES};
 ghost use Rattle.dk_loader.specs.Reading.{document};
-ghost use Rattle.dk_document_report.specs.Expressions.{AreEnds, start_of, stop_of};
+ghost use Rattle.dk_document_report.specs.Expressions.{AreEnds, IsExpression, start_of, stop_of};
 ghost use Rattle.dk_document_report.specs.Standing.{Decides, IsFirstWord, IsPlaceText, IsPlaced, IsReachedIn, IsSearch, IsWithin, is_blank, key_stands, place_text, row_has, stands, stands_by, told_key};
 
 use crate::findings::Finding;
@@ -133,7 +133,8 @@ pub(crate) fn piece_of<F: Fn(&[u8]) -> Result<bool, NoMemory>>(
 ) -> Result<Piece, NoMemory>
     requires callable { F.IsAlwaysCallable test }
     requires ends { AreEnds bytes.now ends.now }
-    ensures { (reached : List ℕ → Bool) → Decides (F.post test) reached → reached bytes.now ≡ true
+    ensures is { IfOk result (λ p. IsExpression bytes.now p.start p.stop) }
+    ensures found { (reached : List ℕ → Bool) → Decides (F.post test) reached → reached bytes.now ≡ true
         → IfOk result (λ p. IsReachedIn bytes.now reached p.start p.stop) }
 {
     let mut search = Search {

@@ -7,7 +7,7 @@ pub returns : goal.returns
 returns c =
     let piece = c.in_ok-piece.piece in
     let refused : is_refused c.args.bytes.now ≡ true = grind (arith, c.requires.refused) in
-    let reached : IsReachedIn c.args.bytes.now is_refused piece.start piece.stop = c.in_ok-piece.ensures is_refused (λ part r called. search rules) refused in
+    let reached : IsReachedIn c.args.bytes.now is_refused piece.start piece.stop = c.in_ok-piece.ensures.found is_refused (λ part r called. search rules) refused in
     let order : piece.start ≤ piece.stop = reached.is.order in
     record {
       start = piece.start;
