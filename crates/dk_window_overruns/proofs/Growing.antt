@@ -1,6 +1,6 @@
 -- How the windows that a thread overran are found entry by entry.
-use Rattle.std.proofs.Common.{ℕ, suc, ◌≡◌, ◌+◌, ◌-◌, ◌<◌, ◌≤◌, ◌∙◌, refl, sym, ap, subst, arith, Bool, true, false, List, [], ◌∷◌, ◌++◌, length, length-append, append_assoc, append-nil, reverse, take, get_or}
-use Rattle.std.specs.Prelude.{nat_lt, if◌then◌else◌}
+use Rattle.std.proofs.Common.{ℕ, suc, ◌≡◌, ◌+◌, ◌-◌, ◌%◌, ◌<◌, ◌≤◌, ◌∙◌, refl, sym, ap, subst, arith, Bool, true, false, List, [], ◌∷◌, ◌++◌, length, length-append, append_assoc, append-nil, reverse, take, get_or}
+use Rattle.std.specs.Prelude.{◌==◌, nat_lt, if◌then◌else◌}
 use Rattle.std.proofs.lemmas.Bool.{lt-ltb, le-ltb}
 use Rattle.dk_trace.specs.declared.Entry.{Entry}
 use Rattle.dk_window_report.specs.declared.row.Did.{Did}
@@ -39,6 +39,9 @@ grown-as false period now n before after old new few =
 at-most-one : (b : Bool) (n : ℕ) → length (if b then n ∷ [] else []) ≤ 1
 at-most-one true n = omega arith
 at-most-one false n = omega arith
+
+pub grown-short : (period now : ℕ) (before after : WindowCounts) → length (grown period now before after) ≤ 1
+grown-short period now before after = at-most-one (nat_lt before.overran after.overran) (suc now - period)
 
 few-found : (o : Owner) (past : List Entry) → length (overran_at o past) ≤ length past
 few-found o [] = omega arith

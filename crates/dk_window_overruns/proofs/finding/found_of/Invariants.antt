@@ -4,11 +4,11 @@ use Rattle.dk_window_overruns.proofs.Searching.{IsSearched}
 use Rattle.dk_window_overruns.proofs.finding.found_of.Given as goal
 
 -- what was found in the entries so far
-abbrev pub invariant-loop-ticks : goal.invariant-loop-ticks
-invariant-loop-ticks l = record {
+abbrev pub invariant-loop-own : goal.invariant-loop-own
+invariant-loop-own l = record {
   searched : IsSearched (owner_of l.row) l.entries l.now l.own l.ticks.items;
   most : length l.ticks.items ≤ l.row.counts.overran;
 }
 
-abbrev pub decreases-loop-ticks : goal.decreases-loop-ticks
-decreases-loop-ticks l = length l.entries - l.now
+abbrev pub decreases-loop-own : goal.decreases-loop-own
+decreases-loop-own l = length l.entries - l.now
