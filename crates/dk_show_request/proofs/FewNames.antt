@@ -97,9 +97,9 @@ replay_few (Some profile) None file = tt
 replay_few (Some profile) (Some name) None = tt
 replay_few (Some profile) (Some name) (Some file) = tt
 
-page_few : (file : Word) → Few (page_by file)
-page_few None = tt
-page_few (Some file) = tt
+page_few : (file ledger : Word) → Few (page_by file ledger)
+page_few None ledger = tt
+page_few (Some file) ledger = tt
 
 asked_few : (c : Command) (rows : List Row) → Few (asked c rows)
 asked_few (command.Draw d) rows = drawing_few d (first_of (codes "LEDGER") rows) (range_in rows)
@@ -116,7 +116,7 @@ asked_few command.Check rows =
     check_few (check_form_in rows) (first_of (codes "LEDGER") rows) (first_of (codes "FILE") rows) (first_of (codes "NEEDS") rows)
 asked_few command.Replay rows =
     replay_few (first_of (codes "PROFILE") rows) (first_of (codes "NAME") rows) (first_of (codes "FILE") rows)
-asked_few command.Page rows = page_few (first_of (codes "FILE") rows)
+asked_few command.Page rows = page_few (first_of (codes "FILE") rows) (first_of (codes "LEDGER") rows)
 
 pub asked_by_few : (c : Command) (ws : List (List ℕ)) → Few (asked_by c ws)
 asked_by_few c ws =

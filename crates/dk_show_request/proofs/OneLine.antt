@@ -90,7 +90,7 @@ names_clean command.Repeats = ((refl, (refl, tt)), tt)
 names_clean command.Check = ((refl, (refl, tt)), (refl, tt))
 names_clean command.Holds = ((refl, tt), (refl, tt))
 names_clean command.Replay = ((refl, (refl, (refl, tt))), tt)
-names_clean command.Page = ((refl, tt), tt)
+names_clean command.Page = ((refl, tt), (refl, tt))
 
 flags_clean : (c : Command) → IsClean (marks_text (form_of c).marks)
 flags_clean command.Picture = refl

@@ -340,11 +340,18 @@ fn replay_by(
     }
 }
 
-fn page_by(alloc: Global, file: Option<&str>) -> Result<Option<Request>, NoMemory>
-    ensures { IfOk result (λ r. r ≡ page_by (option_map (λ w. w.now) file.entry)) }
+fn page_by(
+    alloc: Global,
+    file: Option<&str>,
+    ledger: Option<&str>,
+) -> Result<Option<Request>, NoMemory>
+    ensures { IfOk result (λ r. r ≡ page_by (option_map (λ w. w.now) file.entry) (option_map (λ w. w.now) ledger.entry)) }
 {
     match file {
-        Some(file) => Ok(Some(Request::Page(copy_of(alloc, file)?))),
+        Some(file) => Ok(Some(Request::Page {
+            file: copy_of(alloc, file)?,
+            ledger: copy_if(alloc, ledger)?,
+        })),
         None => Ok(None),
     }
 }
@@ -391,6 +398,6 @@ pub fn asked(alloc: Global, command: Command, given: &Given) -> Result<Option<Re
             given.word("NAME"),
             given.word("FILE"),
         ),
-        Command::Page => page_by(alloc, given.word("FILE")),
+        Command::Page => page_by(alloc, given.word("FILE"), given.word("LEDGER")),
     }
 }

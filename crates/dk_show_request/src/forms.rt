@@ -155,12 +155,13 @@ pub fn form_of(command: Command) -> Form
         Command::Picture | Command::Draw(_) => plain(LEDGER, FROM_TO, true),
         Command::Windows => windows_form(),
         Command::Holds => plain(LEDGER, FILE, false),
-        Command::Faults | Command::Page => plain(FILE, NONE, false),
+        Command::Faults => plain(FILE, NONE, false),
         Command::Tell(_) => telling_form(),
         Command::Chain => chain_form(),
         Command::Impact => change_form(),
         Command::Repeats => plain(FILE_TICKS, NONE, true),
         Command::Check => check_form(),
         Command::Replay => plain(PROFILE_NAME_FILE, NONE, false),
+        Command::Page => plain(FILE, LEDGER, false),
     }
 }
