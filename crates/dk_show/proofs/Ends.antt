@@ -28,7 +28,6 @@ use Rattle.dk_show.specs.Chains.{AreReactionsTold, ChainIn, IsChainTold, IsOfOth
 use Rattle.dk_show.specs.Loading.{IsOf, certified_at}
 use Rattle.dk_show.specs.Sources.{IsOfSource, is_source_name}
 use Rattle.dk_show.specs.Replays.{IsOfProfile}
-use Rattle.dk_show.specs.Reviewed.{IsOfReview, IsReviewOf}
 use Rattle.dk_profile.specs.declared.TheConstants.{MAX_PROFILE_BYTES}
 use Rattle.dk_asm.specs.declared.TheConstants.{MAX_SOURCE_BYTES}
 use Rattle.dk_show_request.specs.Meaning.{IsSought}
@@ -137,11 +136,6 @@ wrong_ends at file x y s true one two =
 wrong_ends at file x y s false one two =
     named_ends at file MAX_CONFIG_BYTES why.LongConfig IsOfFaults x y s (λ bad. cc) (λ bytes a b. b.1 ∙ sym a.1) one two
 
-review_ends : (name bytes : List ℕ) (r : Result Configuration LoadFault) (x y : List ℕ) (s : Status)
-    → IsReviewOf name bytes r x status.Done → IsReviewOf name bytes r y s → s ≡ status.Done
-review_ends name bytes (Ok c) x y s one two = two.ends ∙ sym one.ends
-review_ends name bytes (Err e) x y s one two = let bad = one.ends in cc
-
 pub request_ends : (r : Request) (at : Files) (x y : List ℕ) (s : Status) → (IsSought (Some r) → ⊥) → IsOfRequest r at x status.Done → IsOfRequest r at y s → s ≡ status.Done
 request_ends (request.Draw r) at x y s known one two =
     named_ends at r.ledger MAX_LEDGER_BYTES why.LongLedger (IsOfBytes r) x y s (λ bad. cc) (λ bytes a b. ledger_ends r bytes x y s a b) one two
@@ -172,9 +166,6 @@ request_ends (request.Replay r) at x y s known one two =
     of_ends (certified_at (at r.file)) (λ c. IsOfNamed at r.profile MAX_PROFILE_BYTES why.LongProfile (IsOfProfile c r.name)) x y s
     (λ c. named_ends at r.profile MAX_PROFILE_BYTES why.LongProfile (IsOfProfile c r.name) x y s (λ bad. cc) (λ bytes a b. b.1 ∙ sym a.1))
     one two
-request_ends (request.Page file) at x y s known one two =
-    named_ends at file MAX_CONFIG_BYTES why.LongConfig (IsOfReview file) x y s (λ bad. cc)
-    (λ bytes a b. review_ends file bytes (reading bytes) x y s a b) one two
 
 -- a call that ends otherwise has met the outside or want of memory
 pub completes : (files : Option Files) (r : Request) (s : Status) → (IsAnswer s → (y : List ℕ) × IfSome files (λ at. IsOfRequest r at y s))

@@ -11,4 +11,3 @@ whole_ready (Ok (work.Draw w)) is = absurd is
 whole_ready (Ok (work.Windows report strictness ended)) is = is
 whole_ready (Ok (work.AllWindows windows)) is = tt
 whole_ready (Ok (work.Page page ended)) is = is
-whole_ready (Ok (work.Review page ended)) is = is
