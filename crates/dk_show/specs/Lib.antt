@@ -8,7 +8,6 @@ pub mod Sources
 pub mod Impacts
 pub mod Repeats
 pub mod Replays
-pub mod Reviewed
 pub mod Needed
 pub mod Asking
 pub mod Windowed

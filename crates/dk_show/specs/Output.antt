@@ -45,7 +45,6 @@ use Rattle.dk_show_request.specs.Reasons.{wrong_text}
 use Rattle.dk_show_request.specs.Usage.{usage_text}
 use Rattle.dk_show.specs.Repeats.{IsOfRepeats}
 use Rattle.dk_show.specs.Replays.{IsOfProfile}
-use Rattle.dk_show.specs.Reviewed.{IsOfReview, certified_end}
 use Rattle.dk_profile.specs.declared.TheConstants.{MAX_PROFILE_BYTES}
 use Rattle.dk_show.specs.Sources.{IsOfSource, is_source_name}
 use Rattle.dk_show.specs.Windowed.{IsOfWindows}
@@ -126,6 +125,11 @@ pub record IsPictureOf (range : Option Range) (bytes : List ℕ) (text : List �
 abbrev pub IsOfPicture : Option Range → List ℕ → List ℕ → Status → Type 0
 IsOfPicture range bytes text ended = IsWrong bytes text ended ⊎ IsPictureOf range bytes text ended
 
+-- the status tells whether the configuration is certified
+abbrev pub certified_end : Verdict → Status
+certified_end (verdict.Accepted rows) = status.Done
+certified_end (verdict.Fails level needs window) = status.Uncertified
+
 -- the form in which it is told
 abbrev pub form_of : Bool → Form
 form_of true = Form.Record
@@ -187,8 +191,6 @@ IsOfRequest (request.Check r) at text ended = IsOf (ready_at at r) (IsOfCheck at
 IsOfRequest (request.Replay r) at text ended =
     IsOf (certified_at (at r.file))
     (λ c. IsOfNamed at r.profile MAX_PROFILE_BYTES why.LongProfile (IsOfProfile c r.name)) text ended
-IsOfRequest (request.Page file) at text ended =
-    IsOfNamed at file MAX_CONFIG_BYTES why.LongConfig (IsOfReview file) text ended
 
 -- the usage line, and why the words mean nothing
 abbrev pub IsUsage : List (List ℕ) → List ℕ → Status → Type 0

@@ -15,7 +15,6 @@ mod reactions;
 mod refusal;
 mod repeats;
 mod replays;
-mod reviews;
 mod show;
 mod status;
 mod telling;

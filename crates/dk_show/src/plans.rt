@@ -19,7 +19,6 @@ use crate::pictures::picture_plan;
 use crate::reactions::reactions_plan;
 use crate::repeats::repeats_plan;
 use crate::replays::replay_plan;
-use crate::reviews::review_plan;
 use crate::telling::telling_plan;
 use crate::windows::windows_plan;
 use crate::work::{RangeWork, Work};
@@ -124,6 +123,5 @@ pub(crate) fn plan<D: Depot>(
         Request::Repeats { file, ticks } => repeats_plan(alloc, file.as_str(), *ticks, depot),
         Request::Check(request) => check_plan(alloc, request, depot),
         Request::Replay(request) => replay_plan(alloc, request, depot),
-        Request::Page(file) => review_plan(alloc, file.as_str(), depot),
     }
 }

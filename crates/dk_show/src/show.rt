@@ -18,7 +18,6 @@ use crate::{Refusal, Status};
 use dk_config_report::Page;
 use dk_groups::WriteFault;
 use dk_outside::{Depot, Sink, write_all_to};
-use dk_page::ReviewPage;
 use dk_show_request::{Request, meaning, usage, wrong_words};
 use dk_window_lines::{Strictness, write_lines};
 use dk_window_overruns::AllWindows;
@@ -85,19 +84,6 @@ fn put_page<S: Sink>(page: &Page, ended: Status, sink: &mut S) -> Status
     }
 }
 
-/// Writes a page for a review.
-fn put_review<S: Sink>(page: &ReviewPage, ended: Status, sink: &mut S) -> Status
-    requires { IsEnd ended }
-    ensures left { Leaves S.seen (λ text s. (text ≡ page.now) × (s ≡ ended))
-        sink.old sink.new result }
-    ensures only { (result ≡ ended) ⊎ (result ≡ Status.SinkFault) }
-{
-    match page.write(sink) {
-        Ok(()) => ended,
-        Err(_) => Status::SinkFault,
-    }
-}
-
 /// Writes what threads did in their windows.
 fn put_windows<S: Sink>(
     report: &WindowReport,
@@ -142,7 +128,6 @@ fn put<S: Sink>(alloc: Global, work: &Work, sink: &mut S) -> Status
         Work::Windows(report, strictness, ended) => put_windows(report, *strictness, *ended, sink),
         Work::AllWindows(windows) => put_all(windows, sink),
         Work::Page(page, ended) => put_page(page, *ended, sink),
-        Work::Review(page, ended) => put_review(page, *ended, sink),
     }
 }
 

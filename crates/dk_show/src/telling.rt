@@ -9,8 +9,7 @@ ghost use Rattle.dk_certify_report.specs.Certificate.{certificate_of};
 ghost use Rattle.dk_margin_report.specs.Margins.{AreMargins};
 ghost use Rattle.dk_warning_report.specs.WarningLines.{warnings_of};
 ghost use Rattle.dk_when_report.specs.When.{IsWhen};
-ghost use Rattle.dk_show.specs.Output.{IsOfDocument, IsOfNamed, IsToldOf, form_of};
-ghost use Rattle.dk_show.specs.Reviewed.{certified_end};
+ghost use Rattle.dk_show.specs.Output.{IsOfDocument, IsOfNamed, IsToldOf, certified_end, form_of};
 ghost use Rattle.dk_show.specs.Works.{IsMade, IsWhole, Plans};
 
 use crate::files::file_at;
@@ -101,7 +100,7 @@ fn when_work(alloc: Global, as_csv: bool, config: &Config) -> Result<Work, Refus
 }
 
 /// The status that tells whether the configuration is certified.
-pub(crate) fn certified_end(config: &Config) -> Status
+fn certified_end(config: &Config) -> Status
     requires checked { IsChecked config.now }
     requires limits { IsWithinLimits config.now }
     ensures is { result ≡ certified_end (verdict_of config.now) }

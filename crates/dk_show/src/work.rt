@@ -10,7 +10,6 @@ use dk_config_report::Page;
 use dk_csv::CsvTable;
 use dk_groups::WriteFault;
 use dk_outside::Sink;
-use dk_page::ReviewPage;
 use dk_show_request::Drawing;
 use dk_trace_events::Trace;
 use dk_vcd::Dump;
@@ -39,8 +38,6 @@ pub(crate) enum Work {
     AllWindows(AllWindows),
     /// A whole page, and the status of the call once it is written.
     Page(Page, Status),
-    /// A page for a review, and the status of the call once it is written.
-    Review(ReviewPage, Status),
 }
 
 /// Writes the drawing.
