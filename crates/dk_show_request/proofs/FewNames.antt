@@ -15,7 +15,7 @@ use Rattle.dk_show_request.specs.declared.request.Request.{Request}
 use Rattle.dk_show_request.specs.declared.request.WindowsForm.{WindowsForm}
 use Rattle.dk_show_request.specs.Clap.{app_for, given_by, has}
 use Rattle.dk_show_request.specs.Forms.{form_of}
-use Rattle.dk_show_request.specs.Meaning.{HasFewNames, asked, asked_by, chain_by, chain_of, chain_with, check_by, check_form_in, drawing_by, faults_by, holds_by, impact_by, page_by, picture_by, range_in, repeats_by, repeats_of, replay_by, telling_by, windows_by, windows_form_in}
+use Rattle.dk_show_request.specs.Meaning.{HasFewNames, asked, asked_by, chain_by, chain_of, chain_with, check_by, check_form_in, drawing_by, faults_by, holds_by, impact_by, picture_by, range_in, repeats_by, repeats_of, replay_by, telling_by, windows_by, windows_form_in}
 use Rattle.dk_show_request.specs.Numbers.{ticks_in}
 use Rattle.dk_show_request.specs.Words.{fits}
 
@@ -97,10 +97,6 @@ replay_few (Some profile) None file = tt
 replay_few (Some profile) (Some name) None = tt
 replay_few (Some profile) (Some name) (Some file) = tt
 
-page_few : (file ledger : Word) → Few (page_by file ledger)
-page_few None ledger = tt
-page_few (Some file) ledger = tt
-
 asked_few : (c : Command) (rows : List Row) → Few (asked c rows)
 asked_few (command.Draw d) rows = drawing_few d (first_of (codes "LEDGER") rows) (range_in rows)
 asked_few command.Picture rows = picture_few (first_of (codes "LEDGER") rows) (range_in rows)
@@ -116,7 +112,6 @@ asked_few command.Check rows =
     check_few (check_form_in rows) (first_of (codes "LEDGER") rows) (first_of (codes "FILE") rows) (first_of (codes "NEEDS") rows)
 asked_few command.Replay rows =
     replay_few (first_of (codes "PROFILE") rows) (first_of (codes "NAME") rows) (first_of (codes "FILE") rows)
-asked_few command.Page rows = page_few (first_of (codes "FILE") rows) (first_of (codes "LEDGER") rows)
 
 pub asked_by_few : (c : Command) (ws : List (List ℕ)) → Few (asked_by c ws)
 asked_by_few c ws =

@@ -67,7 +67,6 @@ word_clean command.Repeats = refl
 word_clean command.Check = refl
 word_clean command.Holds = refl
 word_clean command.Replay = refl
-word_clean command.Page = refl
 
 abbrev AllClean : List (List ℕ) → Type 0
 AllClean [] = Unit {0}
@@ -90,7 +89,6 @@ names_clean command.Repeats = ((refl, (refl, tt)), tt)
 names_clean command.Check = ((refl, (refl, tt)), (refl, tt))
 names_clean command.Holds = ((refl, tt), (refl, tt))
 names_clean command.Replay = ((refl, (refl, (refl, tt))), tt)
-names_clean command.Page = ((refl, tt), (refl, tt))
 
 flags_clean : (c : Command) → IsClean (marks_text (form_of c).marks)
 flags_clean command.Picture = refl
@@ -104,7 +102,6 @@ flags_clean command.Impact = refl
 flags_clean command.Repeats = refl
 flags_clean command.Check = refl
 flags_clean command.Replay = refl
-flags_clean command.Page = refl
 
 reason_line : (c : Command) (ws : List (List ℕ)) (r : Reason) → Holds c ws r → IsLine (reason_text r)
 reason_line c ws (Reason.no_flag w) h = line-append (shown w) _ (shown_clean w) (codes " is no flag of it", refl, refl)

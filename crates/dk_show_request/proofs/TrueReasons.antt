@@ -115,7 +115,6 @@ many command.Repeats ps h = absurd (cc)
 many command.Check ps h = absurd (cc)
 many command.Holds ps h = absurd (cc)
 many command.Replay ps h = absurd (cc)
-many command.Page ps h = absurd (cc)
 
 names : (c : Command) (ps ws : List (List ℕ)) → HoldsOf (form_of c) ps ws (names_reason c ps ws)
 names c ps ws =

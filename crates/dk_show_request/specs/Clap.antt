@@ -61,9 +61,6 @@ abbrev pub replay_app : List ℕ → App
 replay_app word = with_rule (with_rule (with_rule (new_app word) (argument (codes "PROFILE") true))
     (argument (codes "NAME") true)) (argument (codes "FILE") true)
 
-abbrev pub page_app : List ℕ → App
-page_app word = with_rule (with_rule (new_app word) (argument (codes "FILE") true)) (argument (codes "LEDGER") false)
-
 abbrev pub app_for : Command → App
 app_for command.Picture = range_app (word_of command.Picture)
 app_for (command.Draw d) = range_app (word_of (command.Draw d))
@@ -76,7 +73,6 @@ app_for command.Impact = change_app (word_of command.Impact)
 app_for command.Repeats = ticks_app (word_of command.Repeats)
 app_for command.Check = check_app (word_of command.Check)
 app_for command.Replay = replay_app (word_of command.Replay)
-app_for command.Page = page_app (word_of command.Page)
 
 -- the text of a flag is "true" or "false"
 abbrev pub is_true : Option Text → Bool

@@ -23,14 +23,13 @@ word_of command.Impact = codes "impact"
 word_of command.Repeats = codes "repeats"
 word_of command.Check = codes "check"
 word_of command.Replay = codes "replay"
-word_of command.Page = codes "page"
 
 -- in the order of the usage line
 abbrev pub commands : List Command
 commands = command.Picture ∷ command.Draw drawing.Trace ∷ command.Draw drawing.Vcd ∷ command.Draw drawing.Csv
     ∷ command.Windows ∷ command.Holds ∷ command.Faults ∷ command.Tell telling.Certify ∷ command.Tell telling.Margins
     ∷ command.Tell telling.When ∷ command.Tell telling.Warnings ∷ command.Chain ∷ command.Impact ∷ command.Repeats
-    ∷ command.Check ∷ command.Replay ∷ command.Page ∷ []
+    ∷ command.Check ∷ command.Replay ∷ []
 
 -- the command of this word
 unfoldable pub command_named : List ℕ → Option Command

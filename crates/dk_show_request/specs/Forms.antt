@@ -60,9 +60,6 @@ check_form = record (plain (codes "FILE" ∷ codes "NEEDS" ∷ []) (codes "LEDGE
 abbrev pub replay_form : Form
 replay_form = plain (codes "PROFILE" ∷ codes "NAME" ∷ codes "FILE" ∷ []) [] false
 
-abbrev pub page_form : Form
-page_form = plain (codes "FILE" ∷ []) (codes "LEDGER" ∷ []) false
-
 abbrev pub form_of : Command → Form
 form_of command.Picture = range_form
 form_of (command.Draw d) = range_form
@@ -75,4 +72,3 @@ form_of command.Impact = change_form
 form_of command.Repeats = ticks_form
 form_of command.Check = check_form
 form_of command.Replay = replay_form
-form_of command.Page = page_form

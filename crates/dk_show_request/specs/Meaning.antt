@@ -109,10 +109,6 @@ replay_by (Some profile) (Some name) (Some file) =
     Some (request.Replay (record { profile = profile; name = name; file = file }))
 replay_by _ _ _ = None
 
-abbrev pub page_by : Option (List ℕ) → Option (List ℕ) → Option Request
-page_by None ledger = None
-page_by (Some file) ledger = Some (request.Page file ledger)
-
 -- what a command is asked by the words of its arguments
 abbrev pub asked : Command → List Row → Option Request
 asked (command.Draw d) rows = drawing_by d (first_of (codes "LEDGER") rows) (range_in rows)
@@ -130,7 +126,6 @@ asked command.Check rows = check_by (check_form_in rows) (first_of (codes "LEDGE
     (first_of (codes "FILE") rows) (first_of (codes "NEEDS") rows)
 asked command.Replay rows = replay_by (first_of (codes "PROFILE") rows) (first_of (codes "NAME") rows)
     (first_of (codes "FILE") rows)
-asked command.Page rows = page_by (first_of (codes "FILE") rows) (first_of (codes "LEDGER") rows)
 
 -- What a command is asked by the words from its own on. `clap` decides which words stand for which arguments.
 abbrev pub asked_by : Command → List (List ℕ) → Option Request

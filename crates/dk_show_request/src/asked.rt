@@ -2,7 +2,7 @@
 ghost use Rattle.std.specs.Prelude.{◌≡◌, [], codes, IfOk, map, option_map, unwrap_or};
 ghost use Rattle.dk_show_request.specs.Clap.{has};
 ghost use Rattle.dk_show_request.specs.Numbers.{ticks_in};
-ghost use Rattle.dk_show_request.specs.Meaning.{asked, chain_by, chain_of, chain_with, check_by, check_form_in, drawing_by, faults_by, holds_by, impact_by, page_by, picture_by, range_by, range_in, range_of, repeats_by, repeats_of, replay_by, telling_by, windows_by, windows_form_in};
+ghost use Rattle.dk_show_request.specs.Meaning.{asked, chain_by, chain_of, chain_with, check_by, check_form_in, drawing_by, faults_by, holds_by, impact_by, picture_by, range_by, range_in, range_of, repeats_by, repeats_of, replay_by, telling_by, windows_by, windows_form_in};
 
 use crate::commands::{Command, Drawing, Telling};
 use crate::given::Given;
@@ -340,22 +340,6 @@ fn replay_by(
     }
 }
 
-fn page_by(
-    alloc: Global,
-    file: Option<&str>,
-    ledger: Option<&str>,
-) -> Result<Option<Request>, NoMemory>
-    ensures { IfOk result (λ r. r ≡ page_by (option_map (λ w. w.now) file.entry) (option_map (λ w. w.now) ledger.entry)) }
-{
-    match file {
-        Some(file) => Ok(Some(Request::Page {
-            file: copy_of(alloc, file)?,
-            ledger: copy_if(alloc, ledger)?,
-        })),
-        None => Ok(None),
-    }
-}
-
 /// What a command is asked by the words of its arguments.
 pub fn asked(alloc: Global, command: Command, given: &Given) -> Result<Option<Request>, NoMemory>
     ensures { IfOk result (λ r. r ≡ asked command given.now) }
@@ -398,6 +382,5 @@ pub fn asked(alloc: Global, command: Command, given: &Given) -> Result<Option<Re
             given.word("NAME"),
             given.word("FILE"),
         ),
-        Command::Page => page_by(alloc, given.word("FILE"), given.word("LEDGER")),
     }
 }

@@ -1,7 +1,7 @@
 //! For each form what `clap` is given for a command of this word.
 ghost use Rattle.std.specs.Prelude.{◌≡◌, codes, IfOk};
 ghost use Rattle.clap.specs.Words.{app_of, with_rule};
-ghost use Rattle.dk_show_request.specs.Clap.{argument, chain_app, change_app, check_app, file_app, flag, holds_app, many_argument, option, page_app, range_app, replay_app, telling_app, ticks_app, windows_app};
+ghost use Rattle.dk_show_request.specs.Clap.{argument, chain_app, change_app, check_app, file_app, flag, holds_app, many_argument, option, range_app, replay_app, telling_app, ticks_app, windows_app};
 
 use clap::{Arg, ArgAction, Command as ClapCommand};
 use std::alloc::{AllocError, Global};
@@ -147,12 +147,4 @@ pub fn replay_command<'a>(alloc: Global, word: &'a str) -> Result<ClapCommand<'a
     let command = add_argument(alloc, command, "PROFILE", true)?;
     let command = add_argument(alloc, command, "NAME", true)?;
     add_argument(alloc, command, "FILE", true)
-}
-
-pub fn page_command<'a>(alloc: Global, word: &'a str) -> Result<ClapCommand<'a>, AllocError>
-    ensures { IfOk result (λ c. app_of c ≡ page_app word.entry.now) }
-{
-    let command = ClapCommand::new(alloc, word);
-    let command = add_argument(alloc, command, "FILE", true)?;
-    add_argument(alloc, command, "LEDGER", false)
 }

@@ -49,12 +49,10 @@ pub enum Command {
     Check,
     /// The source of a program that takes the times of a profile.
     Replay,
-    /// A page for the review of a configuration.
-    Page,
 }
 
 /// In the order of the usage line.
-const COMMANDS: [Command; 17] = [
+const COMMANDS: [Command; 16] = [
     Command::Picture,
     Command::Draw(Drawing::Trace),
     Command::Draw(Drawing::Vcd),
@@ -71,7 +69,6 @@ const COMMANDS: [Command; 17] = [
     Command::Repeats,
     Command::Check,
     Command::Replay,
-    Command::Page,
 ];
 
 impl Command {
@@ -96,7 +93,6 @@ impl Command {
             Command::Repeats => "repeats",
             Command::Check => "check",
             Command::Replay => "replay",
-            Command::Page => "page",
         }
     }
 

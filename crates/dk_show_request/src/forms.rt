@@ -162,6 +162,5 @@ pub fn form_of(command: Command) -> Form
         Command::Repeats => plain(FILE_TICKS, NONE, true),
         Command::Check => check_form(),
         Command::Replay => plain(PROFILE_NAME_FILE, NONE, false),
-        Command::Page => plain(FILE, LEDGER, false),
     }
 }

@@ -1,11 +1,11 @@
 //! The words behind a command word, read by `clap`: what they give, where it finds no fault with them. The first of them is
 //! the command word.
 ghost use Rattle.std.specs.Prelude.{◌≡◌, IfOk, map, string_bytes};
-ghost use Rattle.dk_show_request.specs.Clap.{chain_app, change_app, check_app, file_app, given_by, holds_app, page_app, range_app, replay_app, telling_app, ticks_app, windows_app};
+ghost use Rattle.dk_show_request.specs.Clap.{chain_app, change_app, check_app, file_app, given_by, holds_app, range_app, replay_app, telling_app, ticks_app, windows_app};
 
 use crate::clap_commands::{
-    chain_command, change_command, check_command, file_command, holds_command, page_command,
-    range_command, replay_command, telling_command, ticks_command, windows_command,
+    chain_command, change_command, check_command, file_command, holds_command, range_command,
+    replay_command, telling_command, ticks_command, windows_command,
 };
 use crate::given::Given;
 use clap::error::ErrorKind;
@@ -146,20 +146,6 @@ pub fn read_replay<'a>(
     ensures { IfOk result (λ o. o ≡ given_by (replay_app word.entry.now) (map string_bytes words.entry.now)) }
 {
     match replay_command(alloc, word)?.try_get_matches_from(words) {
-        Ok(matches) => Ok(Some(Given { matches })),
-        Err(error) if error.kind() == ErrorKind::OutOfMemory => Err(NoMemory),
-        Err(_) => Ok(None),
-    }
-}
-
-pub fn read_page<'a>(
-    alloc: Global,
-    word: &'a str,
-    words: &'a [String],
-) -> Result<Option<Given<'a>>, NoMemory>
-    ensures { IfOk result (λ o. o ≡ given_by (page_app word.entry.now) (map string_bytes words.entry.now)) }
-{
-    match page_command(alloc, word)?.try_get_matches_from(words) {
         Ok(matches) => Ok(Some(Given { matches })),
         Err(error) if error.kind() == ErrorKind::OutOfMemory => Err(NoMemory),
         Err(_) => Ok(None),

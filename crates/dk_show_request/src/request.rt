@@ -11,7 +11,7 @@ use crate::commands::{Command, Drawing, Telling};
 use crate::forms::form_of;
 use crate::given::Given;
 use crate::reading::{
-    read_chain, read_change, read_check, read_file, read_holds, read_page, read_range, read_replay,
+    read_chain, read_change, read_check, read_file, read_holds, read_range, read_replay,
     read_telling, read_ticks, read_windows,
 };
 use dk_config::{NoMemory, Text};
@@ -142,8 +142,6 @@ pub enum Request {
     Check(CheckRequest),
     /// The source of a program that takes the times of a profile.
     Replay(ReplayRequest),
-    /// A page for the review of the configuration in the file of this name, perhaps with a ledger of it.
-    Page { file: Text, ledger: Option<Text> },
 }
 
 /// What the words from the command word on give.
@@ -167,7 +165,6 @@ fn read_words<'a>(
         Command::Repeats => read_ticks(alloc, word, words),
         Command::Check => read_check(alloc, word, words),
         Command::Replay => read_replay(alloc, word, words),
-        Command::Page => read_page(alloc, word, words),
     }
 }
 
