@@ -104,7 +104,11 @@ fn add_if_unknown(
 ) -> Result<(), NoMemory>
     ensures { OnOk result (found.new.items ≡ found.old.items ++ if_unknown fault (table_view table.now) key.now) }
 {
-    if is_known(needed_at(fault.place, table), others_at(fault.place, table), key) {
+    if is_known(
+        needed_at(fault.place, table),
+        others_at(fault.place, table),
+        key,
+    ) {
         return Ok(());
     }
     add(alloc, found, fault, key)

@@ -48,7 +48,11 @@ fn keys_text(alloc: Global, needed: &[Key], others: &[Key]) -> Result<String, Al
 }
 
 /// All keys that the table there takes.
-pub(crate) fn keys_at(alloc: Global, table: &Table, place: Option<Place>) -> Result<String, AllocError>
+pub(crate) fn keys_at(
+    alloc: Global,
+    table: &Table,
+    place: Option<Place>,
+) -> Result<String, AllocError>
     ensures { IfOk result (λ s. string_bytes s ≡ keys_at place (table_view table.now)) }
 {
     match table_at(table, place) {

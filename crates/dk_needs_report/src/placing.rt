@@ -16,7 +16,7 @@ use std::alloc::Global;
 use toml::{Table, Value};
 
 fn row_stands(row: Option<&Value>, key: &str) -> bool
-    ensures { result ≡ option_map_or (row_has key.now) (option_map (λ v. view v.now) row) false }
+    ensures { result ≡ option_map_or (row_has key.now) (option_map (λ v. view v.now) row.entry) false }
 {
     match row {
         Some(row) => row_has(key, row),
