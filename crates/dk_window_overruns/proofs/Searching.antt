@@ -1,5 +1,5 @@
 -- The windows that were found in the first entries of a ledger.
-use Rattle.std.proofs.Common.{ℕ, ◌≡◌, ◌+◌, ◌<◌, ◌≤◌, inl, inr, ◌∙◌, refl, sym, ap, subst, arith, List, [], ◌∷◌, ◌++◌, length, reverse, take, drop, get_or}
+use Rattle.std.proofs.Common.{ℕ, ◌≡◌, ◌+◌, ◌<◌, ◌≤◌, inl, inr, ◌∙◌, sym, ap, arith, List, [], ◌∷◌, ◌++◌, length, reverse, take, drop, get_or}
 use Rattle.std.specs.Prelude.{◌⊎◌}
 use Rattle.std.proofs.lemmas.List.{length-reverse, length-take, length-take-le, reverse-append, take-append-drop, take_all, take_at, take_more}
 use Rattle.dk_trace.specs.declared.Entry.{Entry}

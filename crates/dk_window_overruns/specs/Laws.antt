@@ -1,5 +1,5 @@
 -- What the lines say of the counts.
-use Rattle.std.specs.Prelude.{ℕ, ◌≡◌, ◌<◌, List, length}
+use Rattle.std.specs.Prelude.{◌≡◌, ◌<◌, List, length}
 use Rattle.dk_trace.specs.declared.Entry.{Entry}
 use Rattle.dk_window_report.specs.Owners.{Owner, numbers_of}
 use Rattle.dk_window_overruns.specs.Overruns.{overran_at}

@@ -7,9 +7,10 @@ ghost use Rattle.dk_ledger.specs.ReadSoFar.{HasReadAll};
 ghost use Rattle.dk_window_report.specs.Report.{IsKeptIn};
 ghost use Rattle.dk_window_overruns.specs.Overruns.{overrun_line, overruns_text, row_overruns};
 
+use crate::all_told_law;
 use crate::finding::found_of;
 use dk_config::NoMemory;
-use dk_ledger::{Header, Ledger, LedgerFault, read_ledger};
+use dk_ledger::{Header, Ledger, LedgerFault, one_to_one, read_ledger};
 use dk_trace::Entry;
 use dk_window_report::{Row, WindowReport};
 use std::alloc::{AllocError, Global};
@@ -117,6 +118,8 @@ pub fn overrun_lines(alloc: Global, bytes: &[u8], report: &WindowReport) -> Resu
     ensures { IfOk result (λ s. (es : List TickEntry) → HasReadAll bytes.now es report.now.heading
         → string_bytes s ≡ overruns_text report.now.heading (reverse es)) }
 {
+    all_told_law();
+    one_to_one();
     let ledger = ledger_in(alloc, bytes, report)?;
     let rows = report.rows(alloc)?;
     let mut text = String::new(alloc);

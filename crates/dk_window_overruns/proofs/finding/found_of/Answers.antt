@@ -29,10 +29,10 @@ loop-own-preserved c =
           searched-more c.row_law.ensures.start c.row_law.ensures.step o es few c.loop-own.now c.loop-own.own c.stepped-next.result ticks c.note.new.ticks.items _ _
           c.loop-own.invariant.searched c.if-now-entries.true refl c.stepped-next.ensures more;
       most = (let size : c.len.result ≡ length ticks = search rules in
-      let room = c.loop-own-test.true in
-      let one = grown-short o.period c.loop-own.now c.loop-own.own.counts c.stepped-next.result.counts in
-      let both = ap length more ∙ length-append ticks new in
-      omega (arith, size, room, one, both));
+          let room = c.loop-own-test.true in
+          let one = grown-short o.period c.loop-own.now c.loop-own.own.counts c.stepped-next.result.counts in
+          let both = ap length more ∙ length-append ticks new in
+          omega (arith, size, room, one, both));
     }
 
 pub returns : goal.returns
