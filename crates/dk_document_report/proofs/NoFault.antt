@@ -1,13 +1,13 @@
 -- `faults 0` is told of no document with which something is wrong.
 use Rattle.std.proofs.Common.{ℕ, suc, zero, ◌≡◌, ◌∙◌, ◌++◌, List, [], ◌∷◌, inl, inr, ap, append_assoc, arith, codes, refl, subst, sym, slice_index}
-use Rattle.std.specs.Prelude.{Bool, true, false, Option, Some, None, Ok, Err, ◌↔◌}
+use Rattle.std.specs.Prelude.{Option, Some, None, Ok, Err, ◌↔◌}
 use Rattle.std.proofs.lemmas.Bool.{cases_Bool}
 use Rattle.toml.specs.Data.{Members}
 use Rattle.dk_config.specs.Configuration.{Configuration}
 use Rattle.dk_config.specs.declared.fault.ConfigFault.{ConfigFault}
 use Rattle.dk_config.specs.Rules.{all_tests}
 use Rattle.dk_config.specs.Tests.{Test, first_broken}
-use Rattle.dk_config_report.specs.FaultLines.{count_line, fault_line, faults_text}
+use Rattle.dk_config_report.specs.FaultLines.{count_line, faults_text}
 use Rattle.dk_config_report.specs.Pages.{AreLines}
 use Rattle.dk_faults.specs.Faults.{broken}
 use Rattle.dk_fault_words.specs.FaultWords.{fault_head}
@@ -16,7 +16,7 @@ use Rattle.dk_loader.specs.Reading.{answer_of, config_of, document, reading, rea
 use Rattle.dk_loader.specs.Shape.{shape_tests}
 use Rattle.dk_loader.specs.ShapeFaults.{shape_faults}
 use Rattle.dk_document_report.specs.Counted.{TellsNone}
-use Rattle.dk_document_report.specs.Found.{Told, keys_told, or_itself, told_all, told_of}
+use Rattle.dk_document_report.specs.Found.{Told, keys_told, or_itself, told_all}
 use Rattle.dk_document_report.specs.Telling.{IsNotTomlText, IsTextOf, Tells, TellsOf}
 
 -- the text begins as the line of a refusal

@@ -1,6 +1,6 @@
 -- Where in a document a thing stands: in the expression up to whose start it doesn't, and up to whose end it does.
 use Rattle.std.specs.Borrow.{Bor}
-use Rattle.std.specs.Prelude.{ℕ, ◌≡◌, ◌≤◌, ◌<◌, ◌==◌, ◌&&◌, ◌||◌, Bool, not, true, false, Option, is_some, codes, decimal, IfOk, List, [], ◌++◌, length, take, slice_index, MatchBool, Result, if◌then◌else◌}
+use Rattle.std.specs.Prelude.{ℕ, ◌≡◌, ◌≤◌, ◌<◌, ◌==◌, ◌&&◌, ◌||◌, Bool, not, true, false, is_some, codes, decimal, IfOk, List, [], ◌++◌, length, take, slice_index, MatchBool, Result, if◌then◌else◌}
 use Rattle.std.specs.Option.{option_map_or}
 use Rattle.toml.specs.Data.{Data, as_table, get_member, Members}
 use Rattle.dk_config.specs.declared.fault.Section.{Section}
