@@ -4,7 +4,6 @@ pub mod Rows
 pub mod Names
 pub mod Text
 pub mod Unknown
-pub mod FaultLines
 pub mod Csv
 pub mod Junit
 pub mod Escapes

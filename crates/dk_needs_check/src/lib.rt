@@ -8,7 +8,6 @@ mod bounds;
 mod checking;
 mod counts;
 mod deciding;
-mod fault_lines;
 mod finding;
 mod forever;
 mod junit;
@@ -22,7 +21,6 @@ mod verdict;
 
 pub use checking::check_needs;
 pub use counts::are_met;
-pub use fault_lines::faults_page;
 pub use finding::process_named;
 pub use junit::needs_junit;
 pub use laws::cases_need_no_escapes;
