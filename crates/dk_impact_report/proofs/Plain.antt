@@ -1,5 +1,5 @@
 -- No key of the table calls for quotes.
-use Rattle.std.proofs.Common.{ℕ, ◌≡◌, ◌∙◌, ◌++◌, List, [], ◌∷◌, ap, refl}
+use Rattle.std.proofs.Common.{ℕ, ◌∙◌, ◌++◌, List, [], ap, refl}
 use Rattle.std.specs.Prelude.{◌||◌, codes, slice_get, Option, Some, None}
 use Rattle.std.specs.List.{list_any}
 use Rattle.std.specs.Option.{option_map_or}

@@ -87,7 +87,8 @@ fn add_processes(
     new: &Config,
     rows: &[Row],
 ) -> Result<(), AllocError>
-    requires limits { IsWithinLimits old.now }
+    requires old_limits { IsWithinLimits old.now }
+    requires new_limits { IsWithinLimits new.now }
     requires old_plain { form ≡ Form.Record → HasPlainNames old.now }
     requires new_plain { form ≡ Form.Record → HasPlainNames new.now }
     ensures { OnOk result (string_bytes text.new
@@ -107,7 +108,8 @@ fn add_gone(
     old: &Config,
     new: &Config,
 ) -> Result<(), AllocError>
-    requires { form ≡ Form.Record → HasPlainNames old.now }
+    requires limits { IsWithinLimits old.now }
+    requires plain { form ≡ Form.Record → HasPlainNames old.now }
     ensures { OnOk result (string_bytes text.new
         ≡ string_bytes text.old ++ flat_map (gone_text form old.now new.now) (below (length old.now.processes))) }
 {
@@ -127,7 +129,8 @@ fn add_all(
     new: &Config,
     rows: &[Row],
 ) -> Result<(), AllocError>
-    requires limits { IsWithinLimits old.now }
+    requires old_limits { IsWithinLimits old.now }
+    requires new_limits { IsWithinLimits new.now }
     requires old_plain { form ≡ Form.Record → HasPlainNames old.now }
     requires new_plain { form ≡ Form.Record → HasPlainNames new.now }
     ensures { OnOk result (string_bytes text.new ≡ string_bytes text.old ++ all_told form old.now new.now rows.now) }
@@ -170,7 +173,8 @@ pub fn impact_page(
     new: &Config,
     rows: &[Row],
 ) -> Result<Page, NoMemory>
-    requires { IsWithinLimits old.now }
+    requires old_limits { IsWithinLimits old.now }
+    requires new_limits { IsWithinLimits new.now }
     ensures { IfOk result (λ page. page ≡ impact_page old.now new.now rows.now) }
 {
     let mut text = String::new(alloc);
@@ -184,7 +188,8 @@ pub fn impact_page(
 pub fn impact_csv(alloc: Global, old: &Config, new: &Config, rows: &[Row]) -> Result<Page, NoMemory>
     requires old_unbroken { BreaksNoRule old.now }
     requires new_unbroken { BreaksNoRule new.now }
-    requires limits { IsWithinLimits old.now }
+    requires old_limits { IsWithinLimits old.now }
+    requires new_limits { IsWithinLimits new.now }
     ensures { IfOk result (λ page. page ≡ impact_csv old.now new.now rows.now) }
 {
     plain_names_law();
