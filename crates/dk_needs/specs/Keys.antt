@@ -46,6 +46,7 @@ key_name key.Waits = codes "waits"
 key_name key.Overruns = codes "overruns"
 key_name key.Refused = codes "refused"
 key_name key.Faults = codes "faults"
+key_name key.Forever = codes "forever"
 key_name key.Unknown = codes "unknown"
 
 -- the values that it takes
@@ -66,6 +67,7 @@ shape_of key.Level = shape.Number 0 11
 shape_of key.Release = shape.Number 0 MAX_SPAN
 shape_of key.Percent = shape.Number 1 MAX_PERCENT
 shape_of key.Waits = shape.True
+shape_of key.Forever = shape.True
 shape_of key.Overruns = shape.Number 0 MAX_TICKS
 shape_of key.Refused = shape.Number 0 MAX_TICKS
 shape_of key.Faults = shape.Number 0 MAX_TICKS
@@ -101,7 +103,7 @@ needed_keys form.Run = key.Id ∷ []
 -- the keys that it may have beside these
 abbrev pub other_keys : Form → List Key
 other_keys form.Chain = key.Age ∷ []
-other_keys form.Run = key.Overruns ∷ key.Refused ∷ key.Faults ∷ []
+other_keys form.Run = key.Overruns ∷ key.Refused ∷ key.Faults ∷ key.Forever ∷ []
 other_keys _ = []
 
 -- room for a release, unless there is a mutex

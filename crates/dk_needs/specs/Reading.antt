@@ -1,10 +1,10 @@
 -- The needs that a document stands for, or all that is wrong with it.
-use Rattle.std.specs.Prelude.{ℕ, List, [], ◌∷◌, flat_map, map, take, option_and_then, option_to_list, Option, Some, None, Result, Ok, Err, codes, if◌then◌else◌}
+use Rattle.std.specs.Prelude.{ℕ, Bool, not, List, [], ◌∷◌, flat_map, map, take, option_and_then, option_to_list, Option, Some, None, Result, Ok, Err, codes, if◌then◌else◌}
 use Rattle.std.specs.List.{list_any}
 use Rattle.std.specs.Option.{option_map_or}
 use Rattle.std.specs.Str.{bytes_eq}
 use Rattle.toml.specs.Data.{Data, as_table, Members, get_member}
-use Rattle.dk_loader.specs.Look.{as_number, number_at, rows_at}
+use Rattle.dk_loader.specs.Look.{as_number, is_missing, number_at, rows_at}
 use Rattle.dk_loader.specs.Reading.{document, text_at, text_of}
 use Rattle.dk_needs.specs.declared.fault.Fault.{Fault}
 use Rattle.dk_needs.specs.declared.fault.Section.{Section}
@@ -26,6 +26,10 @@ use Rattle.dk_needs.specs.Wanted.{Wanted}
 -- the number at a key, where there is one
 abbrev pub optional_at : List ℕ → Members → Option ℕ
 optional_at k ms = option_and_then as_number (get_member k ms)
+
+-- there is a value; the only one that such a key takes is true
+abbrev pub is_there : List ℕ → Members → Bool
+is_there k ms = not (is_missing k ms)
 
 abbrev pub names_at : List ℕ → Members → List (List ℕ)
 names_at k ms = map text_of (rows_at k ms)
@@ -52,6 +56,7 @@ what_of form.Spare ms = what.Spare (number_at (codes "level") 0 ms) (number_at (
 what_of form.Always ms = what.Always (text_at (codes "process") ms)
 what_of form.Run ms =
     what.Run (optional_at (codes "overruns") ms) (optional_at (codes "refused") ms) (optional_at (codes "faults") ms)
+    (is_there (codes "forever") ms)
 what_of f ms = room_of f ms
 
 abbrev pub need_in : Section → ℕ → Members → Need

@@ -3,12 +3,12 @@ ghost use Rattle.std.specs.Prelude.{◌≡◌, ◌++◌, flat_map, map, IfOk, On
 ghost use Rattle.toml.specs.View.{view, table_view};
 ghost use Rattle.dk_loader.specs.Reading.{text_at, text_of};
 ghost use Rattle.dk_needs.specs.Keys.{key_name, sections};
-ghost use Rattle.dk_needs.specs.Reading.{names_at, need_in, need_row, needs_of, room_of, section_needs, tick_at, what_of};
+ghost use Rattle.dk_needs.specs.Reading.{is_there, names_at, need_in, need_row, needs_of, room_of, section_needs, tick_at, what_of};
 ghost use Rattle.dk_needs.specs.Shape.{from_row};
 
 use crate::fault::{Key, Place, Section};
 use crate::keys::{Form, section_key, sections};
-use crate::look::{find, number_at, optional_at, rows_at};
+use crate::look::{find, is_missing, number_at, optional_at, rows_at};
 use crate::needs::{Names, Need, Needs, Tick, What};
 use crate::shape::form_of;
 use crate::tick::tick_of;
@@ -72,6 +72,13 @@ fn tick_at(table: &Table) -> Option<Tick>
     }
 }
 
+/// Whether there is a value at the key.
+fn is_there(table: &Table, key: Key) -> bool
+    ensures { result ≡ is_there (key_name key) (table_view table.now) }
+{
+    !is_missing(table, key)
+}
+
 /// Room for one number.
 fn room_of(alloc: Global, form: Form, table: &Table) -> Result<What, AllocError>
     ensures { IfOk result (λ w. w ≡ room_of form (table_view table.now)) }
@@ -127,6 +134,7 @@ fn what_of(alloc: Global, form: Form, table: &Table) -> Result<What, AllocError>
             overruns: optional_at(table, Key::Overruns),
             refused: optional_at(table, Key::Refused),
             faults: optional_at(table, Key::Faults),
+            forever: is_there(table, Key::Forever),
         }),
     }
 }

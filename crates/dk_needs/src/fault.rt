@@ -53,6 +53,7 @@ pub enum Key {
     Overruns,
     Refused,
     Faults,
+    Forever,
     /// A key that the table doesn't have.
     Unknown,
 }

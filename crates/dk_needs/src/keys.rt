@@ -91,6 +91,7 @@ pub fn key_name(key: Key) -> &'static str
         Key::Overruns => "overruns",
         Key::Refused => "refused",
         Key::Faults => "faults",
+        Key::Forever => "forever",
         Key::Unknown => "unknown",
     }
 }
@@ -122,7 +123,7 @@ pub fn shape_of(key: Key) -> Shape
             least: 1,
             most: MAX_PERCENT,
         },
-        Key::Waits => Shape::True,
+        Key::Waits | Key::Forever => Shape::True,
         Key::Overruns | Key::Refused | Key::Faults => Shape::Number {
             least: 0,
             most: MAX_TICKS,
@@ -186,7 +187,7 @@ pub fn other_keys(form: Form) -> &'static [Key]
 {
     match form {
         Form::Chain => &[Key::Age],
-        Form::Run => &[Key::Overruns, Key::Refused, Key::Faults],
+        Form::Run => &[Key::Overruns, Key::Refused, Key::Faults, Key::Forever],
         _ => &[],
     }
 }

@@ -92,11 +92,13 @@ pub enum What {
     Always {
         process: Text,
     },
-    /// Of a ledger: at most so many windows with an overrun, calls refused and faults, 0 to 4,000,000,000 each.
+    /// Of a ledger: at most so many windows with an overrun, calls refused and faults, 0 to 4,000,000,000 each. And of the
+    /// run of the configuration with its programs, where `forever` says so, that it repeats for ever.
     Run {
         overruns: Option<u32>,
         refused: Option<u32>,
         faults: Option<u32>,
+        forever: bool,
     },
 }
 

@@ -19,11 +19,14 @@ use Rattle.dk_needs_check.specs.declared.row.Audit.{Audit}
 use Rattle.dk_needs_check.specs.declared.row.Bound.{Bound}
 use Rattle.dk_needs_check.specs.declared.row.Measure.{Measure}
 use Rattle.dk_needs_check.specs.declared.row.Reason.{Reason}
+use Rattle.dk_needs_check.specs.declared.row.Repeating.{Repeating}
+use Rattle.dk_needs_check.specs.declared.row.Waiting.{Waiting}
 use Rattle.dk_needs_check.specs.Bounds.{is_upper}
 use Rattle.dk_needs_check.specs.Csv.{measure_field, measure_word}
 use Rattle.dk_needs_check.specs.Escapes.{NeedNoEscapes, NeedsNoEscape, is_unmarked}
 use Rattle.dk_needs_check.specs.Junit.{behind_space}
-use Rattle.dk_needs_check.specs.Text.{answer_text, audit_text, before_space, between_text, bound_text, is_time, measure_words, number_text, reason_words, subject_of, time_text, times_of, times_text, unit_word}
+use Rattle.dk_needs_check.specs.Names.{AreNamed, name_at}
+use Rattle.dk_needs_check.specs.Text.{answer_text, audit_text, before_space, between_text, bound_text, is_time, measure_words, number_text, reason_words, repeating_text, subject_of, time_text, times_of, times_text, unit_word, waiting_text}
 
 both : (s t : List ℕ) → NeedsNoEscape s → NeedsNoEscape t → NeedsNoEscape (s ++ t)
 both [] t one two = two
@@ -139,8 +142,8 @@ subject_plain (What.Hold name hold) is = name_plain name is
 subject_plain (What.Release level release) is = both (codes "level ") (decimal level) refl (digits_plain level)
 subject_plain (What.Growth percent) is = refl
 subject_plain (What.Spare level ticks) is = both (codes "level ") (decimal level) refl (digits_plain level)
-subject_plain (What.Always name) is = refl
-subject_plain (What.Run overruns refused faults) is = refl
+subject_plain (What.Always name) is = name_plain name is
+subject_plain (What.Run overruns refused faults forever) is = refl
 
 before_plain : (word : List ℕ) → NeedsNoEscape word → NeedsNoEscape (before_space word)
 before_plain word is = either_plain (length word == 0) [] (word ++ codes " ") refl (both word (codes " ") is refl)
@@ -156,12 +159,39 @@ reason_plain : (r : Reason) → NeedsNoEscape (reason_words r)
 reason_plain Reason.NotTested = refl
 reason_plain Reason.NoLedger = refl
 
-answer_plain : (tick : Option Tick) (w : What) (a : Answer) → HasNames w → NeedsNoEscape (answer_text tick w a)
-answer_plain tick w (Answer.Tested b) is =
+waiting_plain : (w : Waiting) → NeedsNoEscape (waiting_text w)
+waiting_plain Waiting.Always = refl
+waiting_plain (Waiting.NotFrom n) = both (codes "no wait in the window from ") (decimal n) refl (digits_plain n)
+waiting_plain (Waiting.NotWithin n) = both (codes "not within ") (decimal n) refl (digits_plain n)
+waiting_plain Waiting.ReadsTick = refl
+waiting_plain Waiting.HasThreads = refl
+waiting_plain Waiting.HasSlack = refl
+
+at_plain : (names : List (List ℕ)) (p : ℕ) → AreNamed names → NeedsNoEscape (name_at names p)
+at_plain [] p are = refl
+at_plain (name ∷ names) zero are = name_plain name (and_parts (is_name name) (list_all is_name names) are).0
+at_plain (name ∷ names) (suc p) are = at_plain names p (and_parts (is_name name) (list_all is_name names) are).1
+
+repeating_plain : (names : List (List ℕ)) (r : Repeating) → AreNamed names → NeedsNoEscape (repeating_text names r)
+repeating_plain names (Repeating.Every start every) are =
+    both (codes "repeats from ") (decimal start ++ (codes " every " ++ decimal every)) refl
+    (both (decimal start) (codes " every " ++ decimal every) (digits_plain start)
+    (both (codes " every ") (decimal every) refl (digits_plain every)))
+repeating_plain names (Repeating.NotWithin n) are = both (codes "repeats not within ") (decimal n) refl (digits_plain n)
+repeating_plain names (Repeating.ReadsTick p) are =
+    both (codes "repeats unknown ") (name_at names p ++ codes " reads the tick") refl
+    (both (name_at names p) (codes " reads the tick") (at_plain names p are) refl)
+
+answer_plain : (names : List (List ℕ)) (tick : Option Tick) (w : What) (a : Answer) → AreNamed names → HasNames w
+    → NeedsNoEscape (answer_text names tick w a)
+answer_plain names tick w (Answer.Tested b) are is =
     both (before_space (subject_of w)) (bound_text b ++ times_text tick b) (before_plain (subject_of w) (subject_plain w is))
     (both (bound_text b) (times_text tick b) (bound_plain b) (all_times_plain tick b))
-answer_plain tick w (Answer.Audited a) is = audit_plain a
-answer_plain tick w (Answer.Open r) is = reason_plain r
+answer_plain names tick w (Answer.Audited a) are is = audit_plain a
+answer_plain names tick w (Answer.Waits x) are is =
+    both (before_space (subject_of w)) (waiting_text x) (before_plain (subject_of w) (subject_plain w is)) (waiting_plain x)
+answer_plain names tick w (Answer.Repeats r) are is = repeating_plain names r are
+answer_plain names tick w (Answer.Open r) are is = reason_plain r
 
 -- ---- the other attributes
 
@@ -190,13 +220,16 @@ tested_plain Measure.Faults = refl
 field_plain : (a : Answer) → NeedsNoEscape (behind_space (measure_field a))
 field_plain (Answer.Tested b) = tested_plain b.measure
 field_plain (Answer.Audited a) = refl
+field_plain (Answer.Waits w) = refl
+field_plain (Answer.Repeats r) = refl
 field_plain (Answer.Open r) = refl
 
-pub case_plain : (tick : Option Tick) (need : Need) (a : Answer) → IsFit need → NeedNoEscapes tick need a
-case_plain tick need a fit =
+pub case_plain : (names : List (List ℕ)) (tick : Option Tick) (need : Need) (a : Answer) → AreNamed names → IsFit need
+    → NeedNoEscapes names tick need a
+case_plain names tick need a are fit =
     record {
       section = section_plain need.place.section;
       id = id_plain need.id fit.id;
       measure = field_plain a;
-      message = answer_plain tick need.what a fit.names;
+      message = answer_plain names tick need.what a are fit.names;
     }

@@ -1,5 +1,5 @@
 -- No field of the table calls for quotes, so a row is its fields with commas between them.
-use Rattle.std.proofs.Common.{ℕ, ◌≡◌, ◌∙◌, ◌<◌, ◌^◌, ◌++◌, true, false, List, [], ◌∷◌, sym, ap, refl, arith, append_assoc}
+use Rattle.std.proofs.Common.{ℕ, zero, suc, ◌≡◌, ◌∙◌, ◌<◌, ◌^◌, ◌++◌, true, false, List, [], ◌∷◌, sym, ap, refl, arith, append_assoc}
 use Rattle.std.specs.Prelude.{◌||◌, if◌then◌else◌, decimal}
 use Rattle.std.specs.List.{AllByRecursion, list_all, list_any}
 use Rattle.std.specs.Char.{is_ascii_digit}
@@ -15,6 +15,7 @@ use Rattle.csv.specs.Writing.{default_writer, field_text, fields_text, is_blank,
 use Rattle.dk_config.specs.Rules.{is_name, is_word}
 use Rattle.dk_needs.specs.Fitting.{is_id, is_id_byte}
 use Rattle.dk_needs_check.specs.Csv.{IsPlain, joined_record, joined_rest, record_text}
+use Rattle.dk_needs_check.specs.Names.{AreNamed, name_at}
 
 word-plain : (b : ℕ) → is_word b ≡ true → needs_byte default_writer b ≡ false
 word-plain b is = grind (arith, nat_tests)
@@ -52,6 +53,12 @@ behind_is_plain f g one two =
 -- a name is
 pub name_is_plain : (name : List ℕ) → is_name name ≡ true → IsPlain name
 name_is_plain name is = words-plain name (and_parts _ (list_all is_word name) is).1
+
+-- and so the name of the process of any number, which is empty where there is none
+pub name_at_plain : (names : List (List ℕ)) (p : ℕ) → AreNamed names → IsPlain (name_at names p)
+name_at_plain [] p are = refl
+name_at_plain (name ∷ names) zero are = name_is_plain name (and_parts (is_name name) (list_all is_name names) are).0
+name_at_plain (name ∷ names) (suc p) are = name_at_plain names p (and_parts (is_name name) (list_all is_name names) are).1
 
 id-byte-plain : (b : ℕ) → is_id_byte b ≡ true → needs_byte default_writer b ≡ false
 id-byte-plain b is = grind (arith, nat_tests)

@@ -6,7 +6,9 @@ use Rattle.dk_needs_check.specs.declared.row.Answer.{Answer}
 use Rattle.dk_needs_check.specs.declared.row.Audit.{Audit}
 use Rattle.dk_needs_check.specs.declared.row.Bound.{Bound}
 use Rattle.dk_needs_check.specs.declared.row.Measure.{Measure}
+use Rattle.dk_needs_check.specs.declared.row.Repeating.{Repeating}
 use Rattle.dk_needs_check.specs.declared.row.Verdict.{Verdict}
+use Rattle.dk_needs_check.specs.declared.row.Waiting.{Waiting}
 
 -- at most so much is asked; of the other measures at least so much
 abbrev pub is_upper : Measure → Bool
@@ -31,9 +33,22 @@ audit_verdict (Audit.Passed n) = Verdict.Met
 audit_verdict (Audit.Label n) = Verdict.Missed
 audit_verdict (Audit.Event n) = Verdict.Missed
 
+-- met where it waits in each window, missed where it doesn't in one
+abbrev pub waiting_verdict : Waiting → Verdict
+waiting_verdict Waiting.Always = Verdict.Met
+waiting_verdict (Waiting.NotFrom n) = Verdict.Missed
+waiting_verdict _ = Verdict.Open
+
+-- met where a cycle is told
+abbrev pub repeating_verdict : Repeating → Verdict
+repeating_verdict (Repeating.Every start every) = Verdict.Met
+repeating_verdict _ = Verdict.Open
+
 abbrev pub verdict_of : Answer → Verdict
 verdict_of (Answer.Tested b) = if is_met b then Verdict.Met else Verdict.Missed
 verdict_of (Answer.Audited a) = audit_verdict a
+verdict_of (Answer.Waits w) = waiting_verdict w
+verdict_of (Answer.Repeats r) = repeating_verdict r
 verdict_of (Answer.Open reason) = Verdict.Open
 
 -- a number up to this one has the fact

@@ -17,8 +17,8 @@ abbrev pub NeedsNoEscape : List ℕ → Type 0
 NeedsNoEscape words = list_all is_unmarked words ≡ true
 
 -- the values of the attributes of a case
-pub record NeedNoEscapes (tick : Option Tick) (need : Need) (a : Answer) : Type 0 where
+pub record NeedNoEscapes (names : List (List ℕ)) (tick : Option Tick) (need : Need) (a : Answer) : Type 0 where
   pub section : NeedsNoEscape (key_name (section_key need.place.section))
   pub id : NeedsNoEscape need.id
   pub measure : NeedsNoEscape (behind_space (measure_field a))
-  pub message : NeedsNoEscape (answer_text tick need.what a)
+  pub message : NeedsNoEscape (answer_text names tick need.what a)

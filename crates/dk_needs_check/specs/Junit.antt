@@ -32,18 +32,18 @@ case_text section id measure end = codes "<testcase classname=\""
     ++ (section ++ (codes "\" name=\"" ++ (id ++ (measure ++ (codes "\"" ++ end)))))
 
 -- a case is named by its need, and by what is asked for
-unfoldable pub answer_case : Option Tick → Need → Answer → List ℕ
-answer_case tick need a =
+unfoldable pub answer_case : List (List ℕ) → Option Tick → Need → Answer → List ℕ
+answer_case names tick need a =
     case_text (key_name (section_key need.place.section)) need.id (behind_space (measure_field a))
-    (end_text (verdict_of a) (answer_text tick need.what a))
+    (end_text (verdict_of a) (answer_text names tick need.what a))
 
-abbrev pub row_case : Option Tick → List Need → Row → List ℕ
-row_case tick needs row = option_map_or (λ need. answer_case tick need row.answer) (slice_get needs row.need) []
+abbrev pub row_case : List (List ℕ) → Option Tick → List Need → Row → List ℕ
+row_case names tick needs row = option_map_or (λ need. answer_case names tick need row.answer) (slice_get needs row.need) []
 
 abbrev pub suite_line : List Row → List ℕ
 suite_line rows = suite_text (length rows) (how_many is_missed_row rows) (how_many is_open_row rows)
 
--- the whole text
-abbrev pub needs_junit : Wanted → List Row → List ℕ
-needs_junit needs rows = codes "<?xml version=\"1.0\" encoding=\"UTF-8\"?>\n"
-    ++ (suite_line rows ++ (flat_map (row_case needs.tick needs.rows) rows ++ codes "</testsuite>\n"))
+-- the whole text, where processes have these names
+abbrev pub needs_junit : List (List ℕ) → Wanted → List Row → List ℕ
+needs_junit names needs rows = codes "<?xml version=\"1.0\" encoding=\"UTF-8\"?>\n"
+    ++ (suite_line rows ++ (flat_map (row_case names needs.tick needs.rows) rows ++ codes "</testsuite>\n"))

@@ -1,6 +1,7 @@
 pub mod Bounds
 pub mod Meaning
 pub mod Rows
+pub mod Names
 pub mod Text
 pub mod Unknown
 pub mod FaultLines

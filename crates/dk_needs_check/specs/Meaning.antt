@@ -1,5 +1,5 @@
 -- What each need means of a configuration.
-use Rattle.std.specs.Prelude.{ℕ, ◌≤◌, nat_lt, if◌then◌else◌, length, List, [], ◌∷◌, ◌≡◌, position, Option, Some, None}
+use Rattle.std.specs.Prelude.{ℕ, Bool, not, ◌||◌, is_some, ◌≤◌, nat_lt, if◌then◌else◌, length, List, [], ◌∷◌, ◌≡◌, position, Option, Some, None}
 use Rattle.std.specs.Str.{bytes_eq}
 use Rattle.dk_config.specs.Configuration.{Configuration}
 use Rattle.dk_config.specs.Mutex.{Mutex}
@@ -85,6 +85,19 @@ AreOfChain c reaction age (Some []) a = AreNone a
 AreOfChain c reaction age (Some (first ∷ rest)) a =
     IfThere (IsReactionBound c first rest) reaction a.first × IfThere (IsAgeBound c first rest) age a.second
 
+-- of a run a ledger is asked for, unless that it repeats is all that is asked
+abbrev pub asks_ledger : Option ℕ → Option ℕ → Option ℕ → Bool → Bool
+asks_ledger overruns refused faults forever = ((not forever || is_some overruns) || is_some refused) || is_some faults
+
+-- open, where it is asked
+abbrev pub open_where : Bool → Reason → Option Answer
+open_where asked reason = if asked then Some (Answer.Open reason) else None
+
+-- of a run what a ledger says, and whether it repeats, as far as they are asked for
+abbrev pub AreOfRun : Option ℕ → Option ℕ → Option ℕ → Bool → Answers → Type 0
+AreOfRun overruns refused faults forever a =
+    (a.first ≡ open_where (asks_ledger overruns refused faults forever) Reason.NoLedger) × (a.second ≡ open_where forever Reason.NotTested)
+
 -- what is told of a need
 abbrev pub AreAnswers : Configuration → What → Answers → Type 0
 AreAnswers c (What.Deadline name within) a =
@@ -100,4 +113,4 @@ AreAnswers c (What.Growth percent) a = AreOne (IfThere (IsAtLeast (HasGrowth c) 
 AreAnswers c (What.Spare level ticks) a =
     AreOne (IfThere (λ j. IsAtLeast (HasSpare c j) Measure.Spare ticks) (level_numbered c level)) a
 AreAnswers c (What.Always name) a = AreOne (λ answer. answer ≡ Some (Answer.Open Reason.NotTested)) a
-AreAnswers c (What.Run overruns refused faults) a = AreOne (λ answer. answer ≡ Some (Answer.Open Reason.NoLedger)) a
+AreAnswers c (What.Run overruns refused faults forever) a = AreOfRun overruns refused faults forever a

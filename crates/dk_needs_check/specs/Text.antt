@@ -12,9 +12,12 @@ use Rattle.dk_needs_check.specs.declared.row.Audit.{Audit}
 use Rattle.dk_needs_check.specs.declared.row.Bound.{Bound}
 use Rattle.dk_needs_check.specs.declared.row.Measure.{Measure}
 use Rattle.dk_needs_check.specs.declared.row.Reason.{Reason}
+use Rattle.dk_needs_check.specs.declared.row.Repeating.{Repeating}
 use Rattle.dk_needs_check.specs.declared.row.Row.{Row}
 use Rattle.dk_needs_check.specs.declared.row.Verdict.{Verdict}
+use Rattle.dk_needs_check.specs.declared.row.Waiting.{Waiting}
 use Rattle.dk_needs_check.specs.Bounds.{is_upper, verdict_of}
+use Rattle.dk_needs_check.specs.Names.{name_at}
 
 abbrev pub verdict_word : Verdict → List ℕ
 verdict_word Verdict.Met = codes "met"
@@ -45,6 +48,7 @@ subject_of (What.Budget name budget) = name
 subject_of (What.Hold name hold) = name
 subject_of (What.Release level release) = codes "level " ++ decimal level
 subject_of (What.Spare level ticks) = codes "level " ++ decimal level
+subject_of (What.Always name) = name
 subject_of _ = []
 
 -- a word before others, if there is one
@@ -97,19 +101,37 @@ audit_text (Audit.Passed n) = codes "audit passed " ++ decimal n
 audit_text (Audit.Label n) = codes "audit tick " ++ (decimal n ++ codes " label")
 audit_text (Audit.Event n) = codes "audit tick " ++ (decimal n ++ codes " event")
 
-abbrev pub answer_text : Option Tick → What → Answer → List ℕ
-answer_text tick what (Answer.Tested b) = before_space (subject_of what) ++ (bound_text b ++ times_text tick b)
-answer_text tick what (Answer.Audited a) = audit_text a
-answer_text tick what (Answer.Open reason) = reason_words reason
+-- whether a main waits in each of its windows
+abbrev pub waiting_text : Waiting → List ℕ
+waiting_text Waiting.Always = codes "waits in each window"
+waiting_text (Waiting.NotFrom n) = codes "no wait in the window from " ++ decimal n
+waiting_text (Waiting.NotWithin n) = codes "not within " ++ decimal n
+waiting_text Waiting.ReadsTick = codes "reads the tick"
+waiting_text Waiting.HasThreads = codes "has threads"
+waiting_text Waiting.HasSlack = codes "has slack"
+
+-- whether the run repeats, where processes have these names
+abbrev pub repeating_text : List (List ℕ) → Repeating → List ℕ
+repeating_text names (Repeating.Every start every) = codes "repeats from " ++ (decimal start ++ (codes " every " ++ decimal every))
+repeating_text names (Repeating.NotWithin n) = codes "repeats not within " ++ decimal n
+repeating_text names (Repeating.ReadsTick p) = codes "repeats unknown " ++ (name_at names p ++ codes " reads the tick")
+
+abbrev pub answer_text : List (List ℕ) → Option Tick → What → Answer → List ℕ
+answer_text names tick what (Answer.Tested b) = before_space (subject_of what) ++ (bound_text b ++ times_text tick b)
+answer_text names tick what (Answer.Audited a) = audit_text a
+answer_text names tick what (Answer.Waits w) = before_space (subject_of what) ++ waiting_text w
+answer_text names tick what (Answer.Repeats r) = repeating_text names r
+answer_text names tick what (Answer.Open reason) = reason_words reason
 
 abbrev pub line_of : List ℕ → List ℕ → List ℕ → List ℕ
 line_of verdict id answer = verdict ++ (codes " " ++ (id ++ (codes " " ++ (answer ++ codes "\n"))))
 
-abbrev pub answer_line : Option Tick → Need → Answer → List ℕ
-answer_line tick need answer = line_of (verdict_word (verdict_of answer)) need.id (answer_text tick need.what answer)
+abbrev pub answer_line : List (List ℕ) → Option Tick → Need → Answer → List ℕ
+answer_line names tick need answer =
+    line_of (verdict_word (verdict_of answer)) need.id (answer_text names tick need.what answer)
 
-abbrev pub row_line : Option Tick → List Need → Row → List ℕ
-row_line tick needs row = option_map_or (λ need. answer_line tick need row.answer) (slice_get needs row.need) []
+abbrev pub row_line : List (List ℕ) → Option Tick → List Need → Row → List ℕ
+row_line names tick needs row = option_map_or (λ need. answer_line names tick need row.answer) (slice_get needs row.need) []
 
 abbrev pub is_verdict_met : Verdict → Bool
 is_verdict_met Verdict.Met = true
@@ -142,9 +164,9 @@ count_text met missed untested = codes "met "
 abbrev pub count_line : List Row → List ℕ
 count_line rows = count_text (how_many is_met_row rows) (how_many is_missed_row rows) (how_many is_open_row rows)
 
--- the whole text
-abbrev pub needs_text : Wanted → List Row → List ℕ
-needs_text needs rows = flat_map (row_line needs.tick needs.rows) rows ++ count_line rows
+-- the whole text, where processes have these names
+abbrev pub needs_text : List (List ℕ) → Wanted → List Row → List ℕ
+needs_text names needs rows = flat_map (row_line names needs.tick needs.rows) rows ++ count_line rows
 
 -- all that was asked for is met
 abbrev pub are_met : List Row → Bool

@@ -6,7 +6,7 @@ ghost use Rattle.dk_chain_report.specs.Finding.{process_named, processes_named};
 ghost use Rattle.dk_needs.specs.Fit.{HasNames};
 ghost use Rattle.dk_needs_check.specs.declared.row.Measure.{Measure};
 ghost use Rattle.dk_needs_check.specs.Bounds.{IsAtLeast, IsAtMost};
-ghost use Rattle.dk_needs_check.specs.Meaning.{AreAnswers, AreOfChain, HasBudget, HasHold, HasRelease, HasSpare, IfThere, IsDone, level_numbered, mutex_named};
+ghost use Rattle.dk_needs_check.specs.Meaning.{AreAnswers, AreOfChain, AreOfRun, HasBudget, HasHold, HasRelease, HasSpare, IfThere, IsDone, asks_ledger, level_numbered, mutex_named, open_where};
 
 use crate::bounds::{
     budget_bound, chain_bounds, done_bound, growth_bound, hold_bound, release_bound, spare_bound,
@@ -91,6 +91,41 @@ fn one(answer: Option<Answer>) -> Answers
     }
 }
 
+/// Whether more is asked than that the run repeats.
+fn asks_ledger(
+    overruns: Option<u32>,
+    refused: Option<u32>,
+    faults: Option<u32>,
+    forever: bool,
+) -> bool
+    ensures { result ≡ asks_ledger overruns refused faults forever }
+{
+    !forever || overruns.is_some() || refused.is_some() || faults.is_some()
+}
+
+fn open_where(asked: bool, reason: Reason) -> Option<Answer>
+    ensures { result ≡ open_where asked reason }
+{
+    if asked {
+        Some(Answer::Open(reason))
+    } else {
+        None
+    }
+}
+
+/// Of a run: what a ledger says, and whether it repeats, as far as they are asked for.
+fn run(overruns: Option<u32>, refused: Option<u32>, faults: Option<u32>, forever: bool) -> Answers
+    ensures { AreOfRun overruns refused faults forever result }
+{
+    Answers {
+        first: open_where(
+            asks_ledger(overruns, refused, faults, forever),
+            Reason::NoLedger,
+        ),
+        second: open_where(forever, Reason::NotTested),
+    }
+}
+
 /// Of a chain: its reaction time and the age of its data, as far as they are asked for.
 fn chain(
     alloc: Global,
@@ -153,6 +188,11 @@ pub(crate) fn answers_of(alloc: Global, config: &Config, what: &What) -> Result<
         }
         What::Spare { level, ticks } => Ok(one(spare(config, *level, *ticks))),
         What::Always { .. } => Ok(one(Some(Answer::Open(Reason::NotTested)))),
-        What::Run { .. } => Ok(one(Some(Answer::Open(Reason::NoLedger)))),
+        What::Run {
+            overruns,
+            refused,
+            faults,
+            forever,
+        } => Ok(run(*overruns, *refused, *faults, *forever)),
     }
 }

@@ -16,8 +16,8 @@ fn process_row_named(rows: &[ProcessRow], name: &str) -> Option<usize>
     rows.iter().position(|row| row.name.as_str() == name)
 }
 
-/// The process of this name.
-pub(crate) fn process_named(config: &Config, name: &str) -> Option<u32>
+/// The number of the process of this name, in the order of the rows.
+pub fn process_named(config: &Config, name: &str) -> Option<u32>
     requires limits { IsWithinLimits config.now }
     ensures found { result ≡ process_named config.now name.now }
     ensures exists { IfSome result (λ p. p < length config.now.processes) }

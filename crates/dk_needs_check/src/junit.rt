@@ -6,7 +6,7 @@ use crate::counts::{how_many_missed, how_many_open};
 use crate::table::measure_field;
 use crate::text::answer_text;
 use crate::{Answer, Row, Verdict, verdict_of};
-use dk_config::NoMemory;
+use dk_config::{NoMemory, Text};
 use dk_config_report::{Page, push_line};
 use dk_needs::{Need, Needs, Tick, key_name, section_key};
 use std::alloc::{AllocError, Global};
@@ -59,13 +59,14 @@ fn case_text(
 #[tactic(auto, unfolding(crate::specs::Junit::answer_case))]
 fn answer_case(
     alloc: Global,
+    names: &[Text],
     tick: Option<Tick>,
     need: &Need,
     answer: Answer,
 ) -> Result<String, AllocError>
-    ensures { IfOk result (λ s. string_bytes s ≡ answer_case tick need.now answer) }
+    ensures { IfOk result (λ s. string_bytes s ≡ answer_case names.now tick need.now answer) }
 {
-    let text = answer_text(alloc, tick, &need.what, answer)?;
+    let text = answer_text(alloc, names, tick, &need.what, answer)?;
     let end = end_text(alloc, verdict_of(answer), text.as_str())?;
     let measure = behind_space(alloc, measure_field(answer))?;
     case_text(
@@ -79,14 +80,15 @@ fn answer_case(
 
 fn row_case(
     alloc: Global,
+    names: &[Text],
     tick: Option<Tick>,
     needs: &[Need],
     row: Row,
 ) -> Result<String, AllocError>
-    ensures { IfOk result (λ s. string_bytes s ≡ row_case tick needs.now row) }
+    ensures { IfOk result (λ s. string_bytes s ≡ row_case names.now tick needs.now row) }
 {
     match needs.get(row.need) {
-        Some(need) => answer_case(alloc, tick, need, row.answer),
+        Some(need) => answer_case(alloc, names, tick, need, row.answer),
         None => String::from_str(alloc, ""),
     }
 }
@@ -94,15 +96,16 @@ fn row_case(
 fn add_cases(
     alloc: Global,
     text: &mut String,
+    names: &[Text],
     tick: Option<Tick>,
     needs: &[Need],
     rows: &[Row],
 ) -> Result<(), AllocError>
     ensures { OnOk result (string_bytes text.new
-        ≡ string_bytes text.old ++ flat_map (row_case tick needs.now) rows.now) }
+        ≡ string_bytes text.old ++ flat_map (row_case names.now tick needs.now) rows.now) }
 {
     for row in rows {
-        let line = row_case(alloc, tick, needs, *row)?;
+        let line = row_case(alloc, names, tick, needs, *row)?;
         push_line(text, line)?;
     }
     Ok(())
@@ -120,13 +123,18 @@ fn suite_line(alloc: Global, rows: &[Row]) -> Result<String, AllocError>
 }
 
 /// The same as JUnit XML: a test case for each row, named by its need and by what is asked for. One that is missed has
-/// failed, one that is open is skipped. `Err` is want of memory.
-pub fn needs_junit(alloc: Global, needs: &Needs, rows: &[Row]) -> Result<Page, NoMemory>
-    ensures { IfOk result (λ page. page ≡ needs_junit needs.now rows.now) }
+/// failed, one that is open is skipped. The names are those of the processes. `Err` is want of memory.
+pub fn needs_junit(
+    alloc: Global,
+    names: &[Text],
+    needs: &Needs,
+    rows: &[Row],
+) -> Result<Page, NoMemory>
+    ensures { IfOk result (λ page. page ≡ needs_junit names.now needs.now rows.now) }
 {
     let mut text = String::from_str(alloc, "<?xml version=\"1.0\" encoding=\"UTF-8\"?>\n")?;
     push_line(&mut text, suite_line(alloc, rows)?)?;
-    add_cases(alloc, &mut text, needs.tick, &needs.rows, rows)?;
+    add_cases(alloc, &mut text, names, needs.tick, &needs.rows, rows)?;
     push_line(&mut text, String::from_str(alloc, "</testsuite>\n")?)?;
     Ok(Page::new(text))
 }

@@ -48,10 +48,38 @@ pub enum Audit {
     Event(u32),
 }
 
+/// Whether the main of a process waits in each of its windows, in every run in which the process has this program.
+#[derive(Clone, Copy)]
+pub enum Waiting {
+    /// In each window, for ever.
+    Always,
+    /// Not in the window that begins at this tick.
+    NotFrom(u32),
+    /// That isn't known: it did so far, and no cycle of the process was found in so many ticks.
+    NotWithin(u32),
+    /// That isn't known: an instruction of the program reads the tick.
+    ReadsTick,
+    /// That isn't known: the process may have children.
+    HasThreads,
+    /// That isn't known: the process may ask for slack.
+    HasSlack,
+}
+
+/// Whether the run of the configuration with its programs repeats for ever.
+#[derive(Clone, Copy)]
+pub enum Repeating {
+    /// From tick `start` on the same comes every `length` ticks.
+    Every { start: u32, length: u32 },
+    /// That isn't known: no cycle was found in so many ticks.
+    NotWithin(u32),
+    /// That isn't known: an instruction of this process's program reads the tick.
+    ReadsTick(u8),
+}
+
 /// Why a need is neither met nor missed.
 #[derive(Clone, Copy)]
 pub enum Reason {
-    /// What it asks for isn't tested.
+    /// What it asks for isn't tested without the programs.
     NotTested,
     /// It asks of a ledger, and there is none.
     NoLedger,
@@ -62,11 +90,13 @@ pub enum Reason {
 pub enum Answer {
     Tested(Bound),
     Audited(Audit),
+    Waits(Waiting),
+    Repeats(Repeating),
     Open(Reason),
 }
 
-/// What is told of a need: of a chain its reaction time and the age of its data, as far as they are asked for; of any
-/// other one answer. There is none where the configuration hasn't got what is named.
+/// What is told of a need: of a chain its reaction time and the age of its data, of a run what a ledger says and whether it
+/// repeats, as far as they are asked for; of any other one answer. There is none where the configuration hasn't got what is named.
 #[derive(Clone, Copy)]
 pub struct Answers {
     pub first: Option<Answer>,

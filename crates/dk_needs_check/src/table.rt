@@ -1,13 +1,18 @@
 //! The rows as a table. No field has a byte that calls for quotes, so a row is its fields with commas between them.
 ghost use Rattle.std.specs.Prelude.{◌≡◌, ◌++◌, ◌∷◌, [], All, codes, decimal, flat_map, string_bytes, IfOk, OnOk};
-ghost use Rattle.dk_needs.specs.Fit.{IsFit};
-ghost use Rattle.dk_needs_check.specs.Csv.{IsPlain, asked_of, audit_number, audit_word, columns, fields, joined_record, measure_field, measure_word, needs_csv, number_field, number_of, reason_field, record_text, row_record};
+ghost use Rattle.dk_needs.specs.Fit.{HasNames, IsFit};
+ghost use Rattle.dk_needs_check.specs.Csv.{IsPlain, asked_of, audit_number, audit_word, columns, fields, joined_record, measure_field, measure_word, needs_csv, number_field, number_of, reason_field, record_text, row_record, subject_field};
+ghost use Rattle.dk_needs_check.specs.Names.{AreNamed};
 
+use crate::forever::{
+    plain_words, repeating_number, repeating_reason, repeating_subject, waiting_number,
+    waiting_reason,
+};
 use crate::text::{reason_words, subject_of, verdict_word};
 use crate::{Answer, Audit, Measure, Row, verdict_of};
-use dk_config::NoMemory;
+use dk_config::{NoMemory, Text};
 use dk_config_report::{Page, push_line};
-use dk_needs::{Need, Needs};
+use dk_needs::{Need, Needs, What};
 use std::alloc::{AllocError, Global};
 
 fn measure_word(measure: Measure) -> &'static str
@@ -36,6 +41,8 @@ pub(crate) fn measure_field(answer: Answer) -> &'static str
     match answer {
         Answer::Tested(bound) => measure_word(bound.measure),
         Answer::Audited(_) => "audit",
+        Answer::Waits(_) => "waits",
+        Answer::Repeats(_) => "repeats",
         Answer::Open(_) => "",
     }
 }
@@ -68,6 +75,8 @@ fn number_of(answer: Answer) -> Option<u32>
     match answer {
         Answer::Tested(bound) => bound.number,
         Answer::Audited(audit) => Some(audit_number(audit)),
+        Answer::Waits(waiting) => waiting_number(waiting),
+        Answer::Repeats(repeating) => repeating_number(repeating),
         Answer::Open(_) => None,
     }
 }
@@ -77,19 +86,37 @@ fn asked_of(answer: Answer) -> Option<u32>
 {
     match answer {
         Answer::Tested(bound) => Some(bound.asked),
-        Answer::Audited(_) => None,
-        Answer::Open(_) => None,
+        _ => None,
     }
 }
 
-fn reason_field(answer: Answer) -> &'static str
-    ensures text { result.now ≡ reason_field answer }
-    ensures plain { IsPlain result.now }
+fn subject_field(
+    alloc: Global,
+    names: &[Text],
+    what: &What,
+    answer: Answer,
+) -> Result<String, AllocError>
+    requires named { AreNamed names.now }
+    requires fit { HasNames what.now }
+    ensures text { IfOk result (λ s. string_bytes s ≡ subject_field names.now what.now answer) }
+    ensures plain { IfOk result (λ s. IsPlain (string_bytes s)) }
 {
     match answer {
-        Answer::Tested(_) => "",
-        Answer::Audited(audit) => audit_word(audit),
-        Answer::Open(reason) => reason_words(reason),
+        Answer::Repeats(repeating) => { plain_words(alloc, repeating_subject(names, repeating)) }
+        _ => subject_of(alloc, what),
+    }
+}
+
+fn reason_field(alloc: Global, answer: Answer) -> Result<String, AllocError>
+    ensures text { IfOk result (λ s. string_bytes s ≡ reason_field answer) }
+    ensures plain { IfOk result (λ s. IsPlain (string_bytes s)) }
+{
+    match answer {
+        Answer::Tested(_) => plain_words(alloc, ""),
+        Answer::Audited(audit) => plain_words(alloc, audit_word(audit)),
+        Answer::Waits(waiting) => waiting_reason(alloc, waiting),
+        Answer::Repeats(repeating) => repeating_reason(alloc, repeating),
+        Answer::Open(reason) => plain_words(alloc, reason_words(reason)),
     }
 }
 
@@ -176,13 +203,20 @@ fn record_of(
     joined_record(alloc, verdict, id, subject, measure, number, asked, reason)
 }
 
-fn need_record(alloc: Global, need: &Need, answer: Answer) -> Result<String, AllocError>
-    requires { IsFit need.now }
-    ensures { IfOk result (λ s. string_bytes s ≡ record_text (fields need.now answer)) }
+fn need_record(
+    alloc: Global,
+    names: &[Text],
+    need: &Need,
+    answer: Answer,
+) -> Result<String, AllocError>
+    requires named { AreNamed names.now }
+    requires fit { IsFit need.now }
+    ensures { IfOk result (λ s. string_bytes s ≡ record_text (fields names.now need.now answer)) }
 {
-    let subject = subject_of(alloc, &need.what)?;
+    let subject = subject_field(alloc, names, &need.what, answer)?;
     let number = number_field(alloc, number_of(answer))?;
     let asked = number_field(alloc, asked_of(answer))?;
+    let reason = reason_field(alloc, answer)?;
     record_of(
         alloc,
         verdict_word(verdict_of(answer)),
@@ -191,16 +225,17 @@ fn need_record(alloc: Global, need: &Need, answer: Answer) -> Result<String, All
         measure_field(answer),
         number.as_str(),
         asked.as_str(),
-        reason_field(answer),
+        reason.as_str(),
     )
 }
 
-fn row_record(alloc: Global, needs: &[Need], row: Row) -> Result<String, AllocError>
-    requires { All IsFit needs.now }
-    ensures { IfOk result (λ s. string_bytes s ≡ row_record needs.now row) }
+fn row_record(alloc: Global, names: &[Text], needs: &[Need], row: Row) -> Result<String, AllocError>
+    requires named { AreNamed names.now }
+    requires fit { All IsFit needs.now }
+    ensures { IfOk result (λ s. string_bytes s ≡ row_record names.now needs.now row) }
 {
     match needs.get(row.need) {
-        Some(need) => need_record(alloc, need, row.answer),
+        Some(need) => need_record(alloc, names, need, row.answer),
         None => String::from_str(alloc, ""),
     }
 }
@@ -208,14 +243,17 @@ fn row_record(alloc: Global, needs: &[Need], row: Row) -> Result<String, AllocEr
 fn add_records(
     alloc: Global,
     text: &mut String,
+    names: &[Text],
     needs: &[Need],
     rows: &[Row],
 ) -> Result<(), AllocError>
-    requires { All IsFit needs.now }
-    ensures { OnOk result (string_bytes text.new ≡ string_bytes text.old ++ flat_map (row_record needs.now) rows.now) }
+    requires named { AreNamed names.now }
+    requires fit { All IsFit needs.now }
+    ensures { OnOk result (string_bytes text.new
+        ≡ string_bytes text.old ++ flat_map (row_record names.now needs.now) rows.now) }
 {
     for row in rows {
-        let line = row_record(alloc, needs, *row)?;
+        let line = row_record(alloc, names, needs, *row)?;
         push_line(text, line)?;
     }
     Ok(())
@@ -228,12 +266,19 @@ fn column_names(alloc: Global) -> Result<String, AllocError>
     String::from_str(alloc, "verdict,id,subject,measure,number,asked,reason\n")
 }
 
-/// The same as a table: the names of the columns, and a row for each row. `Err` is want of memory.
-pub fn needs_csv(alloc: Global, needs: &Needs, rows: &[Row]) -> Result<Page, NoMemory>
+/// The same as a table: the names of the columns, and a row for each row. The names are those of the processes. `Err` is want
+/// of memory.
+pub fn needs_csv(
+    alloc: Global,
+    names: &[Text],
+    needs: &Needs,
+    rows: &[Row],
+) -> Result<Page, NoMemory>
+    requires named { AreNamed names.now }
     requires fit { All IsFit needs.now.rows }
-    ensures { IfOk result (λ page. page ≡ needs_csv needs.now.rows rows.now) }
+    ensures { IfOk result (λ page. page ≡ needs_csv names.now needs.now.rows rows.now) }
 {
     let mut text = column_names(alloc)?;
-    add_records(alloc, &mut text, &needs.rows, rows)?;
+    add_records(alloc, &mut text, names, &needs.rows, rows)?;
     Ok(Page::new(text))
 }

@@ -3,12 +3,13 @@ ghost use Rattle.std.specs.Prelude.{◌≡◌, ◌++◌, true, codes, decimal, f
 ghost use Rattle.dk_config.specs.Rules.{is_name};
 ghost use Rattle.dk_needs.specs.Fit.{HasNames};
 ghost use Rattle.dk_needs_check.specs.Csv.{IsPlain};
-ghost use Rattle.dk_needs_check.specs.Text.{answer_line, answer_text, audit_text, before_space, between_text, bound_text, count_line, count_text, is_time, line_of, measure_words, needs_text, number_text, reason_words, row_line, subject_of, time_text, times_of, times_text, unit_word, verdict_word};
+ghost use Rattle.dk_needs_check.specs.Text.{answer_line, answer_text, audit_text, before_space, between_text, bound_text, count_line, count_text, is_time, line_of, measure_words, needs_text, number_text, reason_words, row_line, subject_of, time_text, times_of, times_text, unit_word, verdict_word, waiting_text};
 
 use crate::counts::{how_many_met, how_many_missed, how_many_open};
+use crate::forever::{repeating_text, waiting_text};
 use crate::verdict::is_upper;
-use crate::{Answer, Audit, Bound, Measure, Reason, Row, Verdict, verdict_of};
-use dk_config::NoMemory;
+use crate::{Answer, Audit, Bound, Measure, Reason, Row, Verdict, Waiting, verdict_of};
+use dk_config::{NoMemory, Text};
 use dk_config_report::{Page, push_line};
 use dk_needs::{Need, Needs, Tick, Unit, What};
 use std::alloc::{AllocError, Global};
@@ -59,7 +60,7 @@ fn level_text(alloc: Global, level: u32) -> Result<String, AllocError>
     format!(in alloc; "level {level}")
 }
 
-fn name_text(alloc: Global, name: &str) -> Result<String, AllocError>
+pub(crate) fn name_text(alloc: Global, name: &str) -> Result<String, AllocError>
     ensures text { IfOk result (λ s. string_bytes s ≡ name.now) }
     ensures plain { is_name name.now ≡ true → IfOk result (λ s. IsPlain (string_bytes s)) }
 {
@@ -77,6 +78,7 @@ pub(crate) fn subject_of(alloc: Global, what: &What) -> Result<String, AllocErro
         What::Hold { mutex, .. } => name_text(alloc, mutex.as_str()),
         What::Release { level, .. } => level_text(alloc, *level),
         What::Spare { level, .. } => level_text(alloc, *level),
+        What::Always { process } => name_text(alloc, process.as_str()),
         _ => String::from_str(alloc, ""),
     }
 }
@@ -180,7 +182,7 @@ fn tested_text(
     what: &What,
     bound: Bound,
 ) -> Result<String, AllocError>
-    ensures { IfOk result (λ s. string_bytes s ≡ answer_text tick what.now (Answer.Tested bound)) }
+    ensures { IfOk result (λ s. string_bytes s ≡ before_space (subject_of what.now) ++ (bound_text bound ++ times_text tick bound)) }
 {
     let subject = subject_of(alloc, what)?;
     let mut text = before_space(alloc, subject.as_str())?;
@@ -200,17 +202,29 @@ fn audit_text(alloc: Global, audit: Audit) -> Result<String, AllocError>
     }
 }
 
+fn waits_text(alloc: Global, what: &What, waiting: Waiting) -> Result<String, AllocError>
+    ensures { IfOk result (λ s. string_bytes s ≡ before_space (subject_of what.now) ++ waiting_text waiting) }
+{
+    let subject = subject_of(alloc, what)?;
+    let mut text = before_space(alloc, subject.as_str())?;
+    push_line(&mut text, waiting_text(alloc, waiting)?)?;
+    Ok(text)
+}
+
 pub(crate) fn answer_text(
     alloc: Global,
+    names: &[Text],
     tick: Option<Tick>,
     what: &What,
     answer: Answer,
 ) -> Result<String, AllocError>
-    ensures { IfOk result (λ s. string_bytes s ≡ answer_text tick what.now answer) }
+    ensures { IfOk result (λ s. string_bytes s ≡ answer_text names.now tick what.now answer) }
 {
     match answer {
         Answer::Tested(bound) => tested_text(alloc, tick, what, bound),
         Answer::Audited(audit) => audit_text(alloc, audit),
+        Answer::Waits(waiting) => waits_text(alloc, what, waiting),
+        Answer::Repeats(repeating) => repeating_text(alloc, names, repeating),
         Answer::Open(reason) => String::from_str(alloc, reason_words(reason)),
     }
 }
@@ -223,13 +237,14 @@ fn line_of(alloc: Global, verdict: &str, id: &str, answer: &str) -> Result<Strin
 
 fn answer_line(
     alloc: Global,
+    names: &[Text],
     tick: Option<Tick>,
     need: &Need,
     answer: Answer,
 ) -> Result<String, AllocError>
-    ensures { IfOk result (λ s. string_bytes s ≡ answer_line tick need.now answer) }
+    ensures { IfOk result (λ s. string_bytes s ≡ answer_line names.now tick need.now answer) }
 {
-    let text = answer_text(alloc, tick, &need.what, answer)?;
+    let text = answer_text(alloc, names, tick, &need.what, answer)?;
     line_of(
         alloc,
         verdict_word(verdict_of(answer)),
@@ -240,14 +255,15 @@ fn answer_line(
 
 fn row_line(
     alloc: Global,
+    names: &[Text],
     tick: Option<Tick>,
     needs: &[Need],
     row: Row,
 ) -> Result<String, AllocError>
-    ensures { IfOk result (λ s. string_bytes s ≡ row_line tick needs.now row) }
+    ensures { IfOk result (λ s. string_bytes s ≡ row_line names.now tick needs.now row) }
 {
     match needs.get(row.need) {
-        Some(need) => answer_line(alloc, tick, need, row.answer),
+        Some(need) => answer_line(alloc, names, tick, need, row.answer),
         None => String::from_str(alloc, ""),
     }
 }
@@ -255,15 +271,16 @@ fn row_line(
 fn add_rows(
     alloc: Global,
     text: &mut String,
+    names: &[Text],
     tick: Option<Tick>,
     needs: &[Need],
     rows: &[Row],
 ) -> Result<(), AllocError>
     ensures { OnOk result (string_bytes text.new
-        ≡ string_bytes text.old ++ flat_map (row_line tick needs.now) rows.now) }
+        ≡ string_bytes text.old ++ flat_map (row_line names.now tick needs.now) rows.now) }
 {
     for row in rows {
-        let line = row_line(alloc, tick, needs, *row)?;
+        let line = row_line(alloc, names, tick, needs, *row)?;
         push_line(text, line)?;
     }
     Ok(())
@@ -292,12 +309,17 @@ fn count_line(alloc: Global, rows: &[Row]) -> Result<String, AllocError>
 }
 
 /// A line for each row, with its numbers as times too where the needs say how long a tick is, and last how many are met,
-/// missed and open. `Err` is want of memory.
-pub fn needs_text(alloc: Global, needs: &Needs, rows: &[Row]) -> Result<Page, NoMemory>
-    ensures { IfOk result (λ page. page ≡ needs_text needs.now rows.now) }
+/// missed and open. The names are those of the processes, in the order of the rows. `Err` is want of memory.
+pub fn needs_text(
+    alloc: Global,
+    names: &[Text],
+    needs: &Needs,
+    rows: &[Row],
+) -> Result<Page, NoMemory>
+    ensures { IfOk result (λ page. page ≡ needs_text names.now needs.now rows.now) }
 {
     let mut text = String::new(alloc);
-    add_rows(alloc, &mut text, needs.tick, &needs.rows, rows)?;
+    add_rows(alloc, &mut text, names, needs.tick, &needs.rows, rows)?;
     push_line(&mut text, count_line(alloc, rows)?)?;
     Ok(Page::new(text))
 }

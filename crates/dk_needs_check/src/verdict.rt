@@ -1,8 +1,8 @@
 //! Whether a bound is kept.
 ghost use Rattle.std.specs.Prelude.{◌≡◌};
-ghost use Rattle.dk_needs_check.specs.Bounds.{audit_verdict, is_met, is_upper, keeps, verdict_of};
+ghost use Rattle.dk_needs_check.specs.Bounds.{audit_verdict, is_met, is_upper, keeps, repeating_verdict, verdict_of, waiting_verdict};
 
-use crate::{Answer, Audit, Bound, Measure, Verdict};
+use crate::{Answer, Audit, Bound, Measure, Repeating, Verdict, Waiting};
 
 /// Whether at most so much is asked.
 pub(crate) fn is_upper(measure: Measure) -> bool
@@ -41,6 +41,25 @@ fn audit_verdict(audit: Audit) -> Verdict
     }
 }
 
+fn waiting_verdict(waiting: Waiting) -> Verdict
+    ensures { result ≡ waiting_verdict waiting }
+{
+    match waiting {
+        Waiting::Always => Verdict::Met,
+        Waiting::NotFrom(_) => Verdict::Missed,
+        _ => Verdict::Open,
+    }
+}
+
+fn repeating_verdict(repeating: Repeating) -> Verdict
+    ensures { result ≡ repeating_verdict repeating }
+{
+    match repeating {
+        Repeating::Every { .. } => Verdict::Met,
+        _ => Verdict::Open,
+    }
+}
+
 /// Whether what was asked for is kept.
 pub fn verdict_of(answer: Answer) -> Verdict
     ensures { result ≡ verdict_of answer }
@@ -54,6 +73,8 @@ pub fn verdict_of(answer: Answer) -> Verdict
             }
         }
         Answer::Audited(audit) => audit_verdict(audit),
+        Answer::Waits(waiting) => waiting_verdict(waiting),
+        Answer::Repeats(repeating) => repeating_verdict(repeating),
         Answer::Open(_) => Verdict::Open,
     }
 }

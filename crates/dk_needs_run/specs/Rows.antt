@@ -7,6 +7,7 @@ use Rattle.dk_needs.specs.declared.needs.Need.{Need}
 use Rattle.dk_needs.specs.declared.needs.What.{What}
 use Rattle.dk_needs_check.specs.declared.row.Answer.{Answer}
 use Rattle.dk_needs_check.specs.declared.row.Measure.{Measure}
+use Rattle.dk_needs_check.specs.declared.row.Reason.{Reason}
 use Rattle.dk_needs_check.specs.declared.row.Row.{Row}
 use Rattle.dk_needs_check.specs.declared.unknown.Checking.{Checking}
 use Rattle.dk_needs_check.specs.Rows.{AreRows}
@@ -28,9 +29,14 @@ run_rows i run overruns refused faults =
     ∷ (bound_row i Measure.Overruns run.overruns overruns
     ++ (bound_row i Measure.Refused run.refused refused ++ bound_row i Measure.Faults run.faults faults))
 
+-- of a need of a run the row that asks for a ledger is decided; that of whether the run repeats stays
+abbrev pub ledger_rows : RunFound → Row → Option ℕ → Option ℕ → Option ℕ → Answer → List Row
+ledger_rows run row overruns refused faults (Answer.Open Reason.NoLedger) = run_rows row.need run overruns refused faults
+ledger_rows run row overruns refused faults _ = row ∷ []
+
 -- a row of a need of a run is decided, and each other one stays
 abbrev pub decided_row : RunFound → Row → What → List Row
-decided_row run row (What.Run overruns refused faults) = run_rows row.need run overruns refused faults
+decided_row run row (What.Run overruns refused faults forever) = ledger_rows run row overruns refused faults row.answer
 decided_row run row _ = row ∷ []
 
 abbrev pub decided_by : List Need → RunFound → Row → List Row
@@ -50,7 +56,7 @@ abbrev pub IsRunCheck : Configuration → List Need → List ℕ → Checking �
 IsRunCheck c needs bytes (Checking.Unknown found) = (found.items ≡ unknown_of c needs) × (unknown_of c needs ≢ [])
 IsRunCheck c needs bytes (Checking.Decided rows) = AreRunRows c needs bytes rows.items
 
--- All rows of a need of a run are met exactly where the entries follow the rules and no number is above what is asked.
+-- All rows of a need of a run that a ledger decides are met exactly where the entries follow the rules and no number is above what is asked.
 abbrev pub IsExact : Configuration → Journal → RunFound → Type 0
 IsExact c j run =
     (i : ℕ) (overruns refused faults : Option ℕ)

@@ -1,11 +1,11 @@
 //! The rows of needs of a run.
 ghost use Rattle.std.specs.Prelude.{◌≡◌, ◌++◌, flat_map, IfOk, OnOk};
-ghost use Rattle.dk_needs_run.specs.Rows.{bound_row, decided_by, decided_row, run_rows};
+ghost use Rattle.dk_needs_run.specs.Rows.{bound_row, decided_by, decided_row, ledger_rows, run_rows};
 
 use crate::RunFound;
 use dk_config::NoMemory;
 use dk_needs::{Need, What};
-use dk_needs_check::{Answer, Bound, Measure, Row};
+use dk_needs_check::{Answer, Bound, Measure, Reason, Row};
 use std::alloc::Global;
 
 /// Adds the row of a number, where anything is asked of it.
@@ -52,7 +52,29 @@ fn add_run(
     add_bound(rows, need, Measure::Faults, run.faults, faults)
 }
 
-/// Adds a row, decided where its need is of a run.
+/// Adds the row of a need of a run, decided where it asks for a ledger.
+fn add_of_run(
+    rows: &mut Vec<Row>,
+    run: RunFound,
+    row: Row,
+    overruns: Option<u32>,
+    refused: Option<u32>,
+    faults: Option<u32>,
+) -> Result<(), NoMemory>
+    ensures { OnOk result (rows.new.items ≡ rows.old.items ++ ledger_rows run row overruns refused faults row.answer) }
+{
+    match row.answer {
+        Answer::Open(Reason::NoLedger) => {
+            add_run(rows, row.need, run, overruns, refused, faults)
+        }
+        _ => {
+            rows.push(row)?;
+            Ok(())
+        }
+    }
+}
+
+/// Adds a row, decided where its need is of a run and asks for a ledger.
 fn add_decided(rows: &mut Vec<Row>, run: RunFound, row: Row, what: &What) -> Result<(), NoMemory>
     ensures { OnOk result (rows.new.items ≡ rows.old.items ++ decided_row run row what.now) }
 {
@@ -61,7 +83,8 @@ fn add_decided(rows: &mut Vec<Row>, run: RunFound, row: Row, what: &What) -> Res
             overruns,
             refused,
             faults,
-        } => add_run(rows, row.need, run, *overruns, *refused, *faults),
+            ..
+        } => add_of_run(rows, run, row, *overruns, *refused, *faults),
         _ => {
             rows.push(row)?;
             Ok(())

@@ -5,5 +5,5 @@ use Rattle.dk_needs_check.proofs.junit.add_cases.Given as goal
 -- the cases so far, before those of the rows that are left
 abbrev pub invariant-loop-row : goal.invariant-loop-row
 invariant-loop-row l =
-    string_bytes l.text ++ flat_map (row_case l.tick l.needs) (drop l.row-index l.rows)
-    ≡ string_bytes l.initial.text ++ flat_map (row_case l.tick l.needs) l.rows
+    string_bytes l.text ++ flat_map (row_case l.names l.tick l.needs) (drop l.row-index l.rows)
+    ≡ string_bytes l.initial.text ++ flat_map (row_case l.names l.tick l.needs) l.rows
