@@ -1,0 +1,6 @@
+pub mod Turns
+pub mod Phases
+pub mod Rounds
+pub mod Room
+pub mod Clock
+pub mod Windows
