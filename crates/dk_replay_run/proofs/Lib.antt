@@ -4,3 +4,5 @@ pub mod Rounds
 pub mod Room
 pub mod Clock
 pub mod Windows
+pub mod Counted
+mod Witness

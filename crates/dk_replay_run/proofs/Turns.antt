@@ -15,7 +15,7 @@ use Rattle.dk_alone.proofs.Ties.{alone-long}
 abbrev pub going : List Entry → ℕ → ℕ → ℕ → Bool → Own
 going es share used outs shut = record { entries = es; job = the_job share used outs shut; held = []; ended = false }
 
-same-self : (p : ℕ) → eqb p p ≡ true
+pub same-self : (p : ℕ) → eqb p p ≡ true
 same-self p = grind (arith, nat_tests)
 
 -- what each of its entries makes of it

@@ -23,7 +23,7 @@ answered : (at : ℕ) (regs : List ℕ) → length regs ≡ 8 → StandsAt (at +
 answered at regs eight = record { place = refl; registers = length-set regs 0 0 ∙ eight; left = refl }
 
 -- one list of five parts in front of the entries before
-joined : (O C R I es : List Entry) (w : Entry) → (O ++ (w ∷ (C ++ (R ++ I)))) ++ es ≡ O ++ (w ∷ (C ++ (R ++ (I ++ es))))
+pub joined : (O C R I es : List Entry) (w : Entry) → (O ++ (w ∷ (C ++ (R ++ I)))) ++ es ≡ O ++ (w ∷ (C ++ (R ++ (I ++ es))))
 joined O C R I es w =
     append_assoc O (w ∷ (C ++ (R ++ I))) es
     ∙ ap (λ (t : List Entry). O ++ (w ∷ t)) (append_assoc C (R ++ I) es ∙ ap (λ (t : List Entry). C ++ t) (append_assoc R I es))

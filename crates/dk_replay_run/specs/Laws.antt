@@ -1,10 +1,13 @@
 -- The laws of a process whose program is that of a profile.
-use Rattle.std.specs.Prelude.{ℕ, ◌≡◌, ◌+◌, ◌*◌, ◌<◌, false, List, [], length, take, slice_index_or}
+use Rattle.std.specs.Prelude.{ℕ, ◌≡◌, ◌+◌, ◌*◌, ◌<◌, true, false, List, [], length, take, count_by, slice_index_or}
+use Rattle.std.specs.List.{list_any}
 use Rattle.dk_config.specs.Configuration.{Configuration}
 use Rattle.dk_config.specs.Checked.{IsAccepted, IsChecked, IsWithinLimits}
 use Rattle.dk_config.specs.Windows.{main_level, may_ask, period, slots}
+use Rattle.dk_trace.specs.declared.Entry.{Entry}
+use Rattle.dk_trace.specs.Entries.{does, is_budget_of, is_wait}
 use Rattle.dk_alone.specs.Alone.{ReadsNoTick, alone, entries_of}
-use Rattle.dk_alone.specs.Again.{own_window}
+use Rattle.dk_alone.specs.Again.{own_window, window_from}
 use Rattle.dk_profile.specs.declared.steps.Step.{Step}
 use Rattle.dk_replay.specs.Code.{program_of}
 use Rattle.dk_replay_run.specs.Jobs.{HaveRoom, StandsReady, job_place, job_time, job_window, steps_of_jobs}
@@ -42,3 +45,16 @@ Replays =
     → p < length c.processes → slots c p ≡ 0 → may_ask c p ≡ false → 0 < length times → HaveRoom c p times
     → slice_index_or programs p [] ≡ program_of (steps_of_jobs times)
     → own_window c programs p (window_tick c p k) ≡ job_window c p (job_time times k)
+
+-- of these entries of a window the main's budget paid for so many, and in one of them it waited
+pub record HasUsed (p ticks : ℕ) (window : List Entry) : Type 0 where
+  pub used : count_by (is_budget_of (record { process = p; serial = 0 })) window ≡ ticks
+  pub waited : list_any (does is_wait (record { process = p; serial = 0 })) window ≡ true
+
+-- So in window k it uses of its budget exactly the ticks of job k, its work and its wait, and both switches, and it waits.
+abbrev pub UsesItsJobs : Type 0
+UsesItsJobs =
+    (c : Configuration) (programs : List (List ℕ)) (p k : ℕ) (times : List ℕ) → IsWithinLimits c → IsChecked c → IsAccepted c
+    → p < length c.processes → slots c p ≡ 0 → may_ask c p ≡ false → 0 < length times → HaveRoom c p times
+    → slice_index_or programs p [] ≡ program_of (steps_of_jobs times)
+    → HasUsed p (job_time times k + c.costs.call + 2 * c.costs.switch) (window_from c programs p (window_tick c p k))

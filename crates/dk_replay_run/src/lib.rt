@@ -5,7 +5,7 @@
 //! All rules are this project's own.
 #![tactic(auto)]
 
-ghost use Rattle.dk_replay_run.specs.Laws.{JobsAlone, JobsInTurn, ProfilesReadNoTick, Replays};
+ghost use Rattle.dk_replay_run.specs.Laws.{JobsAlone, JobsInTurn, ProfilesReadNoTick, Replays, UsesItsJobs};
 
 use dk_alone::windows_law;
 
@@ -31,4 +31,11 @@ pub fn replays_law()
     clock_law();
     jobs_law();
     windows_law();
+}
+
+/// So in window k it uses of its budget exactly the ticks of job k and both switches, and it waits.
+pub fn uses_law()
+    ensures { UsesItsJobs }
+{
+    replays_law();
 }
