@@ -11,7 +11,7 @@ use Rattle.dk_config.specs.Checked.{IsAccepted, IsChecked, IsWithinLimits}
 use Rattle.dk_config.specs.Certification.{budgets_at, level_blocking, level_demand}
 use Rattle.dk_config.specs.Windows.{budget, main_level, period, release}
 use Rattle.dk_config.proofs.Sums.{sum_from-term}
-use Rattle.dk_replay_run.specs.Jobs.{HaveRoom}
+use Rattle.dk_replay_run.specs.Jobs.{BeginsWithWork, HaveRoom}
 
 -- the budgets of a row's level have its own
 row-counted : (rows : List ProcessRow) (p j : ℕ) → option_map_or (λ (row : ProcessRow). row.level) (slice_get rows p) 0 ≡ j
@@ -44,16 +44,18 @@ budget-fits c p checked accepted known =
     omega (arith, whole, term, one, own)
 
 pub room-at : (c : Configuration) (p : ℕ) (times : List ℕ) (i : ℕ) → i < length times → HaveRoom c p times
-    → (0 < slice_index_or times i 0) × (slice_index_or times i 0 + c.costs.call + 2 * c.costs.switch ≤ budget c p)
+    → slice_index_or times i 0 + c.costs.call + 2 * c.costs.switch ≤ budget c p
 room-at c p [] i within room = absurd (omega arith)
-room-at c p (n ∷ times) zero within room = (room.0, room.1)
-room-at c p (n ∷ times) (suc i) within room = room-at c p times i (omega arith) room.2
+room-at c p (n ∷ times) zero within room = room.0
+room-at c p (n ∷ times) (suc i) within room = room-at c p times i (omega arith) room.1
 
 pub fit : (c : Configuration) (p : ℕ) (times : List ℕ) → IsWithinLimits c → HaveRoom c p times
-    → (i : ℕ) → i < length times → (0 < slice_index_or times i 0) × (slice_index_or times i 0 < 2 ^ 32)
+    → (i : ℕ) → i < length times → slice_index_or times i 0 < 2 ^ 32
 fit c p times limits room i within =
-    let both = room-at c p times i within room in
-    let some = both.0 in
-    let much = both.1 in
+    let much = room-at c p times i within room in
     let least = limits.budgets p in
-    (some, omega (arith, much, least))
+    omega (arith, much, least)
+
+pub some-job : (times : List ℕ) → BeginsWithWork times → 0 < length times
+some-job [] works = absurd works
+some-job (n ∷ times) works = omega arith

@@ -10,11 +10,11 @@ use Rattle.dk_alone.proofs.Own.{own-begins}
 use Rattle.dk_alone.proofs.Again.{on, on-is, entry-by, stopped-is}
 use Rattle.dk_replay.specs.Code.{program_of}
 use Rattle.dk_replay.specs.Laws.{IsAt, StandsAt, left_behind, standing}
-use Rattle.dk_replay_run.specs.Jobs.{HaveRoom, StandsReady, job_place, job_time, job_window, steps_of_jobs}
+use Rattle.dk_replay_run.specs.Jobs.{BeginsWithWork, HaveRoom, StandsReady, job_place, job_time, job_window, steps_of_jobs}
 use Rattle.dk_replay_run.proofs.Turns.{At, going, own_from, waits}
 use Rattle.dk_replay_run.proofs.Phases.{ins, runs, calls, waited, outs, rests, renewed, left-shut}
 use Rattle.dk_replay_run.proofs.Rounds.{works}
-use Rattle.dk_replay_run.proofs.Room.{budget-fits, room-at, fit}
+use Rattle.dk_replay_run.proofs.Room.{budget-fits, room-at, fit, some-job}
 
 as-parts : (at : ℕ) (x : Context) → StandsAt at x → x ≡ standing x.regs at 0
 as-parts at x s = ap (λ p. standing x.regs p x.left) s.place ∙ ap (λ l. standing x.regs at l) s.left
@@ -42,10 +42,10 @@ module _ (c : Configuration) (p : ℕ) (program : List ℕ) (positive : 0 < peri
   abbrev B : ℕ
   B = budget c p
 
-  window : (n at : ℕ) (es : List Entry) (x y : Context) (m : List ℕ) → 0 < n → n + K + 2 * W ≤ B → 0 < K
+  window : (n at : ℕ) (es : List Entry) (x y : Context) (m : List ℕ) → n + K + 2 * W ≤ B → 0 < K
       → At c p program s s (going es B 0 0 false) x m → RunsFor K program n x m y m → StandsAt at y → IsAt program at (Trap 1)
       → (z : Context) × At c p program (s + P) (s + P) (going (job_window c p n ++ es) B 0 0 false) z m × StandsAt (at + 1) z
-  window n at es x y m some room cost a took stands is =
+  window n at es x y m room cost a took stands is =
       let j : ℕ = K - 1 in
       let all : suc j ≡ K = omega arith in
       let I : List Entry = replicate W (quiet_entry (Label.In (main_id p))) in
@@ -95,7 +95,10 @@ split f grows (suc d) t =
     subst (λ (es : List Entry). es ≡ take (suc d) es ++ f t) (sym grown.1) (ap (λ (es : List Entry). grown.0 ∷ es) (split f grows d t))
 
 module _ (c : Configuration) (p : ℕ) (times : List ℕ) (limits : IsWithinLimits c) (checked : IsChecked c) (accepted : IsAccepted c)
-    (known : p < length c.processes) (long : 0 < length times) (room : HaveRoom c p times) where
+    (known : p < length c.processes) (works-first : BeginsWithWork times) (room : HaveRoom c p times) where
+  long : 0 < length times
+  long = some-job times works-first
+
   abbrev code : List ℕ
   code = program_of (steps_of_jobs times)
 
@@ -136,10 +139,10 @@ module _ (c : Configuration) (p : ℕ) (times : List ℕ) (limits : IsWithinLimi
 
   turn : (k s : ℕ) → s % span ≡ 0 → (b : BeginsAt k s) → (z : Context) × Begun (suc k) (s + span) (job_window c p (job_time times k) ++ b.0) z
   turn k s begins b =
-      let job = works c.costs.call times k b.1 words long (fit c p times limits room) b.2.1 in
+      let job = works c.costs.call times k b.1 words long works-first (fit c p times limits room) b.2.1 in
       let within = inside k in
       let much = room-at c p times (k % length times) within room in
-      let done = window c p code whole s begins (budget-fits c p checked accepted known) (job_time times k) job.1 b.0 b.1 job.0 words much.0 much.1 limits.some_call b.2.0 job.2 job.3 job.4 in
+      let done = window c p code whole s begins (budget-fits c p checked accepted known) (job_time times k) job.1 b.0 b.1 job.0 words much limits.some_call b.2.0 job.2 job.3 job.4 in
       (done.0, (done.1, subst (λ at. StandsAt at done.0) job.5 done.2))
     where
       inside : (i : ℕ) → i % length times < length times

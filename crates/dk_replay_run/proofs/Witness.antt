@@ -41,7 +41,7 @@ abbrev worker : List ℕ
 worker = program_of (steps_of_jobs times)
 
 worker-fits : HaveRoom pair 1 times
-worker-fits = (omega arith, omega arith, (omega arith, omega arith, tt))
+worker-fits = (omega arith, (omega arith, tt))
 
 -- runs for ever
 abbrev spinner : List ℕ

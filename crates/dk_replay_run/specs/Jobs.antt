@@ -13,10 +13,20 @@ use Rattle.dk_profile.specs.declared.steps.Step.{Step}
 use Rattle.dk_profile.specs.Steps.{step_size}
 use Rattle.dk_replay.specs.Laws.{StandsAt}
 
--- the steps of jobs that take so many ticks of work each, and then wait
+-- the steps of a job that takes so many ticks of work, and then waits
+abbrev pub job_steps : ℕ → List Step
+job_steps zero = Step.Wait ∷ []
+job_steps (suc n) = Step.Work (suc n) ∷ Step.Wait ∷ []
+
+-- the steps of such jobs, one after the other
 abbrev pub steps_of_jobs : List ℕ → List Step
 steps_of_jobs [] = []
-steps_of_jobs (n ∷ times) = Step.Work n ∷ Step.Wait ∷ steps_of_jobs times
+steps_of_jobs (n ∷ times) = job_steps n ++ steps_of_jobs times
+
+-- there is a first job, and it has a tick of work
+abbrev pub BeginsWithWork : List ℕ → Type 0
+BeginsWithWork [] = ⊥
+BeginsWithWork (n ∷ times) = 0 < n
 
 -- the ticks of work of job k, where the jobs come in turn for ever
 abbrev pub job_time : List ℕ → ℕ → ℕ
@@ -28,10 +38,10 @@ abbrev pub job_place : List ℕ → ℕ → ℕ
 job_place times zero = 0
 job_place times (suc k) = sum_by step_size (steps_of_jobs (take (suc (k % length times)) times))
 
--- each job has a tick of work, and room for its work, its wait and both switches in the budget of one window
+-- each job has room for its work, its wait and both switches in the budget of one window
 abbrev pub HaveRoom : Configuration → ℕ → List ℕ → Type 0
 HaveRoom c p [] = Unit {0}
-HaveRoom c p (n ∷ times) = (0 < n) × (n + c.costs.call + 2 * c.costs.switch ≤ budget c p) × HaveRoom c p times
+HaveRoom c p (n ∷ times) = (n + c.costs.call + 2 * c.costs.switch ≤ budget c p) × HaveRoom c p times
 
 -- The entries of a window in which the main of process p has a job of n ticks of work, the newest first: the switch in, the
 -- work, the wait, which is done in the last tick of its call, and the switch out. Nothing else.

@@ -10,7 +10,7 @@ use Rattle.dk_alone.specs.Alone.{ReadsNoTick, alone, entries_of}
 use Rattle.dk_alone.specs.Again.{own_window, window_from}
 use Rattle.dk_profile.specs.declared.steps.Step.{Step}
 use Rattle.dk_replay.specs.Code.{program_of}
-use Rattle.dk_replay_run.specs.Jobs.{HaveRoom, StandsReady, job_place, job_time, job_window, steps_of_jobs}
+use Rattle.dk_replay_run.specs.Jobs.{BeginsWithWork, HaveRoom, StandsReady, job_place, job_time, job_window, steps_of_jobs}
 
 -- the program of a profile never reads the tick
 abbrev pub ProfilesReadNoTick : Type 0
@@ -20,19 +20,19 @@ ProfilesReadNoTick = (steps : List Step) → ReadsNoTick (program_of steps)
 abbrev pub window_tick : Configuration → ℕ → ℕ → ℕ
 window_tick c p k = k * period c (main_level c p)
 
--- With the processor to itself, a process whose jobs are a work and a wait each, and have room, stands at job k where window k
+-- With the processor to itself, a process whose jobs are some ticks of work and a wait each, and have room, stands at job k where window k
 -- begins, and was never stopped.
 abbrev pub JobsInTurn : Type 0
 JobsInTurn =
     (c : Configuration) (p k : ℕ) (times : List ℕ) → IsWithinLimits c → IsChecked c → IsAccepted c → p < length c.processes
-    → 0 < length times → HaveRoom c p times
+    → BeginsWithWork times → HaveRoom c p times
     → StandsReady c p (job_place times k) (alone c p (program_of (steps_of_jobs times)) (window_tick c p k))
 
 -- And in window k it has the entries of job k, and no others.
 abbrev pub JobsAlone : Type 0
 JobsAlone =
     (c : Configuration) (p k : ℕ) (times : List ℕ) → IsWithinLimits c → IsChecked c → IsAccepted c → p < length c.processes
-    → 0 < length times → HaveRoom c p times
+    → BeginsWithWork times → HaveRoom c p times
     → entries_of p
     (take (period c (main_level c p)) (alone c p (program_of (steps_of_jobs times)) (window_tick c p k + period c (main_level c p))).past)
     ≡ job_window c p (job_time times k)
@@ -42,7 +42,7 @@ JobsAlone =
 abbrev pub Replays : Type 0
 Replays =
     (c : Configuration) (programs : List (List ℕ)) (p k : ℕ) (times : List ℕ) → IsWithinLimits c → IsChecked c → IsAccepted c
-    → p < length c.processes → slots c p ≡ 0 → may_ask c p ≡ false → 0 < length times → HaveRoom c p times
+    → p < length c.processes → slots c p ≡ 0 → may_ask c p ≡ false → BeginsWithWork times → HaveRoom c p times
     → slice_index_or programs p [] ≡ program_of (steps_of_jobs times)
     → own_window c programs p (window_tick c p k) ≡ job_window c p (job_time times k)
 
@@ -55,6 +55,6 @@ pub record HasUsed (p ticks : ℕ) (window : List Entry) : Type 0 where
 abbrev pub UsesItsJobs : Type 0
 UsesItsJobs =
     (c : Configuration) (programs : List (List ℕ)) (p k : ℕ) (times : List ℕ) → IsWithinLimits c → IsChecked c → IsAccepted c
-    → p < length c.processes → slots c p ≡ 0 → may_ask c p ≡ false → 0 < length times → HaveRoom c p times
+    → p < length c.processes → slots c p ≡ 0 → may_ask c p ≡ false → BeginsWithWork times → HaveRoom c p times
     → slice_index_or programs p [] ≡ program_of (steps_of_jobs times)
     → HasUsed p (job_time times k + c.costs.call + 2 * c.costs.switch) (window_from c programs p (window_tick c p k))
