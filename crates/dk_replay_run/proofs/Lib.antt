@@ -5,4 +5,5 @@ pub mod Room
 pub mod Clock
 pub mod Windows
 pub mod Counted
+pub mod Times
 mod Witness

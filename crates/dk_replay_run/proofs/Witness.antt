@@ -1,4 +1,4 @@
--- The premises can be met all at once, with switch costs and a call of two ticks: a process of two jobs beside one that never waits, and beside any other. Two of its windows, computed.
+-- The premises can be met all at once, with switch costs and a call of two ticks: a process of three jobs beside one that never waits, and beside any other. Three of its windows, computed.
 use Rattle.dk_alone.proofs.Names.{ℕ, ◌≡◌, ◌*◌, false, List, [], ◌∷◌, None, refl, arith, reverse, slice_index_or, Configuration, IsChecked, IsAccepted, first_broken, checked, ThreadId, Label, Event, Entry, trace, accepted, alone, entries_of, own_window, bytes_of, Jmp, flat_map}
 use Rattle.std.specs.Prelude.{Option, Some}
 use Rattle.dk_config.specs.Checked.{IsWithinLimits}
@@ -33,15 +33,15 @@ pair-limits = within_limits pair pair-passes
 pair-accepted : IsAccepted pair
 pair-accepted = accepted pair refl
 
--- a job of four ticks of work and one of two
+-- a job of four ticks of work, one of its wait alone, and one of two ticks of work
 abbrev times : List ℕ
-times = 4 ∷ 2 ∷ []
+times = 4 ∷ 0 ∷ 2 ∷ []
 
 abbrev worker : List ℕ
 worker = program_of (steps_of_jobs times)
 
 worker-fits : HaveRoom pair 1 times
-worker-fits = (omega arith, (omega arith, tt))
+worker-fits = (omega arith, (omega arith, (omega arith, tt)))
 
 -- runs for ever
 abbrev spinner : List ℕ
@@ -53,7 +53,7 @@ beta = record { process = 1; serial = 0 }
 abbrev entry : Label → Option Event → Entry
 entry label event = record { label = label; event = event }
 
--- two windows, the oldest entry first
+-- three windows, the oldest entry first
 abbrev worked : List Entry
 worked =
     entry (Label.In beta) None
@@ -65,6 +65,10 @@ worked =
     ∷ entry (Label.Call beta) (Some Event.Wait)
     ∷ entry (Label.Out beta) None
     ∷ entry (Label.In beta) None
+    ∷ entry (Label.Call beta) None
+    ∷ entry (Label.Call beta) (Some Event.Wait)
+    ∷ entry (Label.Out beta) None
+    ∷ entry (Label.In beta) None
     ∷ entry (Label.Run beta) None
     ∷ entry (Label.Run beta) None
     ∷ entry (Label.Call beta) None
@@ -72,10 +76,10 @@ worked =
     ∷ entry (Label.Out beta) None
     ∷ []
 
-worked-alone : reverse (entries_of 1 (alone pair 1 worker 48).past) ≡ worked
+worked-alone : reverse (entries_of 1 (alone pair 1 worker 72).past) ≡ worked
 worked-alone = refl
 
-worked-beside-spinner : reverse (entries_of 1 (trace pair (spinner ∷ worker ∷ []) 48)) ≡ worked
+worked-beside-spinner : reverse (entries_of 1 (trace pair (spinner ∷ worker ∷ []) 72)) ≡ worked
 worked-beside-spinner = refl
 
 -- so each of its windows has the entries of its job, for ever, whatever the other process does

@@ -1,5 +1,5 @@
 -- Jobs of one work and one wait each: their steps, where each of them begins, and what a window with one has.
-use Rattle.std.specs.Prelude.{ℕ, zero, suc, ◌≡◌, ◌+◌, ◌-◌, ◌*◌, ◌%◌, ◌<◌, ◌≤◌, false, List, [], ◌∷◌, ◌++◌, length, take, replicate, slice_index_or, sum_by, Some}
+use Rattle.std.specs.Prelude.{nat_lt, if◌then◌else◌, map, ℕ, zero, suc, ◌≡◌, ◌+◌, ◌-◌, ◌*◌, ◌%◌, ◌<◌, ◌≤◌, false, List, [], ◌∷◌, ◌++◌, length, take, replicate, slice_index_or, sum_by, Some}
 use Rattle.dk_config.specs.Configuration.{Configuration}
 use Rattle.dk_config.specs.Windows.{budget}
 use Rattle.dk_trace.specs.declared.ThreadId.{ThreadId}
@@ -42,6 +42,19 @@ job_place times (suc k) = sum_by step_size (steps_of_jobs (take (suc (k % length
 abbrev pub HaveRoom : Configuration → ℕ → List ℕ → Type 0
 HaveRoom c p [] = Unit {0}
 HaveRoom c p (n ∷ times) = (n + c.costs.call + 2 * c.costs.switch ≤ budget c p) × HaveRoom c p times
+
+-- the steps of a job that takes so many ticks in all, of which its wait takes those of a call
+abbrev pub timed_steps : ℕ → ℕ → List Step
+timed_steps call ticks = if nat_lt call ticks then Step.Work (ticks - call) ∷ Step.Wait ∷ [] else Step.Wait ∷ []
+
+-- how long such jobs work
+abbrev pub work_times : ℕ → List ℕ → List ℕ
+work_times call times = map (λ ticks. ticks - call) times
+
+-- each of them takes a call's ticks or more, and has room with both switches in the budget of one window
+abbrev pub FitWindows : Configuration → ℕ → List ℕ → Type 0
+FitWindows c p [] = Unit {0}
+FitWindows c p (ticks ∷ times) = (c.costs.call ≤ ticks) × (ticks + 2 * c.costs.switch ≤ budget c p) × FitWindows c p times
 
 -- The entries of a window in which the main of process p has a job of n ticks of work, the newest first: the switch in, the
 -- work, the wait, which is done in the last tick of its call, and the switch out. Nothing else.

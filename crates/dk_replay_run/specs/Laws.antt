@@ -1,5 +1,5 @@
 -- The laws of a process whose program is that of a profile.
-use Rattle.std.specs.Prelude.{ℕ, ◌≡◌, ◌+◌, ◌*◌, ◌<◌, true, false, List, [], length, take, count_by, slice_index_or}
+use Rattle.std.specs.Prelude.{◌%◌, flat_map, ℕ, ◌≡◌, ◌+◌, ◌*◌, ◌<◌, true, false, List, [], length, take, count_by, slice_index_or}
 use Rattle.std.specs.List.{list_any}
 use Rattle.dk_config.specs.Configuration.{Configuration}
 use Rattle.dk_config.specs.Checked.{IsAccepted, IsChecked, IsWithinLimits}
@@ -10,7 +10,7 @@ use Rattle.dk_alone.specs.Alone.{ReadsNoTick, alone, entries_of}
 use Rattle.dk_alone.specs.Again.{own_window, window_from}
 use Rattle.dk_profile.specs.declared.steps.Step.{Step}
 use Rattle.dk_replay.specs.Code.{program_of}
-use Rattle.dk_replay_run.specs.Jobs.{BeginsWithWork, HaveRoom, StandsReady, job_place, job_time, job_window, steps_of_jobs}
+use Rattle.dk_replay_run.specs.Jobs.{BeginsWithWork, FitWindows, HaveRoom, StandsReady, job_place, job_time, job_window, steps_of_jobs, timed_steps, work_times}
 
 -- the program of a profile never reads the tick
 abbrev pub ProfilesReadNoTick : Type 0
@@ -58,3 +58,12 @@ UsesItsJobs =
     → p < length c.processes → slots c p ≡ 0 → may_ask c p ≡ false → BeginsWithWork times → HaveRoom c p times
     → slice_index_or programs p [] ≡ program_of (steps_of_jobs times)
     → HasUsed p (job_time times k + c.costs.call + 2 * c.costs.switch) (window_from c programs p (window_tick c p k))
+
+-- So of a table of times, a row a job: in every run, in window k it uses exactly the time of row k (the rows in turn) and both
+-- switches, and it waits.
+abbrev pub UsesItsTimes : Type 0
+UsesItsTimes =
+    (c : Configuration) (programs : List (List ℕ)) (p k : ℕ) (times : List ℕ) → IsWithinLimits c → IsChecked c → IsAccepted c
+    → p < length c.processes → slots c p ≡ 0 → may_ask c p ≡ false → BeginsWithWork (work_times c.costs.call times) → FitWindows c p times
+    → slice_index_or programs p [] ≡ program_of (flat_map (timed_steps c.costs.call) times)
+    → HasUsed p (slice_index_or times (k % length times) 0 + 2 * c.costs.switch) (window_from c programs p (window_tick c p k))

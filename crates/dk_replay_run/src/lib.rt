@@ -5,7 +5,7 @@
 //! All rules are this project's own.
 #![tactic(auto)]
 
-ghost use Rattle.dk_replay_run.specs.Laws.{JobsAlone, JobsInTurn, ProfilesReadNoTick, Replays, UsesItsJobs};
+ghost use Rattle.dk_replay_run.specs.Laws.{JobsAlone, JobsInTurn, ProfilesReadNoTick, Replays, UsesItsJobs, UsesItsTimes};
 
 use dk_alone::windows_law;
 
@@ -38,4 +38,11 @@ pub fn uses_law()
     ensures { UsesItsJobs }
 {
     replays_law();
+}
+
+/// So of a table of times: in window k it uses exactly the time of row k and both switches, and it waits.
+pub fn times_law()
+    ensures { UsesItsTimes }
+{
+    uses_law();
 }
