@@ -1,5 +1,5 @@
--- Jobs of one work and one wait each: their steps, where each of them begins, and what a window with one has.
-use Rattle.std.specs.Prelude.{nat_lt, if◌then◌else◌, map, ℕ, zero, suc, ◌≡◌, ◌+◌, ◌-◌, ◌*◌, ◌%◌, ◌<◌, ◌≤◌, false, List, [], ◌∷◌, ◌++◌, length, take, replicate, slice_index_or, sum_by, Some}
+-- Jobs of a work and a wait: their steps, where each of them begins, and what a window with one has.
+use Rattle.std.specs.Prelude.{ℕ, zero, suc, ◌≡◌, ◌+◌, ◌-◌, ◌*◌, ◌%◌, ◌<◌, ◌≤◌, false, nat_lt, if◌then◌else◌, List, [], ◌∷◌, ◌++◌, length, map, take, replicate, slice_index_or, sum_by, Some}
 use Rattle.dk_config.specs.Configuration.{Configuration}
 use Rattle.dk_config.specs.Windows.{budget}
 use Rattle.dk_trace.specs.declared.ThreadId.{ThreadId}

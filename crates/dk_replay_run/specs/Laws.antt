@@ -1,5 +1,5 @@
 -- The laws of a process whose program is that of a profile.
-use Rattle.std.specs.Prelude.{◌%◌, flat_map, ℕ, ◌≡◌, ◌+◌, ◌*◌, ◌<◌, true, false, List, [], length, take, count_by, slice_index_or}
+use Rattle.std.specs.Prelude.{ℕ, ◌≡◌, ◌+◌, ◌*◌, ◌%◌, ◌<◌, true, false, List, [], length, take, flat_map, count_by, slice_index_or}
 use Rattle.std.specs.List.{list_any}
 use Rattle.dk_config.specs.Configuration.{Configuration}
 use Rattle.dk_config.specs.Checked.{IsAccepted, IsChecked, IsWithinLimits}
