@@ -1,0 +1,5 @@
+use Rattle.dk_replay_run.proofs.Windows.{ready}
+use Rattle.dk_replay_run.proofs.turn_law.Goals as goal
+
+pub returns : goal.returns
+returns c config p k times limits checked accepted known long room = ready config p times limits checked accepted known long room k

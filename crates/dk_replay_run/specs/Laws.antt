@@ -1,0 +1,69 @@
+-- The laws of a process whose program is that of a profile.
+use Rattle.std.specs.Prelude.{ℕ, ◌≡◌, ◌+◌, ◌*◌, ◌%◌, ◌<◌, true, false, List, [], length, take, flat_map, count_by, slice_index_or}
+use Rattle.std.specs.List.{list_any}
+use Rattle.dk_config.specs.Configuration.{Configuration}
+use Rattle.dk_config.specs.Checked.{IsAccepted, IsChecked, IsWithinLimits}
+use Rattle.dk_config.specs.Windows.{main_level, may_ask, period, slots}
+use Rattle.dk_trace.specs.declared.Entry.{Entry}
+use Rattle.dk_trace.specs.Entries.{does, is_budget_of, is_wait}
+use Rattle.dk_alone.specs.Alone.{ReadsNoTick, alone, entries_of}
+use Rattle.dk_alone.specs.Again.{own_window, window_from}
+use Rattle.dk_profile.specs.declared.steps.Step.{Step}
+use Rattle.dk_replay.specs.Code.{program_of}
+use Rattle.dk_replay_run.specs.Jobs.{BeginsWithWork, FitWindows, HaveRoom, StandsReady, job_place, job_time, job_window, steps_of_jobs, timed_steps, work_times}
+
+-- the program of a profile never reads the tick
+abbrev pub ProfilesReadNoTick : Type 0
+ProfilesReadNoTick = (steps : List Step) → ReadsNoTick (program_of steps)
+
+-- the tick at which window k of the process's main begins
+abbrev pub window_tick : Configuration → ℕ → ℕ → ℕ
+window_tick c p k = k * period c (main_level c p)
+
+-- With the processor to itself, a process whose jobs are some ticks of work and a wait each, and have room, stands at job k where window k
+-- begins, and was never stopped.
+abbrev pub JobsInTurn : Type 0
+JobsInTurn =
+    (c : Configuration) (p k : ℕ) (times : List ℕ) → IsWithinLimits c → IsChecked c → IsAccepted c → p < length c.processes
+    → BeginsWithWork times → HaveRoom c p times
+    → StandsReady c p (job_place times k) (alone c p (program_of (steps_of_jobs times)) (window_tick c p k))
+
+-- And in window k it has the entries of job k, and no others.
+abbrev pub JobsAlone : Type 0
+JobsAlone =
+    (c : Configuration) (p k : ℕ) (times : List ℕ) → IsWithinLimits c → IsChecked c → IsAccepted c → p < length c.processes
+    → BeginsWithWork times → HaveRoom c p times
+    → entries_of p
+    (take (period c (main_level c p)) (alone c p (program_of (steps_of_jobs times)) (window_tick c p k + period c (main_level c p))).past)
+    ≡ job_window c p (job_time times k)
+
+-- So in every run, whatever programs the others have: in window k a process with this program, which may have neither children
+-- nor slack, has the switch in, the ticks of work of job k, its wait and the switch out, and nothing else.
+abbrev pub Replays : Type 0
+Replays =
+    (c : Configuration) (programs : List (List ℕ)) (p k : ℕ) (times : List ℕ) → IsWithinLimits c → IsChecked c → IsAccepted c
+    → p < length c.processes → slots c p ≡ 0 → may_ask c p ≡ false → BeginsWithWork times → HaveRoom c p times
+    → slice_index_or programs p [] ≡ program_of (steps_of_jobs times)
+    → own_window c programs p (window_tick c p k) ≡ job_window c p (job_time times k)
+
+-- of these entries of a window the main's budget paid for so many, and in one of them it waited
+pub record HasUsed (p ticks : ℕ) (window : List Entry) : Type 0 where
+  pub used : count_by (is_budget_of (record { process = p; serial = 0 })) window ≡ ticks
+  pub waited : list_any (does is_wait (record { process = p; serial = 0 })) window ≡ true
+
+-- So in window k it uses of its budget exactly the ticks of job k, its work and its wait, and both switches, and it waits.
+abbrev pub UsesItsJobs : Type 0
+UsesItsJobs =
+    (c : Configuration) (programs : List (List ℕ)) (p k : ℕ) (times : List ℕ) → IsWithinLimits c → IsChecked c → IsAccepted c
+    → p < length c.processes → slots c p ≡ 0 → may_ask c p ≡ false → BeginsWithWork times → HaveRoom c p times
+    → slice_index_or programs p [] ≡ program_of (steps_of_jobs times)
+    → HasUsed p (job_time times k + c.costs.call + 2 * c.costs.switch) (window_from c programs p (window_tick c p k))
+
+-- So of a table of times, a row a job: in every run, in window k it uses exactly the time of row k (the rows in turn) and both
+-- switches, and it waits.
+abbrev pub UsesItsTimes : Type 0
+UsesItsTimes =
+    (c : Configuration) (programs : List (List ℕ)) (p k : ℕ) (times : List ℕ) → IsWithinLimits c → IsChecked c → IsAccepted c
+    → p < length c.processes → slots c p ≡ 0 → may_ask c p ≡ false → BeginsWithWork (work_times c.costs.call times) → FitWindows c p times
+    → slice_index_or programs p [] ≡ program_of (flat_map (timed_steps c.costs.call) times)
+    → HasUsed p (slice_index_or times (k % length times) 0 + 2 * c.costs.switch) (window_from c programs p (window_tick c p k))

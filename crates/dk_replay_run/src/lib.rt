@@ -1,0 +1,48 @@
+//! A process whose program is that of a profile, in every run.
+//!
+//! Each function carries one law in its contract, and does nothing but call the laws that it stands on. The laws speak of
+//! every run of every configuration that `check` passes and certification accepts, whatever the programs of the others are.
+//! All rules are this project's own.
+#![tactic(auto)]
+
+ghost use Rattle.dk_replay_run.specs.Laws.{JobsAlone, JobsInTurn, ProfilesReadNoTick, Replays, UsesItsJobs, UsesItsTimes};
+
+use dk_alone::windows_law;
+
+/// The program of a profile never reads the tick.
+pub fn clock_law()
+    ensures { ProfilesReadNoTick }
+{}
+
+/// With the processor to itself a process stands at job k where window k begins, and was never stopped.
+pub fn turn_law()
+    ensures { JobsInTurn }
+{}
+
+/// And in window k it has the entries of job k, and no others.
+pub fn jobs_law()
+    ensures { JobsAlone }
+{}
+
+/// So in every run: in window k it has the switch in, the work of job k, its wait and the switch out, and nothing else.
+pub fn replays_law()
+    ensures { Replays }
+{
+    clock_law();
+    jobs_law();
+    windows_law();
+}
+
+/// So in window k it uses of its budget exactly the ticks of job k and both switches, and it waits.
+pub fn uses_law()
+    ensures { UsesItsJobs }
+{
+    replays_law();
+}
+
+/// So of a table of times: in window k it uses exactly the time of row k and both switches, and it waits.
+pub fn times_law()
+    ensures { UsesItsTimes }
+{
+    uses_law();
+}
