@@ -1,6 +1,6 @@
 //! What a change of the configuration does to each process.
 ghost use Rattle.std.specs.Prelude.{◌≡◌, ◌≢◌, ◌+◌, ◌^◌, ◌<◌, IfOk, IfErr, IfSome, Err};
-ghost use Rattle.dk_config.specs.Checked.{IsWithinLimits};
+ghost use Rattle.dk_config.specs.Checked.{BreaksNoRule, IsWithinLimits};
 ghost use Rattle.dk_show.specs.Answers.{IsEnd};
 ghost use Rattle.dk_show.specs.Impacts.{IsOfChange, IsOfImpact, impact_end, impact_told};
 ghost use Rattle.dk_show.specs.Asking.{Asks, MissesAfter, handed_after, handed_load};
@@ -36,7 +36,9 @@ fn page_of(
     rows: &[Row],
 ) -> Result<Page, NoMemory>
     requires old_limits { IsWithinLimits old.now }
+    requires old_unbroken { BreaksNoRule old.now }
     requires new_limits { IsWithinLimits new.now }
+    requires new_unbroken { BreaksNoRule new.now }
     ensures { IfOk result (λ page. page ≡ impact_told as_csv old.now new.now rows.now) }
 {
     if as_csv {
