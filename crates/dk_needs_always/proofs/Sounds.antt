@@ -1,5 +1,5 @@
 -- Rows that ask of all ticks are told met and missed only where that is so.
-use Rattle.std.proofs.Common.{ℕ, ◌≡◌, ◌<◌, ◌∙◌, List, Option, Some, None, true, false, ap, sym, refl, subst, inl, inr, arith}
+use Rattle.std.proofs.Common.{ℕ, ◌≡◌, ◌<◌, ◌∙◌, List, Option, Some, None, true, false, ap, sym, refl, arith}
 use Rattle.std.specs.Prelude.{Bool, nat_lt, if◌then◌else◌, slice_get, IfSome}
 use Rattle.std.specs.Option.{option_map_or}
 use Rattle.std.proofs.lemmas.Bool.Decides.{nat_tests}

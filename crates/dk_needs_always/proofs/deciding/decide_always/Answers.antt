@@ -1,11 +1,10 @@
-use Rattle.std.proofs.Common.{◌≡◌, ◌∙◌, List, map, ap, sym}
+use Rattle.std.proofs.Common.{◌≡◌, ◌∙◌, map, ap}
 use Rattle.std.proofs.lemmas.Result.{IfOk-weaker}
 use Rattle.std.proofs.lemmas.Simd.{map-map}
 use Rattle.dk_config.specs.Configuration.{Configuration}
 use Rattle.dk_loader.specs.Workload.{Workload}
-use Rattle.dk_needs_check.specs.declared.row.Row.{Row}
 use Rattle.dk_needs_always.specs.Asking.{asked_row}
-use Rattle.dk_needs_always.specs.Deciding.{AreDecided, decided_by}
+use Rattle.dk_needs_always.specs.Deciding.{AreDecided}
 use Rattle.dk_needs_always.specs.Telling.{decided_row}
 use Rattle.dk_needs_always.proofs.deciding.decide_always.Goals as goal
 
