@@ -31,6 +31,9 @@ why_text c Why.Midst = codes "the job in front doesn't wait"
 why_text c Why.Unended = codes "the last job doesn't wait"
 why_text c Why.NoWork = codes "a step of work is wanted"
 why_text c (Why.Many n) = decimal n ++ codes " instructions, 16384 are allowed"
+why_text c Why.NoColumn = codes "no column has the name of the process"
+why_text c (Why.Cells width) = decimal width ++ codes " cells are wanted"
+why_text c Why.Ended = codes "a cell above is empty"
 
 abbrev pub fault_text : Configuration → ProfileFault → List ℕ
 fault_text c fault = codes "profile: " ++ (place_text fault.line ++ (why_text c fault.why ++ codes "\n"))

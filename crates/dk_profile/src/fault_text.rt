@@ -46,6 +46,7 @@ fn why_text(alloc: Global, config: &Config, why: Why) -> Result<String, AllocErr
             return format!(in alloc; "held for {ticks}, {hold} are allowed");
         }
         Why::Many(size) => return format!(in alloc; "{size} instructions, 16384 are allowed"),
+        Why::Cells(width) => return format!(in alloc; "{width} cells are wanted"),
         Why::NoStep => { "work N, lock NAME, unlock NAME, slack N, put N, wait or job is wanted" }
         Why::More => "nothing more is wanted",
         Why::NoNumber => "a number is wanted",
@@ -56,6 +57,8 @@ fn why_text(alloc: Global, config: &Config, why: Why) -> Result<String, AllocErr
         Why::Midst => "the job in front doesn't wait",
         Why::Unended => "the last job doesn't wait",
         Why::NoWork => "a step of work is wanted",
+        Why::NoColumn => "no column has the name of the process",
+        Why::Ended => "a cell above is empty",
     };
     String::from_str(alloc, text)
 }

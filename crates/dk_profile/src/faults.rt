@@ -69,9 +69,9 @@ pub fn step_size(step: Step) -> u32
 }
 
 fn steps_size(steps: &[Step]) -> u32
-    requires { length steps.now ≤ MAX_PROFILE_BYTES }
+    requires { length steps.now ≤ 2 * MAX_PROFILE_BYTES }
     ensures value { result ≡ sum_by step_size steps.now }
-    ensures most { result ≤ 5 * MAX_PROFILE_BYTES }
+    ensures most { result ≤ 10 * MAX_PROFILE_BYTES }
 {
     let mut size = 0;
     for step in steps {
@@ -81,9 +81,9 @@ fn steps_size(steps: &[Step]) -> u32
 }
 
 fn lap_size(steps: &[Step]) -> u32
-    requires { length steps.now ≤ MAX_PROFILE_BYTES }
+    requires { length steps.now ≤ 2 * MAX_PROFILE_BYTES }
     ensures value { result ≡ lap_size steps.now }
-    ensures most { result ≤ 5 * MAX_PROFILE_BYTES + 6 }
+    ensures most { result ≤ 10 * MAX_PROFILE_BYTES + 6 }
 {
     let mut size = 0;
     for step in steps {
@@ -111,7 +111,7 @@ fn has_work(steps: &[Step]) -> bool
 }
 
 fn whole_why(steps: &[Step]) -> Option<Why>
-    requires { length steps.now ≤ MAX_PROFILE_BYTES }
+    requires { length steps.now ≤ 2 * MAX_PROFILE_BYTES }
     ensures { result ≡ whole_why steps.now }
 {
     if !has_work(steps) {
@@ -134,7 +134,7 @@ pub fn faults_of(
     readings: &[Placed],
 ) -> Result<Vec<ProfileFault>, AllocError>
     requires limits { IsWithinLimits config.now }
-    requires few { length readings.now ≤ MAX_PROFILE_BYTES }
+    requires few { length readings.now ≤ 2 * MAX_PROFILE_BYTES }
     ensures { IfOk result (λ v. v.items ≡ faults_of config.now process readings.now) }
 {
     let mut faults = line_faults(alloc, config, process, readings)?;

@@ -1,4 +1,5 @@
-//! Profiles: what the jobs of a process do in turn, step by step, read from a text or from a table of measured times.
+//! Profiles: what the jobs of a process do in turn, step by step, read from a text. What a table of measured times says has the
+//! same form.
 //!
 //! All times are ticks of the simulated processor. The format is this project's own.
 #![tactic(auto)]
@@ -14,9 +15,9 @@ mod words;
 
 pub use fault_text::faults_text;
 pub use faults::{faults_of, step_size, work_size};
-pub use reading::read_text;
+pub use reading::{amount, read_text};
 pub use steps::{Placed, ProfileFault, Reading, Step, Why};
-pub use whole::{Profile, read_profile, steps_of};
+pub use whole::{Profile, profile_of, read_profile, steps_of};
 
 /// The greatest number of ticks of a step of work.
 pub const MAX_WORK: u32 = 1_000_000;

@@ -45,8 +45,8 @@ fn used_mutex(config: &Config, process: u32, name: &[u8]) -> Result<u32, Why>
     }
 }
 
-/// The number that the word spells, if it is from low to high.
-fn amount(low: u32, high: u32, word: &[u8]) -> Result<u32, Why>
+/// The number that the word spells, if it is from low to high, which is at most 1,000,000; else why it isn't.
+pub fn amount(low: u32, high: u32, word: &[u8]) -> Result<u32, Why>
     requires { high ≤ 1000000 }
     ensures value { result ≡ amount low high word.now }
     ensures most { IfOk result (λ n. n ≤ high) }

@@ -15,7 +15,7 @@ pub enum Step {
     Wait,
 }
 
-/// Why a line says nothing, or why its step can't be done where it stands.
+/// Why a line says nothing, or why its step can't be done where it stands. Of a table a line is a row.
 #[derive(Clone, Copy)]
 pub enum Why {
     /// It begins with no step.
@@ -48,6 +48,12 @@ pub enum Why {
     NoWork,
     /// The program has so many instructions.
     Many(u32),
+    /// No column of a table has the name of the process.
+    NoColumn,
+    /// A row of a table has another number of cells than the row of the names, which has so many.
+    Cells(u64),
+    /// A cell above in the column is empty.
+    Ended,
 }
 
 /// What a line says.

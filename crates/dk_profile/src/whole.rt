@@ -1,5 +1,5 @@
 //! A profile as a whole: its steps, and all that is wrong with it.
-ghost use Rattle.std.specs.Prelude.{◌≡◌, ◌≤◌, length, IfOk};
+ghost use Rattle.std.specs.Prelude.{◌≡◌, ◌≤◌, ◌*◌, length, IfOk};
 ghost use Rattle.std.specs.List.{filter_map};
 ghost use Rattle.dk_config.specs.Checked.{IsWithinLimits};
 ghost use Rattle.dk_profile.specs.Faults.{faults_of};
@@ -13,7 +13,7 @@ use crate::{MAX_INSTRUCTIONS, MAX_PROFILE_BYTES};
 use dk_config::Config;
 use std::alloc::{AllocError, Global};
 
-/// What a text says: the steps of its lines, and all that is wrong with it.
+/// What a text or a table says: the steps of its lines, and all that is wrong with it.
 #[derive(Drop)]
 pub struct Profile {
     pub steps: Vec<Step>,
@@ -43,8 +43,28 @@ pub fn steps_of(alloc: Global, readings: &[Placed]) -> Result<Vec<Step>, AllocEr
     Ok(steps)
 }
 
-/// The profile that a text of at most 1,048,576 bytes is for a process of a configuration. `Err` is want of memory.
+/// The profile that readings are for a process of a configuration: at most two for each byte that a profile may have. `Err` is
+/// want of memory.
 #[tactic(auto, using(crate::proofs::Fitting::fits))]
+pub fn profile_of(
+    alloc: Global,
+    config: &Config,
+    process: u32,
+    readings: &[Placed],
+) -> Result<Profile, AllocError>
+    requires limits { IsWithinLimits config.now }
+    requires few { length readings.now ≤ 2 * MAX_PROFILE_BYTES }
+    ensures steps { IfOk result (λ v. v.steps.items ≡ steps_of readings.now) }
+    ensures faults { IfOk result (λ v. v.faults.items ≡ faults_of config.now process readings.now) }
+    // Where nothing is wrong its program has few enough instructions.
+    ensures fits { IfOk result (λ v. length v.faults.items ≡ 0 → program_size v.steps.items ≤ MAX_INSTRUCTIONS) }
+{
+    let faults = faults_of(alloc, config, process, readings)?;
+    let steps = steps_of(alloc, readings)?;
+    Ok(Profile { steps, faults })
+}
+
+/// The profile that a text of at most 1,048,576 bytes is for a process of a configuration. `Err` is want of memory.
 pub fn read_profile(
     alloc: Global,
     config: &Config,
@@ -59,7 +79,5 @@ pub fn read_profile(
     ensures fits { IfOk result (λ v. length v.faults.items ≡ 0 → program_size v.steps.items ≤ MAX_INSTRUCTIONS) }
 {
     let readings = read_text(alloc, config, process, text)?;
-    let faults = faults_of(alloc, config, process, &readings)?;
-    let steps = steps_of(alloc, &readings)?;
-    Ok(Profile { steps, faults })
+    profile_of(alloc, config, process, &readings)
 }

@@ -6,3 +6,4 @@ pub mod Back
 pub mod Granted
 pub mod Laps
 pub mod Rounds
+pub mod Tables

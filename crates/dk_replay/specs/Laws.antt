@@ -1,5 +1,5 @@
 -- The ticks that the instructions of a program take.
-use Rattle.std.specs.Prelude.{ℕ, zero, suc, ◌≡◌, ◌⊎◌, ◌+◌, ◌-◌, ◌*◌, ◌^◌, ◌<◌, ◌≤◌, ◌==◌, if◌then◌else◌, List, [], ◌∷◌, ◌++◌, length, slice_range, sum_by, Option, Some, None}
+use Rattle.std.specs.Prelude.{ℕ, zero, suc, ◌≡◌, ◌⊎◌, ◌+◌, ◌-◌, ◌*◌, ◌^◌, ◌<◌, ◌≤◌, ◌==◌, if◌then◌else◌, List, [], ◌∷◌, ◌++◌, flat_map, length, slice_range, sum_by, Option, Some, None}
 use Rattle.dk_isa.specs.declared.Instr.{Instr}
 use Rattle.dk_isa.specs.Table.{instruction_of}
 use Rattle.dk_cpu.specs.declared.Context.{Context}
@@ -8,7 +8,8 @@ use Rattle.dk_cpu.specs.declared.kernel_call.KernelCall.{KernelCall}
 use Rattle.dk_cpu.specs.Machine.{Tick, body_tick, call_of, ran, reg}
 use Rattle.dk_cpu.specs.State.{RunsFor, replied}
 use Rattle.dk_profile.specs.declared.steps.Step.{Step}
-use Rattle.dk_profile.specs.Steps.{step_size, step_ticks, work_size}
+use Rattle.dk_profile.specs.Steps.{step_size, step_ticks, steps_of, work_size}
+use Rattle.dk_times.specs.Table.{job_of, table_readings, times_of}
 use Rattle.dk_replay.specs.Code.{program_of, step_code, work_code}
 
 -- the instruction at a place of a program
@@ -166,3 +167,14 @@ RoundTakes =
     → (y : Context)
     × GrantedFor cost (program_of (front ++ Step.Work n ∷ back)) (sum_by (step_ticks cost) (front ++ Step.Work n ∷ back)) x memory y memory
     × StandsAt (sum_by step_size (front ++ Step.Work n ∷ [])) y
+
+-- Where its wait is granted, a job of a table takes in the program of the table exactly the ticks of its cell, from the place
+-- behind the jobs above it to that behind its own wait.
+abbrev pub TableTakes : Type 0
+TableTakes =
+    (cost ticks : ℕ) (name table memory above below : List ℕ) (x : Context) → 0 < cost
+    → times_of cost name table ≡ above ++ ticks ∷ below
+    → StandsAt (sum_by step_size (flat_map (job_of cost) above)) x
+    → (y : Context)
+    × GrantedFor cost (program_of (steps_of (table_readings cost name table))) ticks x memory y memory
+    × StandsAt (sum_by step_size (flat_map (job_of cost) (above ++ ticks ∷ []))) y

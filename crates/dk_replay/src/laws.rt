@@ -1,5 +1,7 @@
 //! The laws of the ticks that a program takes.
-ghost use Rattle.dk_replay.specs.Laws.{CallTakes, HasSteps, LapTakes, LoadsItsNumber, RoundTakes, StepsTake, WaitsAtOnce, WorkIsDone, WorkTakes};
+ghost use Rattle.dk_replay.specs.Laws.{CallTakes, HasSteps, LapTakes, LoadsItsNumber, RoundTakes, StepsTake, TableTakes, WaitsAtOnce, WorkIsDone, WorkTakes};
+
+use dk_times::jobs_law;
 
 /// The code of n ticks of work takes exactly n ticks, whatever the memory, the registers and the cost of a call are.
 pub fn work_law()
@@ -45,3 +47,10 @@ pub fn lap_law()
 pub fn round_law()
     ensures { RoundTakes }
 {}
+
+/// Each job of a table takes in its program exactly the ticks of its cell.
+pub fn table_law()
+    ensures { TableTakes }
+{
+    jobs_law();
+}

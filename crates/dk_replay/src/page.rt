@@ -11,9 +11,8 @@ ghost use Rattle.dk_replay.specs.Pages.{is_made, process_named, replay_made, rep
 
 use crate::source::replay_source;
 use dk_config::{Config, NoMemory, ProcessRow};
-use dk_profile::{
-    MAX_INSTRUCTIONS, MAX_PROFILE_BYTES, ProfileFault, Step, faults_text, read_profile,
-};
+use dk_profile::{MAX_INSTRUCTIONS, MAX_PROFILE_BYTES, ProfileFault, Step, faults_text};
+use dk_times::{Form, read_in};
 use std::alloc::Global;
 
 /// What is written for a profile.
@@ -65,15 +64,17 @@ fn fault_lines(alloc: Global, config: &Config, faults: &[ProfileFault]) -> Resul
 fn replay_for(
     alloc: Global,
     config: &Config,
+    form: Form,
     process: u32,
+    name: &str,
     bytes: &[u8],
 ) -> Result<Replay, NoMemory>
     requires limits { IsWithinLimits config.now }
     requires few { length bytes.now ≤ MAX_PROFILE_BYTES }
-    ensures text { IfOk result (λ r. string_bytes r.text ≡ text_for config.now process bytes.now) }
-    ensures made { IfOk result (λ r. r.made ≡ is_made config.now process bytes.now) }
+    ensures text { IfOk result (λ r. string_bytes r.text ≡ text_for config.now form process name.now bytes.now) }
+    ensures made { IfOk result (λ r. r.made ≡ is_made config.now form process name.now bytes.now) }
 {
-    let profile = read_profile(alloc, config, process, bytes)?;
+    let profile = read_in(alloc, config, form, process, name, bytes)?;
     if profile.faults.is_empty() {
         let text = source_text(alloc, profile.steps.as_slice())?;
         return Ok(Replay { text, made: true });
@@ -82,21 +83,22 @@ fn replay_for(
     Ok(Replay { text, made: false })
 }
 
-/// What is written for a profile, a text of at most 1,048,576 bytes, of the process of this name: the source of the program that
-/// does what it says, or all that is wrong with it, or that there is no such process. `Err` is want of memory.
+/// What is written for a profile, at most 1,048,576 bytes in this form, of the process of this name: the source of the program
+/// that does what it says, or all that is wrong with it, or that there is no such process. `Err` is want of memory.
 pub fn make_replay(
     alloc: Global,
     config: &Config,
+    form: Form,
     name: &str,
     bytes: &[u8],
 ) -> Result<Replay, NoMemory>
     requires limits { IsWithinLimits config.now }
     requires few { length bytes.now ≤ MAX_PROFILE_BYTES }
-    ensures text { IfOk result (λ r. string_bytes r.text ≡ replay_text config.now name.now bytes.now) }
-    ensures made { IfOk result (λ r. r.made ≡ replay_made config.now name.now bytes.now) }
+    ensures text { IfOk result (λ r. string_bytes r.text ≡ replay_text config.now form name.now bytes.now) }
+    ensures made { IfOk result (λ r. r.made ≡ replay_made config.now form name.now bytes.now) }
 {
     match process_named(config, name) {
-        Some(process) => replay_for(alloc, config, process, bytes),
+        Some(process) => replay_for(alloc, config, form, process, name, bytes),
         None => Ok(Replay {
             text: String::from_str(alloc, "replay: no such process\n")?,
             made: false,
