@@ -163,8 +163,8 @@ request_ends (request.Impact r) at x y s known one two = impact_ends at r x y s 
 request_ends (request.Repeats file ticks) at x y s known one two = absurd (known tt)
 request_ends (request.Check r) at x y s known one two = absurd (known tt)
 request_ends (request.Replay r) at x y s known one two =
-    of_ends (certified_at (at r.file)) (λ c. IsOfNamed at r.profile MAX_PROFILE_BYTES why.LongProfile (IsOfProfile c r.name)) x y s
-    (λ c. named_ends at r.profile MAX_PROFILE_BYTES why.LongProfile (IsOfProfile c r.name) x y s (λ bad. cc) (λ bytes a b. b.1 ∙ sym a.1))
+    of_ends (certified_at (at r.file)) (λ c. IsOfNamed at r.profile MAX_PROFILE_BYTES why.LongProfile (IsOfProfile c r.profile r.name)) x y s
+    (λ c. named_ends at r.profile MAX_PROFILE_BYTES why.LongProfile (IsOfProfile c r.profile r.name) x y s (λ bad. cc) (λ bytes a b. b.1 ∙ sym a.1))
     one two
 
 -- a call that ends otherwise has met the outside or want of memory

@@ -190,7 +190,7 @@ IsOfRequest (request.Repeats file ticks) at text ended = IsOfLoaded at file (IsO
 IsOfRequest (request.Check r) at text ended = IsOf (ready_at at r) (IsOfCheck at r.form r.ledger) text ended
 IsOfRequest (request.Replay r) at text ended =
     IsOf (certified_at (at r.file))
-    (λ c. IsOfNamed at r.profile MAX_PROFILE_BYTES why.LongProfile (IsOfProfile c r.name)) text ended
+    (λ c. IsOfNamed at r.profile MAX_PROFILE_BYTES why.LongProfile (IsOfProfile c r.profile r.name)) text ended
 
 -- the usage line, and why the words mean nothing
 abbrev pub IsUsage : List (List ℕ) → List ℕ → Status → Type 0

@@ -4,6 +4,7 @@ ghost use Rattle.dk_config.specs.Checked.{IsWithinLimits};
 ghost use Rattle.dk_config.specs.declared.TheConstants.{MAX_CONFIG_BYTES};
 ghost use Rattle.dk_profile.specs.declared.TheConstants.{MAX_PROFILE_BYTES};
 ghost use Rattle.dk_replay.specs.Pages.{replay_made, replay_text};
+ghost use Rattle.dk_times.specs.Forms.{form_of};
 ghost use Rattle.dk_show.specs.Answers.{IsEnd, IsOfNamed};
 ghost use Rattle.dk_show.specs.Asking.{Asks, MissesAfter, handed_after, handed_out};
 ghost use Rattle.dk_show.specs.Leaves.{Reads};
@@ -21,6 +22,7 @@ use dk_outside::Depot;
 use dk_profile::MAX_PROFILE_BYTES;
 use dk_replay::{Replay, make_replay};
 use dk_show_request::ReplayRequest;
+use dk_times::form_of;
 use std::alloc::Global;
 
 /// How the call ends.
@@ -40,11 +42,11 @@ fn replay_of(
 ) -> Result<Replay, NoMemory>
     requires limits { IsWithinLimits config.now }
     requires few { length bytes.now ≤ MAX_PROFILE_BYTES }
-    ensures text { IfOk result (λ r. string_bytes r.text ≡ replay_text config.now request.now.name bytes.now) }
-    ensures made { IfOk result (λ r. r.made ≡ replay_made config.now request.now.name bytes.now) }
+    ensures text { IfOk result (λ r. string_bytes r.text ≡ replay_text config.now (form_of request.now.profile) request.now.name bytes.now) }
+    ensures made { IfOk result (λ r. r.made ≡ replay_made config.now (form_of request.now.profile) request.now.name bytes.now) }
 {
-    let name = request.name.as_str();
-    let replay = make_replay(alloc, config, name, bytes)?;
+    let form = form_of(request.profile.as_str());
+    let replay = make_replay(alloc, config, form, request.name.as_str(), bytes)?;
     Ok(replay)
 }
 
@@ -57,7 +59,7 @@ fn of_profile(
 ) -> Result<Work, Refusal>
     requires limits { IsWithinLimits config.now }
     requires few { length bytes.now ≤ MAX_PROFILE_BYTES }
-    ensures plans { Plans (IsOfProfile config.now request.now.name bytes.now) result }
+    ensures plans { Plans (IsOfProfile config.now request.now.profile request.now.name bytes.now) result }
     ensures made { IsMade IsWhole result }
 {
     let replay = replay_of(alloc, request, config, bytes)?;
@@ -76,7 +78,7 @@ fn replay_at<D: Depot>(
     requires given { (D.seen depot.old).given < 2 ^ 62 + 2 ^ 30 }
     requires limits { IsWithinLimits config.now }
     ensures plans { IfSome (D.seen depot.old).files (λ at. Plans (IsOfNamed at request.now.profile MAX_PROFILE_BYTES
-        Refusal.LongProfile (IsOfProfile config.now request.now.name)) result) }
+        Refusal.LongProfile (IsOfProfile config.now request.now.profile request.now.name)) result) }
     ensures whole { IfOk result IsWhole }
     ensures asks { Asks (D.seen depot.old).files (λ at. handed_out MAX_PROFILE_BYTES (at request.now.profile)) (λ at. at request.now.profile ≡ None)
         (D.seen depot.old) (D.seen depot.new) result }
@@ -95,7 +97,7 @@ pub(crate) fn replay_plan<D: Depot>(
 ) -> Result<Work, Refusal>
     requires { (D.seen depot.old).given < 2 ^ 62 }
     ensures plans { IfSome (D.seen depot.old).files (λ at. Plans (IsOf (certified_at (at request.now.file))
-        (λ c. IsOfNamed at request.now.profile MAX_PROFILE_BYTES Refusal.LongProfile (IsOfProfile c request.now.name))) result) }
+        (λ c. IsOfNamed at request.now.profile MAX_PROFILE_BYTES Refusal.LongProfile (IsOfProfile c request.now.profile request.now.name))) result) }
     ensures whole { IfOk result IsWhole }
     ensures asks { Asks (D.seen depot.old).files (λ at. handed_out MAX_CONFIG_BYTES (at request.now.file)
         + handed_after (λ _. handed_out MAX_PROFILE_BYTES (at request.now.profile)) (certified_at (at request.now.file)))

@@ -18,9 +18,9 @@ returns-clause-plans g c =
     let r = c.args.request.now in
     let x = c.in_ok-config.config in
     let found = subst (λ (name : List ℕ). IfSome files (λ at. certified_at (at name) ≡ Ok x)) c.as_str.ensures c.in_ok-config.ensures.loads in
-    of_something files (λ at. certified_at (at r.file)) (λ at k. IsOfNamed at r.profile MAX_PROFILE_BYTES why.LongProfile (IsOfProfile k r.name)) x
+    of_something files (λ at. certified_at (at r.file)) (λ at k. IsOfNamed at r.profile MAX_PROFILE_BYTES why.LongProfile (IsOfProfile k r.profile r.name)) x
     c.replay_at.result found
-    (subst (λ (fs : Option Files). IfSome fs (λ at. Plans (IsOfNamed at r.profile MAX_PROFILE_BYTES why.LongProfile (IsOfProfile x r.name)) c.replay_at.result))
+    (subst (λ (fs : Option Files). IfSome fs (λ at. Plans (IsOfNamed at r.profile MAX_PROFILE_BYTES why.LongProfile (IsOfProfile x r.profile r.name)) c.replay_at.result))
     c.in_ok-config.ensures.reads.same c.replay_at.ensures.plans)
 
 pub returns-clause-asks : goal.returns-clause-asks
