@@ -389,8 +389,65 @@ files_of() {
     esac
 }
 
+# wrong WORDS: why they are no call, by the page of this script: the first thing that is found
+wrong() {
+    for word; do
+        case $word in
+        *[[:cntrl:]]*) echo 'a word with a control character' ;;
+        *) printf '%s\n' "$word" ;;
+        esac
+    done | awk -v page="$top/scripts/$me.txt" '
+        # what may stand behind the command word: names of arguments, flags in brackets
+        function form(command,   line, words, count, at, inside) {
+            while ((getline line < page) > 0) {
+                if (line ~ /^commands:/) inside = 1
+                else if (line ~ /^statuses:/) inside = 0
+                else if (inside && line ~ /^  [^ ]/) {
+                    count = split(line, words, " ")
+                    if (words[1] != command) continue
+                    for (at = 2; at <= count; at++) {
+                        if (words[at] ~ /^\[-/) flags[substr(words[at], 2, length(words[at]) - 2)]
+                        else needed[++wanted] = words[at]
+                    }
+                    many = needed[wanted] ~ /[.][.][.]$/
+                    return 1
+                }
+            }
+            return 0
+        }
+        function found(text) { if (why == "") why = text }
+        NR == 1 {
+            if ($0 == "") found("a word is empty")
+            else if (!form($0)) found($0 " is no command")
+            else start = $0 ": "
+            next
+        }
+        $0 == "" { found("a word is empty"); next }
+        /^-/ {
+            if (!($0 in flags)) found($0 " is no flag of it")
+            else if (seen[$0]++) found($0 " stands more than once")
+            next
+        }
+        { given[++count] = $0 }
+        END {
+            if (NR == 0) found("a command is wanted")
+            if (count < wanted) found(needed[count + 1] " is missing")
+            if (count > wanted && !many) found(given[wanted + 1] " is one word too many")
+            for (at = 1; at <= count; at++) {
+                if (needed[at] == "TICKS" && (given[at] !~ /^(0|[1-9][0-9]*)$/ || given[at] + 0 > 10000000))
+                    found(given[at] " is no number of ticks from 0 to 10000000")
+                if (needed[at] ~ /^(TICK|NUMBER|LO|HI)$/ && given[at] !~ /^(0|[1-9][0-9]*)$/)
+                    found(given[at] " is no number")
+            }
+            found("these words are no call of it")
+            print start why
+        }'
+}
+
 # explain WORDS: what the error stream has of the status. The program writes nothing there, and 5 to 7 have no text
 explain() {
+    # the usage line of deosk doesn't say which word is wrong, that of deosk-show does
+    [ "$status/$me" != 1/deosk ] || say "$(wrong "$@")"
     case $status in
     [1-4]) ! goes_to_file || say "status $status, and its text is in the output" ;;
     5) say "status 5, a file couldn't be read$(files_of "$@")" ;;
@@ -434,7 +491,8 @@ to_file() {
         exit 0
     fi
     case $status in
-    [1-4]) cat "$written" >&2 ;;
+    1) cat "$written" >&2 && { [ $me != deosk ] || say "$(wrong "$@")"; } ;;
+    [2-4]) cat "$written" >&2 ;;
     5 | 7) explain "$@" ;;
     esac
     rm -f "$written"

@@ -16,8 +16,8 @@ use dk_config_report::Page;
 use dk_needs::{Faults, Needs, NeedsError, read_needs};
 use dk_needs_always::decide_always;
 use dk_needs_check::{
-    Checking, Row, Unknown, are_met, check_needs, needs_csv, needs_junit, needs_text, process_names,
-    unknown_page,
+    Checking, Row, Unknown, are_met, check_needs, needs_csv, needs_junit, needs_text,
+    process_names, unknown_page,
 };
 use dk_needs_report::{needs_faults_page, needs_not_toml_page};
 use dk_needs_run::{RunFault, check_needs_of_run};
@@ -169,8 +169,8 @@ impl Layout {
 
     /// The configuration.
     fn config(&self) -> &Config
-        requires { IsLaidOut self.entry.now }
-        ensures is { result.now ≡ config_of self.entry.now }
+        requires { IsLaidOut self.now }
+        ensures is { result.now ≡ config_of self.now }
         ensures certified { IsCertified result.now }
     {
         match self {

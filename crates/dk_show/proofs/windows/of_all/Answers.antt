@@ -4,7 +4,7 @@ use Rattle.dk_show.proofs.windows.of_all.Goals as goal
 pub returns-in-Ok-clause-plans : goal.returns-in-Ok-clause-plans
 returns-in-Ok-clause-plans c = λ text has.
     let all = c.in-Ok.ensures.text in
-    inr (record { ledger = all.0; readable = all.1; bytes_are = all.2.0; told = (has ∙ all.2.1, refl) })
+    inr (record { ledger = all.0; readable = all.1; bytes_are = all.2; told = (has ∙ all.3, refl) })
 
 pub returns-in-Err-Line-clause-plans : goal.returns-in-Err-Line-clause-plans
 returns-in-Err-Line-clause-plans c = λ told.
