@@ -1,7 +1,6 @@
 -- A run, or a process, that is what it was stands again.
-use Rattle.std.proofs.Common.{ℕ, ◌≡◌, ◌+◌, ◌-◌, ◌<◌, ◌≤◌, ◌%◌, ◌&&◌, ◌∙◌, ◌∷◌, inl, inr, Bool, true, false, List, length, Option, Some, None, refl, sym, subst, arith}
-use Rattle.std.specs.Prelude.{slice_get, is_none, IfSome}
-use Rattle.std.specs.Option.{option_map_or}
+use Rattle.std.proofs.Common.{ℕ, ◌≡◌, ◌+◌, ◌-◌, ◌<◌, ◌≤◌, ◌%◌, ◌∙◌, ◌∷◌, inl, inr, Bool, true, List, length, Option, Some, None, refl, sym, subst, arith}
+use Rattle.std.specs.Prelude.{slice_get, IfSome}
 use Rattle.std.specs.Int.{◌∣◌}
 use Rattle.std.proofs.lemmas.Bool.{cases_eq}
 use Rattle.std.proofs.lemmas.Option.{slice_get_within}
@@ -12,7 +11,7 @@ use Rattle.dk_config.specs.Checked.{IsChecked, IsAccepted, IsWithinLimits}
 use Rattle.dk_trace.specs.declared.Entry.{Entry}
 use Rattle.dk_world.specs.Run.{World, world, trace}
 use Rattle.dk_alone.specs.Again.{WindowBegins, ProcessStandsAlike, ProcessStandsAgain}
-use Rattle.dk_repeat.specs.Repeat.{ReadsNoTickNext, WindowsBegin, ThreadsStandAlike, RunStandsAlike, RunStandsAgain, keeps_threads}
+use Rattle.dk_repeat.specs.Repeat.{ReadsNoTickNext, WindowsBegin, ThreadsStandAlike, RunStandsAlike, RunStandsAgain}
 use Rattle.dk_repeat.specs.Laws.{EntriesKeepThreads}
 use Rattle.dk_repeat.specs.Reading.{EntriesShowReads, NobodyReads, ReadsTickAt}
 use Rattle.dk_cycle.specs.declared.Cycle.{Cycle}
@@ -23,7 +22,7 @@ use Rattle.dk_cycle.specs.declared.run.ProcessState.{ProcessState}
 use Rattle.dk_cycle.specs.declared.run.RunState.{RunState}
 use Rattle.dk_cycle.specs.declared.run.RunSearch.{RunSearch}
 use Rattle.dk_cycle.specs.Own.{IsFound, IsMainState, IsOwnSearch, IsSavedMain}
-use Rattle.dk_cycle.specs.Run.{AreProcessStates, AreSame, AreSameThreads, IsFoundRun, IsKept, IsLastReader, IsReader, IsRunSearch, IsRunState, IsSameProcess, last_reader}
+use Rattle.dk_cycle.specs.Run.{AreProcessStates, AreSame, AreSameThreads, IsFoundRun, IsKept, IsLastReader, IsReader, IsRunSearch, IsRunState, IsSameProcess, GoesOn, last_reader}
 
 begins-by : (c : Configuration) (p tick own : ℕ) → own ≡ period c (main_level c p) → tick % own ≡ 0 → WindowBegins c p tick
 begins-by c p tick own is begins = subst (λ n. tick % n ≡ 0) is begins
@@ -236,32 +235,19 @@ still-within : (tick : ℕ) (o : Option Cycle) → IfSome o (λ y. y.start + y.l
 still-within tick None is = tt
 still-within tick (Some y) is = omega (arith, is)
 
--- where a search goes on to keep what it kept
-record GoesOn (kept both : Bool) (e : Entry) (reader : Option ℕ) : Type 0 where
-  pub kept : kept ≡ true
-  pub keeps : option_map_or keeps_threads e.event true ≡ true
-  pub none : reader ≡ None
-
-pub goes-on : (kept keeps : Bool) (e : Entry) (reader : Option ℕ) → keeps ≡ option_map_or keeps_threads e.event true → (kept && keeps && is_none reader) ≡ true
-    → GoesOn kept (kept && keeps && is_none reader) e reader
-goes-on true true e None is all = record { kept = refl; keeps = sym is; none = refl }
-goes-on true true e (Some p) is all = absurd (cc)
-goes-on true false e reader is all = absurd (cc)
-goes-on false keeps e reader is all = absurd (cc)
-
-pub followed : (c : Configuration) (programs : List (List ℕ)) (tick : ℕ) (search : RunSearch) (e : Entry) (reader : Option ℕ) (both : Bool) → EntriesKeepThreads → EntriesShowReads
-    → (both ≡ true → GoesOn search.kept both e reader) → IsChecked c → IsAccepted c → IsRunSearch c programs tick search
+pub followed : (c : Configuration) (programs : List (List ℕ)) (tick : ℕ) (search : RunSearch) (e : Entry) (reader last : Option ℕ) (both : Bool) → EntriesKeepThreads
+    → EntriesShowReads → (both ≡ true → GoesOn search.kept e reader) → last ≡ last_reader search.reader reader → IsChecked c → IsAccepted c → IsRunSearch c programs tick search
     → trace c programs (tick + 1) ≡ e ∷ trace c programs tick → IsReader c programs tick e reader
-    → IsRunSearch c programs (tick + 1) (record search { reader = last_reader search.reader reader; kept = both })
-followed c programs tick search e reader both keeping showing goes checked accepted is adds here = record {
+    → IsRunSearch c programs (tick + 1) (record search { reader = last; kept = both })
+followed c programs tick search e reader last both keeping showing goes last-is checked accepted is adds here = record {
   some = is.some;
   longest = is.longest;
-  reader = reader-more c programs tick e search.reader reader adds here is.reader;
+  reader = subst (IsLastReader c programs (tick + 1)) (sym last-is) (reader-more c programs tick e search.reader reader adds here is.reader);
   saved = joined c programs tick search.kept both search.saved (λ all.
       let g = goes all in
       let shows = showing c programs tick e checked accepted adds in
       let alike : ThreadsStandAlike c (trace c programs tick) (e ∷ trace c programs tick) = keeping c e (trace c programs tick) g.keeps in (
-        g.kept,
+        g.still,
         subst (λ es. ThreadsStandAlike c (trace c programs tick) es) (sym adds) alike,
         shows.quiet g.keeps (subst (λ (o : Option ℕ). IsReader c programs tick e o) g.none here),
       )) is.saved;

@@ -1,6 +1,7 @@
 -- The search for a cycle of a whole run.
 use Rattle.std.specs.Prelude.{ℕ, ◌≡◌, ◌+◌, ◌-◌, ◌<◌, ◌≤◌, ◌%◌, Bool, true, List, ◌∷◌, length, Option, Some, None, slice_get, IfSome}
 use Rattle.std.specs.Int.{◌∣◌}
+use Rattle.std.specs.Option.{option_map_or}
 use Rattle.dk_config.specs.Configuration.{Configuration}
 use Rattle.dk_config.specs.Checked.{IsChecked, IsAccepted}
 use Rattle.dk_config.specs.Windows.{period}
@@ -8,7 +9,7 @@ use Rattle.dk_trace.specs.declared.Entry.{Entry}
 use Rattle.dk_trace.specs.Members.{Has}
 use Rattle.dk_trace.specs.Threads.{Thread, family}
 use Rattle.dk_world.specs.Run.{World, world, trace}
-use Rattle.dk_repeat.specs.Repeat.{ReadsNoTickNext, WindowsBegin, ThreadsStandAlike, RunStandsAgain}
+use Rattle.dk_repeat.specs.Repeat.{ReadsNoTickNext, WindowsBegin, ThreadsStandAlike, RunStandsAgain, keeps_threads}
 use Rattle.dk_repeat.specs.Reading.{NobodyReads, ReadLast, ReadsTickAt}
 use Rattle.dk_cycle.specs.declared.Cycle.{Cycle}
 use Rattle.dk_cycle.specs.declared.run.ThreadState.{ThreadState}
@@ -81,6 +82,13 @@ abbrev pub IsLastReader : Configuration → List (List ℕ) → ℕ → Option �
 IsLastReader c programs tick (Some p) = ReadLast c programs tick p
 IsLastReader c programs tick None = NobodyReads c programs 0 tick
 
+-- no thread was made or stopped so far, nor is one in the entry e, and nobody read the tick in it
+pub record GoesOn (kept : Bool) (e : Entry) (reader : Option ℕ) : Type 0 where
+  pub still : kept ≡ true
+  pub keeps : option_map_or keeps_threads e.event true ≡ true
+  pub none : reader ≡ None
+
+-- who read the tick last, where one did before, and then maybe another
 abbrev pub last_reader : Option ℕ → Option ℕ → Option ℕ
 last_reader before (Some p) = Some p
 last_reader before None = before

@@ -49,7 +49,8 @@ fn is_read(word: [u8; 4]) -> bool
 /// Whether the four bytes from a place on are that call.
 fn is_read_at(program: &[u8], place: usize) -> bool
     requires { place + 4 ≤ length program.now }
-    ensures { IsTrue result ↔ (instruction_of (slice_range program.now place (place + 4)) ≡ Some (Instr.Trap 9)) }
+    ensures yes { result ≡ true → instruction_of (slice_range program.now place (place + 4)) ≡ Some (Instr.Trap 9) }
+    ensures no { result ≡ false → instruction_of (slice_range program.now place (place + 4)) ≡ Some (Instr.Trap 9) → ⊥ }
 {
     is_read(program[place..place + 4].try_into().unwrap())
 }

@@ -5,7 +5,7 @@ ghost use Rattle.std.specs.Option.{option_map_or};
 ghost use Rattle.dk_config.specs.Checked.{IsChecked, IsWithinLimits};
 ghost use Rattle.dk_config.specs.Windows.{period};
 ghost use Rattle.dk_repeat.specs.Repeat.{keeps_threads};
-ghost use Rattle.dk_cycle.specs.Run.{AreSame, AreSameThreads, IsSameProcess, last_reader};
+ghost use Rattle.dk_cycle.specs.Run.{AreSame, AreSameThreads, GoesOn, IsSameProcess, last_reader};
 
 use crate::Cycle;
 use crate::own::{period_of, same_context};
@@ -107,6 +107,14 @@ fn keeps_threads(entry: &Entry) -> bool
     }
 }
 
+/// Whether a search goes on to keep what it keeps: no thread was made or stopped so far, nor is one in this entry, and nobody
+/// read the tick in it.
+fn goes_on(kept: bool, entry: &Entry, reader: Option<u8>) -> bool
+    ensures { result ≡ true → GoesOn kept entry.now reader }
+{
+    kept && keeps_threads(entry) && reader.is_none()
+}
+
 /// Who read the tick last, where it was read by this process before, and then by that one.
 fn last_reader(before: Option<u8>, now: Option<u8>) -> Option<u8>
     ensures { result ≡ last_reader before now }
@@ -167,7 +175,7 @@ impl RunSearch {
     {
         kept_law();
         reads_law();
-        self.kept = self.kept && keeps_threads(entry) && reader.is_none();
+        self.kept = goes_on(self.kept, entry, reader);
         self.reader = last_reader(self.reader, reader);
     }
 

@@ -1,9 +1,8 @@
 -- Who read the tick in the last tick of a kernel's run.
-use Rattle.std.proofs.Common.{ℕ, zero, suc, ◌≡◌, ◌+◌, ◌*◌, ◌<◌, ◌≤◌, ◌&&◌, ◌∙◌, true, false, List, [], ◌∷◌, length, Option, Some, None, refl, sym, ap, subst, arith}
-use Rattle.std.specs.Prelude.{slice_get, slice_index_or, is_some}
+use Rattle.std.proofs.Common.{ℕ, ◌≡◌, ◌+◌, ◌∙◌, Bool, true, false, List, [], ◌∷◌, length, Option, Some, None, refl, sym, ap, subst, arith}
+use Rattle.std.specs.Prelude.{slice_index_or}
 use Rattle.std.specs.List.{list_any}
 use Rattle.std.proofs.Math.Bool.{or-true}
-use Rattle.std.proofs.lemmas.Option.{get_or_from_slice_get}
 use Rattle.dk_config.specs.Configuration.{Configuration}
 use Rattle.dk_config.specs.Checked.{IsChecked, IsAccepted}
 use Rattle.dk_trace.specs.declared.ThreadId.{ThreadId}
@@ -16,13 +15,13 @@ use Rattle.dk_trace.proofs.Same.{same-self}
 use Rattle.dk_threads.specs.Recount.{has_row, is_there}
 use Rattle.dk_cpu.specs.declared.Context.{Context}
 use Rattle.dk_world.specs.Run.{world, trace}
-use Rattle.dk_repeat.specs.Reading.{EntriesShowReads, HasRead, IsBehindRead, ReadsTickAt, RunsOn, ShowsReads, quiet_caller}
-use Rattle.dk_cycle.specs.Run.{IsReader}
-
-none-there : (xs : List (List ℕ)) (i : ℕ) → slice_get xs i ≡ None → slice_index_or xs i [] ≡ []
-none-there [] i is = refl
-none-there (x ∷ xs) zero is = absurd (cc)
-none-there (x ∷ xs) (suc i) is = none-there xs i is
+use Rattle.dk_repeat.specs.Reading.{HasRead, IsBehindRead, RunsOn, ShowsReads, quiet_caller}
+use Rattle.dk_kernel.specs.Running.{Running, trace_of}
+use Rattle.dk_cycle.specs.declared.run.RunSearch.{RunSearch}
+use Rattle.dk_cycle.specs.Run.{Follows, IsReader}
+use Rattle.dk_repeat_search.specs.declared.search.Searches.{Searches}
+use Rattle.dk_repeat_search.specs.Searching.{IsSearching}
+use Rattle.dk_repeat_search.proofs.Owning.{searches-later}
 
 -- a thread that runs on has a row
 row-running : (c : Configuration) (n : ℕ) (x : Thread) → x.stop ≡ None → has_row c n x ≡ true
@@ -38,43 +37,57 @@ found-running c programs n x on =
 
 module _ (c : Configuration) (programs : List (List ℕ)) (n : ℕ) (e : Entry) (shows : ShowsReads c programs n e) where
   pub no-caller : quiet_caller e ≡ None → IsReader c programs n e None
-  no-caller none = λ p r. let (x, (is, has)) = shows.only p r in let never : None ≡ Some x = sym none ∙ is in absurd (cc)
+  no-caller none = λ p r. let one = shows.only p r in let never : None ≡ Some one.0 = sym none ∙ one.1 in absurd (cc)
 
   -- the caller is the one that is seen
   only-one : (x : ThreadId) → quiet_caller e ≡ Some x → (HasRead c programs (n + 1) x → ⊥) → IsReader c programs n e None
   only-one x names not-read = λ p r.
-      let (y, (is, has)) = shows.only p r in
-      let both : Some y ≡ Some x = sym is ∙ names in
-      let same : y ≡ x = cc in
-      not-read (subst (HasRead c programs (n + 1)) same has)
+      let one = shows.only p r in
+      let both : Some one.0 ≡ Some x = sym one.1 ∙ names in
+      let same : one.0 ≡ x = cc in
+      not-read (subst (HasRead c programs (n + 1)) same one.2)
 
   -- it is there
-  pub no-context : (x : ThreadId) (there : Option Context) → quiet_caller e ≡ Some x
-      → is_some there ≡ list_any (is_there c (length (trace c programs (n + 1))) x) (threads c (trace c programs (n + 1))) → there ≡ None → ⊥
-  no-context x None names is none = let found = found-running c programs (n + 1) x (shows.there x names) in let never : false ≡ true = is ∙ found in cc
-  no-context x (Some z) names is none = cc
+  pub no-context : (x : ThreadId) (there : Bool) → quiet_caller e ≡ Some x
+      → there ≡ list_any (is_there c (length (trace c programs (n + 1))) x) (threads c (trace c programs (n + 1))) → there ≡ false → ⊥
+  no-context x there names is none =
+      let found = found-running c programs (n + 1) x (shows.there x names) in
+      let never : false ≡ true = sym none ∙ is ∙ found in
+      cc
 
-  pub no-program : (x : ThreadId) → quiet_caller e ≡ Some x → slice_get programs x.process ≡ None → IsReader c programs n e None
-  no-program x names none =
-      only-one x names (λ read.
-      let empty : slice_index_or programs x.process [] ≡ [] = none-there programs x.process none in
-      let within = read.within in
-      let short : length (slice_index_or programs x.process []) ≡ 0 = ap length empty in
-      omega (arith, within, short))
-
-  pub not-behind : (x : ThreadId) (program : List ℕ) (z : Context) → quiet_caller e ≡ Some x → slice_get programs x.process ≡ Some program
+  pub not-behind : (x : ThreadId) (program : List ℕ) (z : Context) → quiet_caller e ≡ Some x → program ≡ slice_index_or programs x.process []
       → z ≡ ((world c programs (n + 1)).images x.process).contexts x.serial → (IsBehindRead program z → ⊥) → IsReader c programs n e None
   not-behind x program z names there is not-read =
-      let same : slice_index_or programs x.process [] ≡ program = get_or_from_slice_get programs x.process program [] there in
       only-one x names (λ read. not-read (subst (IsBehindRead program) (sym is)
-      (subst (λ code. IsBehindRead code (((world c programs (n + 1)).images x.process).contexts x.serial)) same read)))
+      (subst (λ code. IsBehindRead code (((world c programs (n + 1)).images x.process).contexts x.serial)) (sym there) read)))
 
-  pub behind : (x : ThreadId) (program : List ℕ) (z : Context) → quiet_caller e ≡ Some x → slice_get programs x.process ≡ Some program
+  pub behind : (x : ThreadId) (program : List ℕ) (z : Context) → quiet_caller e ≡ Some x → program ≡ slice_index_or programs x.process []
       → z ≡ ((world c programs (n + 1)).images x.process).contexts x.serial → IsBehindRead program z → IsReader c programs n e (Some x.process)
   behind x program z names there is read =
-      let same : slice_index_or programs x.process [] ≡ program = get_or_from_slice_get programs x.process program [] there in
       let on = shows.there x names in (
         on.process,
-        shows.reads x names (subst (λ code. IsBehindRead code (((world c programs (n + 1)).images x.process).contexts x.serial)) (sym same)
-        (subst (IsBehindRead program) is read)),
+        shows.reads x names (subst (λ code. IsBehindRead code (((world c programs (n + 1)).images x.process).contexts x.serial)) there
+            (subst (IsBehindRead program) is read)),
       )
+
+-- the searches after one more tick
+pub searching-next : (k l : Running) (s : Searches) (e : Entry) (reader : Option ℕ) (run : RunSearch) → l ≡ record k { ticks = k.ticks + 1 } → trace_of l ≡ e ∷ trace_of k
+    → IsChecked l.config → IsAccepted l.config → IsSearching k s
+    → ((n : ℕ) → l.ticks ≡ n + 1 → trace l.config l.programs (n + 1) ≡ e ∷ trace l.config l.programs n → IsReader l.config l.programs n e reader)
+    → Follows s.run e reader run → IsSearching l (record s { run = run })
+searching-next k l s e reader run next adds checked' accepted' is reads follows =
+    let config : l.config ≡ k.config = ap (λ (r : Running). r.config) next in
+    let programs : l.programs ≡ k.programs = ap (λ (r : Running). r.programs) next in
+    let ticks : l.ticks ≡ k.ticks + 1 = ap (λ (r : Running). r.ticks) next in
+    let checked : IsChecked k.config = subst (λ (c : Configuration). IsChecked c) config checked' in
+    let accepted : IsAccepted k.config = subst (λ (c : Configuration). IsAccepted c) config accepted' in
+    let more : trace k.config k.programs (k.ticks + 1) ≡ e ∷ trace k.config k.programs k.ticks = ap (λ (r : Running). trace_of r) (sym next) ∙ adds in
+    let read : IsReader k.config k.programs k.ticks e reader =
+    subst (λ (r : Running). trace r.config r.programs (k.ticks + 1) ≡ e ∷ trace r.config r.programs k.ticks → IsReader r.config r.programs k.ticks e reader) next
+    (reads k.ticks ticks) more in
+    subst (λ (r : Running). IsSearching r (record s { run = run })) (sym next)
+    (record {
+      run = follows k.config k.programs k.ticks checked accepted is.run more read;
+      own = record { all = searches-later k.config k.programs k.ticks s.own.items is.own.all; processes = is.own.processes };
+      programs = is.programs;
+    })

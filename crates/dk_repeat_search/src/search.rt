@@ -1,5 +1,5 @@
 //! The searches for the cycles of a run and of each of its processes, tick by tick.
-ghost use Rattle.std.specs.Prelude.{ℕ, [], ◌∷◌, ◌≡◌, ◌+◌, ◌≤◌, ◌<◌, All, map, slice_index_or, IfOk, OnOk};
+ghost use Rattle.std.specs.Prelude.{ℕ, [], ◌∷◌, ◌≡◌, ◌+◌, ◌≤◌, ◌<◌, All, map, slice_index_or, true, None, is_some, IfOk, OnOk};
 ghost use Rattle.dk_config.specs.declared.TheConstants.{MAX_TICKS};
 ghost use Rattle.dk_world.specs.Run.{trace};
 ghost use Rattle.dk_cycle.specs.Own.{IsOwnSearch};
@@ -28,6 +28,16 @@ pub(crate) struct Searches {
 }
 
 /// The bytes of the process's program.
+fn bytes_of(programs: &[Code], process: usize) -> &[u8]
+    ensures { result.now ≡ slice_index_or programs.now process [] }
+{
+    match programs.get(process) {
+        Some(program) => program.bytes(),
+        None => &[],
+    }
+}
+
+/// The same, before the first tick.
 fn program_of(loaded: &Loaded, process: usize) -> &[u8]
     ensures { result.now ≡ slice_index_or loaded.now.programs process [] }
 {
@@ -59,8 +69,8 @@ fn reader_of(programs: &[Code], kernel: &Kernel, entry: &Entry) -> Option<u8>
     kernel.dispatcher();
     let thread = quiet_caller(entry)?;
     let context = kernel.context(thread)?;
-    let program = programs.get(thread.process as usize)?;
-    if is_behind_read(program.bytes(), &context) {
+    let program = bytes_of(programs, thread.process as usize);
+    if is_behind_read(program, &context) {
         Some(thread.process)
     } else {
         None
@@ -163,7 +173,9 @@ impl Searches {
     }
 
     /// Whether nothing is looked for any more.
-    pub(crate) fn is_done(&self) -> bool {
+    pub(crate) fn is_done(&self) -> bool
+        ensures { result ≡ true → is_some self.now.run.cycle ≡ true }
+    {
         self.run.is_done() && self.own.iter().all(|search| search.is_done())
     }
 
@@ -196,6 +208,7 @@ impl Searches {
         ensures config { kernel.new.config ≡ kernel.old.config }
         ensures programs { kernel.new.programs ≡ kernel.old.programs }
         ensures ticks { kernel.new.ticks ≤ kernel.old.ticks + ticks }
+        ensures all { OnOk result (self.new.run.cycle ≡ None → kernel.new.ticks ≡ kernel.old.ticks + ticks) }
     {
         self.look(alloc, kernel)?;
         for step in 0..ticks {
