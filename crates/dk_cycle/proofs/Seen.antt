@@ -1,9 +1,9 @@
 -- What is seen of a main's windows up to a tick, and what it says of every run.
-use Rattle.std.proofs.Common.{ℕ, suc, ◌≡◌, ◌+◌, ◌-◌, ◌*◌, ◌/◌, ◌%◌, ◌<◌, ◌≤◌, ◌∙◌, ◌||◌, inl, inr, Bool, true, false, List, [], ◌∷◌, take, Option, Some, None, refl, sym, ap, subst, arith}
+use Rattle.std.proofs.Common.{ℕ, suc, ◌≡◌, ◌+◌, ◌*◌, ◌/◌, ◌%◌, ◌<◌, ◌≤◌, ◌∙◌, ◌||◌, inl, inr, Bool, true, false, List, [], ◌∷◌, take, Option, Some, None, refl, sym, ap, subst, arith}
 use Rattle.std.specs.Prelude.{IfSome, slice_index_or}
 use Rattle.std.specs.List.{list_any}
 use Rattle.std.proofs.Math.Nat.{div-add-mod, mod_self, mul-le-mul_right, zero-mod}
-use Rattle.std.proofs.lemmas.Bool.{cases_Bool, cases_eq, cases_lt}
+use Rattle.std.proofs.lemmas.Bool.{cases_Bool, cases_lt}
 use Rattle.dk_config.specs.Configuration.{Configuration}
 use Rattle.dk_config.specs.Checked.{IsChecked, IsAccepted}
 use Rattle.dk_config.specs.Windows.{period, main_level}
@@ -17,10 +17,8 @@ use Rattle.dk_alone.proofs.Cycles.{begins-sum}
 use Rattle.dk_cycle.specs.declared.Cycle.{Cycle}
 use Rattle.dk_cycle.specs.declared.keeping.Keeping.{Keeping}
 use Rattle.dk_cycle.specs.declared.keeping.Keeping.TheVariants as kind
-use Rattle.dk_cycle.specs.declared.own.OwnSearch.{OwnSearch}
 use Rattle.dk_cycle.specs.declared.waiting.WaitWatch.{WaitWatch}
 use Rattle.dk_cycle.specs.Keeping.{IsKeeping}
-use Rattle.dk_cycle.specs.Own.{IsOwnSearch}
 use Rattle.dk_cycle.specs.Waiting.{HasProgram, IsWaitWatch, IsWaits, WaitsAreTold, first_missed, main_waits, waits_by, waits_in, waits_of}
 
 -- of two multiples of a number the greater is greater by it at least

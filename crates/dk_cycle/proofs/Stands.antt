@@ -1,6 +1,6 @@
 -- A run, or a process, that is what it was stands again.
-use Rattle.std.proofs.Common.{ℕ, ◌≡◌, ◌+◌, ◌-◌, ◌<◌, ◌≤◌, ◌%◌, ◌∙◌, inl, inr, Bool, true, List, [], length, Option, Some, None, refl, sym, subst, arith}
-use Rattle.std.specs.Prelude.{slice_get, slice_index_or, IfSome}
+use Rattle.std.proofs.Common.{ℕ, ◌≡◌, ◌+◌, ◌-◌, ◌<◌, ◌≤◌, ◌%◌, ◌∙◌, ◌∷◌, inl, inr, Bool, true, List, length, Option, Some, None, refl, sym, subst, arith}
+use Rattle.std.specs.Prelude.{slice_get, IfSome}
 use Rattle.std.specs.Int.{◌∣◌}
 use Rattle.std.proofs.lemmas.Bool.{cases_eq}
 use Rattle.std.proofs.lemmas.Option.{slice_get_within}
@@ -8,11 +8,12 @@ use Rattle.std.proofs.lemmas.Nat.Gcd.{dvd_trans, dvd_of_mod-eq-zero, mod-eq-zero
 use Rattle.dk_config.specs.Configuration.{Configuration}
 use Rattle.dk_config.specs.Windows.{period, main_level}
 use Rattle.dk_config.specs.Checked.{IsChecked, IsAccepted, IsWithinLimits}
+use Rattle.dk_trace.specs.declared.Entry.{Entry}
 use Rattle.dk_world.specs.Run.{World, world, trace}
-use Rattle.dk_alone.specs.Alone.{ReadsNoTick}
 use Rattle.dk_alone.specs.Again.{WindowBegins, ProcessStandsAlike, ProcessStandsAgain}
-use Rattle.dk_repeat.specs.Repeat.{WindowsBegin, ThreadsStandAlike, RunStandsAlike, RunStandsAgain}
-use Rattle.dk_repeat.specs.Laws.{ProgramsReadNoTick}
+use Rattle.dk_repeat.specs.Repeat.{ReadsNoTickNext, WindowsBegin, ThreadsStandAlike, RunStandsAlike, RunStandsAgain}
+use Rattle.dk_repeat.specs.Laws.{EntriesKeepThreads}
+use Rattle.dk_repeat.specs.Reading.{EntriesShowReads, NobodyReads, ReadsTickAt}
 use Rattle.dk_cycle.specs.declared.Cycle.{Cycle}
 use Rattle.dk_cycle.specs.declared.own.MainState.{MainState}
 use Rattle.dk_cycle.specs.declared.own.OwnSearch.{OwnSearch}
@@ -21,7 +22,7 @@ use Rattle.dk_cycle.specs.declared.run.ProcessState.{ProcessState}
 use Rattle.dk_cycle.specs.declared.run.RunState.{RunState}
 use Rattle.dk_cycle.specs.declared.run.RunSearch.{RunSearch}
 use Rattle.dk_cycle.specs.Own.{IsFound, IsMainState, IsOwnSearch, IsSavedMain}
-use Rattle.dk_cycle.specs.Run.{AreProcessStates, AreSame, AreSameThreads, IsFoundRun, IsKept, IsRunSearch, IsRunState, IsSameProcess}
+use Rattle.dk_cycle.specs.Run.{AreProcessStates, AreSame, AreSameThreads, IsFoundRun, IsKept, IsLastReader, IsReader, IsRunSearch, IsRunState, IsSameProcess, GoesOn, last_reader}
 
 begins-by : (c : Configuration) (p tick own : ℕ) → own ≡ period c (main_level c p) → tick % own ≡ 0 → WindowBegins c p tick
 begins-by c p tick own is begins = subst (λ n. tick % n ≡ 0) is begins
@@ -130,10 +131,10 @@ begins-all : (c : Configuration) (longest tick : ℕ) → ((i : ℕ) → i < len
 begins-all c longest tick divides begins = λ i known.
     mod-eq-zero_of_dvd (period c i) (dvd_trans (period c i) (divides i known) (dvd_of_mod-eq-zero longest begins))
 
-run-again : (c : Configuration) (programs : List (List ℕ)) (saved : Option RunState) (kept : Bool) (now : RunState) (y : Cycle) → ProgramsReadNoTick → IsChecked c → IsAccepted c
-    → ((p : ℕ) → p < length c.processes → ReadsNoTick (slice_index_or programs p [])) → IfSome saved (IsKept c programs now.tick kept)
-    → IsRunState c programs now → WindowsBegin c now.tick → IsFoundRun saved kept now y → RunStandsAgain c programs y.start y.length
-run-again c programs saved kept now y clocks checked accepted quiet keeps is begins found =
+run-again : (c : Configuration) (programs : List (List ℕ)) (saved : Option RunState) (kept : Bool) (now : RunState) (y : Cycle)
+    → IfSome saved (IsKept c programs now.tick kept) → IsRunState c programs now → WindowsBegin c now.tick → IsFoundRun saved kept now y
+    → RunStandsAgain c programs y.start y.length
+run-again c programs saved kept now y keeps is begins found =
     let before = found.before in
     let was : IsKept c programs now.tick kept before = subst (λ (o : Option RunState). IfSome o (IsKept c programs now.tick kept)) found.is keeps in
     let later = found.later in
@@ -148,19 +149,18 @@ run-again c programs saved kept now y clocks checked accepted quiet keeps is beg
       begins_later = subst (WindowsBegin c) sum begins;
       alike = subst (λ t. RunStandsAlike c (world c programs t) (world c programs (y.start + y.length))) (sym start)
           (subst (λ t. RunStandsAlike c (world c programs before.tick) (world c programs t)) sum alike);
-      clock = λ n less. clocks c programs (y.start + n) checked accepted quiet;
+      clock = λ n less. was.clock found.still (y.start + n) (omega (arith, start)) (omega (arith, start, sum, less));
     }
 
-pub run-with-cycle : (c : Configuration) (programs : List (List ℕ)) (search : RunSearch) (now : RunState) (y : Cycle) → ProgramsReadNoTick → IsChecked c → IsAccepted c
-    → IsRunSearch c programs now.tick search → search.reader ≡ None → IsRunState c programs now → now.tick % search.longest ≡ 0
-    → IsFoundRun search.saved search.kept now y → IsRunSearch c programs now.tick (record search { cycle = Some y })
-run-with-cycle c programs search now y clocks checked accepted is none state begins found = record {
+pub run-with-cycle : (c : Configuration) (programs : List (List ℕ)) (search : RunSearch) (now : RunState) (y : Cycle) → IsRunSearch c programs now.tick search
+    → IsRunState c programs now → now.tick % search.longest ≡ 0 → IsFoundRun search.saved search.kept now y
+    → IsRunSearch c programs now.tick (record search { cycle = Some y })
+run-with-cycle c programs search now y is state begins found = record {
   some = is.some;
   longest = is.longest;
-  quiet = is.quiet;
   reader = is.reader;
   saved = is.saved;
-  cycle = run-again c programs search.saved search.kept now y clocks checked accepted (is.quiet none) is.saved state (begins-all c search.longest now.tick is.longest begins) found;
+  cycle = run-again c programs search.saved search.kept now y is.saved state (begins-all c search.longest now.tick is.longest begins) found;
   within = let later = found.later in let start = found.start in let long = found.lasts in omega (arith, later, start, long);
 }
 
@@ -169,36 +169,88 @@ pub run-with-saved : (c : Configuration) (programs : List (List ℕ)) (search : 
 run-with-saved c programs search now is state begins = record {
   some = is.some;
   longest = is.longest;
-  quiet = is.quiet;
   reader = is.reader;
-  saved = record { is = record { begins = begins-all c search.longest now.tick is.longest begins; is = state }; threads = λ kept p here. refl };
+  saved = record {
+    is = record { begins = begins-all c search.longest now.tick is.longest begins; is = state };
+    come = omega arith;
+    threads = λ kept p here. refl;
+    clock = λ kept n low high. absurd (omega (arith, low, high));
+  };
   cycle = is.cycle;
   within = is.within;
 }
 
 -- the entry of one more tick
 joined : (c : Configuration) (programs : List (List ℕ)) (tick : ℕ) (kept both : Bool) (o : Option RunState)
-    → (both ≡ true → (kept ≡ true) × ThreadsStandAlike c (trace c programs tick) (trace c programs (tick + 1)))
+    → (both ≡ true → (kept ≡ true) × ThreadsStandAlike c (trace c programs tick) (trace c programs (tick + 1)) × ReadsNoTickNext c (world c programs tick))
     → IfSome o (IsKept c programs tick kept) → IfSome o (IsKept c programs (tick + 1) both)
 joined c programs tick kept both None more is = tt
 joined c programs tick kept both (Some s) more is = record {
   is = is.is;
+  come = let come = is.come in omega (arith, come);
   threads = λ all. let m = more all in λ p here. is.threads m.0 p here ∙ m.1 p here;
+  clock = λ all n low high.
+      let m = more all in
+      elim (cases_eq tick n) [
+        | inl same ↦ subst (λ t. ReadsNoTickNext c (world c programs t)) same m.2
+        | inr other ↦ is.clock m.0 n low (omega (arith, high, other))
+      ];
 }
+
+nobody-more : (c : Configuration) (programs : List (List ℕ)) (from tick : ℕ) (e : Entry) → trace c programs (tick + 1) ≡ e ∷ trace c programs tick
+    → ((p : ℕ) → ReadsTickAt c programs tick e p → ⊥) → NobodyReads c programs from tick → NobodyReads c programs from (tick + 1)
+nobody-more c programs from tick e adds none before t f p low high is reads =
+    elim (cases_eq tick t) [
+      | inl same ↦
+          let both : f ∷ trace c programs t ≡ e ∷ trace c programs t =
+          sym is ∙ subst (λ n. trace c programs (n + 1) ≡ e ∷ trace c programs n) same adds in
+          let one : f ≡ e = cc in
+          none p (subst (λ n. ReadsTickAt c programs n e p) (sym same) (subst (λ g. ReadsTickAt c programs t g p) one reads))
+      | inr other ↦ before t f p low (omega (arith, high, other)) is reads
+    ]
+
+reader-more : (c : Configuration) (programs : List (List ℕ)) (tick : ℕ) (e : Entry) (before now : Option ℕ) → trace c programs (tick + 1) ≡ e ∷ trace c programs tick
+    → IsReader c programs tick e now → IsLastReader c programs tick before → IsLastReader c programs (tick + 1) (last_reader before now)
+reader-more c programs tick e before (Some p) adds here was = record {
+  known = here.0;
+  tick = tick;
+  entry = e;
+  before = omega arith;
+  is = adds;
+  reads = here.1;
+  last = λ t f q low high is reads. absurd (omega (arith, low, high));
+}
+reader-more c programs tick e (Some p) None adds here was = record {
+  known = was.known;
+  tick = was.tick;
+  entry = was.entry;
+  before = let early = was.before in omega (arith, early);
+  is = was.is;
+  reads = was.reads;
+  last = nobody-more c programs (was.tick + 1) tick e adds here was.last;
+}
+reader-more c programs tick e None None adds here was = nobody-more c programs 0 tick e adds here was
 
 still-within : (tick : ℕ) (o : Option Cycle) → IfSome o (λ y. y.start + y.length ≤ tick) → IfSome o (λ y. y.start + y.length ≤ tick + 1)
 still-within tick None is = tt
 still-within tick (Some y) is = omega (arith, is)
 
-pub followed : (c : Configuration) (programs : List (List ℕ)) (tick : ℕ) (search : RunSearch) (both : Bool)
-    → (both ≡ true → (search.kept ≡ true) × ThreadsStandAlike c (trace c programs tick) (trace c programs (tick + 1)))
-    → IsRunSearch c programs tick search → IsRunSearch c programs (tick + 1) (record search { kept = both })
-followed c programs tick search both more is = record {
+pub followed : (c : Configuration) (programs : List (List ℕ)) (tick : ℕ) (search : RunSearch) (e : Entry) (reader last : Option ℕ) (both : Bool) → EntriesKeepThreads
+    → EntriesShowReads → (both ≡ true → GoesOn search.kept e reader) → last ≡ last_reader search.reader reader → IsChecked c → IsAccepted c → IsRunSearch c programs tick search
+    → trace c programs (tick + 1) ≡ e ∷ trace c programs tick → IsReader c programs tick e reader
+    → IsRunSearch c programs (tick + 1) (record search { reader = last; kept = both })
+followed c programs tick search e reader last both keeping showing goes last-is checked accepted is adds here = record {
   some = is.some;
   longest = is.longest;
-  quiet = is.quiet;
-  reader = is.reader;
-  saved = joined c programs tick search.kept both search.saved more is.saved;
+  reader = subst (IsLastReader c programs (tick + 1)) (sym last-is) (reader-more c programs tick e search.reader reader adds here is.reader);
+  saved = joined c programs tick search.kept both search.saved (λ all.
+      let g = goes all in
+      let shows = showing c programs tick e checked accepted adds in
+      let alike : ThreadsStandAlike c (trace c programs tick) (e ∷ trace c programs tick) = keeping c e (trace c programs tick) g.keeps in (
+        g.still,
+        subst (λ es. ThreadsStandAlike c (trace c programs tick) es) (sym adds) alike,
+        shows.quiet g.keeps (subst (λ (o : Option ℕ). IsReader c programs tick e o) g.none here),
+      )) is.saved;
   cycle = is.cycle;
   within = still-within tick search.cycle is.within;
 }

@@ -1,5 +1,5 @@
 -- What was found says how it goes on for ever.
-use Rattle.std.proofs.Common.{ℕ, List, [], Option, Some, None, subst}
+use Rattle.std.proofs.Common.{ℕ, ◌≡◌, List, [], Option, Some, None, refl, subst}
 use Rattle.std.specs.Prelude.{IfSome, slice_index_or}
 use Rattle.dk_config.specs.Configuration.{Configuration}
 use Rattle.dk_config.specs.Checked.{IsChecked, IsAccepted}
@@ -11,7 +11,8 @@ use Rattle.dk_repeat.specs.Laws.{RunsRepeatForEver}
 use Rattle.dk_cycle.specs.declared.Cycle.{Cycle}
 use Rattle.dk_cycle.specs.Keeping.{IsKeeping}
 use Rattle.dk_cycle.specs.Repeating.{RepeatsForEver}
-use Rattle.dk_cycle.specs.Told.{HasCycle, OwnIsTold, RunIsTold}
+use Rattle.dk_cycle.specs.Run.{IsLastReader}
+use Rattle.dk_cycle.specs.Told.{HasCycle, OwnIsTold, RunIsTold, reader_by}
 
 run-cycle : (c : Configuration) (programs : List (List ℕ)) (o : Option Cycle) → RunsRepeatForEver → IsChecked c → IsAccepted c
     → IfSome o (λ y. RunStandsAgain c programs y.start y.length) → IfSome o (λ y. RepeatsForEver c programs y.start y.length)
@@ -29,11 +30,21 @@ own-cycle c programs p (Some y) as-alone repeats checked accepted keeps again = 
       repeats c programs others p y.start y.length cycles m n checked accepted keeps agree (as-alone c programs p y.start y.length checked accepted keeps again) begins more;
 }
 
+read-last : (c : Configuration) (programs : List (List ℕ)) (tick : ℕ) (o : Option Cycle) (reader : Option ℕ) → IsLastReader c programs tick reader
+    → o ≡ None → IsLastReader c programs tick (reader_by o reader)
+read-last c programs tick (Some y) reader is none = absurd (cc)
+read-last c programs tick None reader is none = is
+
+read-none : (o : Option Cycle) (reader : Option ℕ) (y : Cycle) → o ≡ Some y → reader_by o reader ≡ None
+read-none (Some z) reader y is = refl
+read-none None reader y is = absurd (cc)
+
 pub run-is-told : RunsRepeatForEver → RunIsTold
 run-is-told law c programs tick search checked accepted is = record {
-  reader = is.reader;
-  quiet = is.quiet;
+  ticks = tick;
   cycle = run-cycle c programs search.cycle law checked accepted is.cycle;
+  reader = read-last c programs tick search.cycle search.reader is.reader;
+  alone = read-none search.cycle search.reader;
 }
 
 pub own-is-told : StandsAgainAsAlone → ProcessesRepeat → OwnIsTold

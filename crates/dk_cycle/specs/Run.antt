@@ -1,6 +1,7 @@
 -- The search for a cycle of a whole run.
-use Rattle.std.specs.Prelude.{ℕ, ◌≡◌, ◌+◌, ◌-◌, ◌<◌, ◌≤◌, ◌%◌, Bool, true, List, [], ◌∷◌, length, Option, Some, None, slice_get, slice_index_or, IfSome}
+use Rattle.std.specs.Prelude.{ℕ, ◌≡◌, ◌+◌, ◌-◌, ◌<◌, ◌≤◌, ◌%◌, Bool, true, List, ◌∷◌, length, Option, Some, None, slice_get, IfSome}
 use Rattle.std.specs.Int.{◌∣◌}
+use Rattle.std.specs.Option.{option_map_or}
 use Rattle.dk_config.specs.Configuration.{Configuration}
 use Rattle.dk_config.specs.Checked.{IsChecked, IsAccepted}
 use Rattle.dk_config.specs.Windows.{period}
@@ -8,14 +9,13 @@ use Rattle.dk_trace.specs.declared.Entry.{Entry}
 use Rattle.dk_trace.specs.Members.{Has}
 use Rattle.dk_trace.specs.Threads.{Thread, family}
 use Rattle.dk_world.specs.Run.{World, world, trace}
-use Rattle.dk_alone.specs.Alone.{ReadsNoTick}
-use Rattle.dk_repeat.specs.Repeat.{WindowsBegin, ThreadsStandAlike, RunStandsAgain}
+use Rattle.dk_repeat.specs.Repeat.{ReadsNoTickNext, WindowsBegin, ThreadsStandAlike, RunStandsAgain, keeps_threads}
+use Rattle.dk_repeat.specs.Reading.{NobodyReads, ReadLast, ReadsTickAt}
 use Rattle.dk_cycle.specs.declared.Cycle.{Cycle}
 use Rattle.dk_cycle.specs.declared.run.ThreadState.{ThreadState}
 use Rattle.dk_cycle.specs.declared.run.ProcessState.{ProcessState}
 use Rattle.dk_cycle.specs.declared.run.RunState.{RunState}
 use Rattle.dk_cycle.specs.declared.run.RunSearch.{RunSearch}
-use Rattle.dk_cycle.specs.Keeping.{ReadsTick}
 
 -- the thread with its context is among these
 abbrev pub IsAmong : World → ℕ → List ThreadState → Thread → Type 0
@@ -64,30 +64,54 @@ pub record IsFoundRun (saved : Option RunState) (kept : Bool) (now : RunState) (
   pub lasts : y.length ≡ now.tick - before.tick
   pub same : AreSame before.processes.items now.processes.items (length before.processes.items)
 
--- it is of this run, and where no thread was made or stopped since, its threads stand alike then and at the tick
+-- it is of this run, and where no thread was made or stopped since and the tick wasn't read, its threads stand alike then and at
+-- the tick, and no call ended that reads the tick
 pub record IsKept (c : Configuration) (programs : List (List ℕ)) (tick : ℕ) (kept : Bool) (s : RunState) : Type 0 where
   pub is : IsSavedRun c programs s
+  pub come : s.tick ≤ tick
   pub threads : kept ≡ true → ThreadsStandAlike c (trace c programs s.tick) (trace c programs tick)
+  pub clock : kept ≡ true → (n : ℕ) → s.tick ≤ n → n < tick → ReadsNoTickNext c (world c programs n)
+
+-- a thread of this process read the tick in the tick with this entry, or nobody did
+abbrev pub IsReader : Configuration → List (List ℕ) → ℕ → Entry → Option ℕ → Type 0
+IsReader c programs tick e (Some p) = (p < length c.processes) × ReadsTickAt c programs tick e p
+IsReader c programs tick e None = (p : ℕ) → ReadsTickAt c programs tick e p → ⊥
+
+-- a thread of this process read the tick last before the tick, or nobody did
+abbrev pub IsLastReader : Configuration → List (List ℕ) → ℕ → Option ℕ → Type 0
+IsLastReader c programs tick (Some p) = ReadLast c programs tick p
+IsLastReader c programs tick None = NobodyReads c programs 0 tick
+
+-- no thread was made or stopped so far, nor is one in the entry e, and nobody read the tick in it
+pub record GoesOn (kept : Bool) (e : Entry) (reader : Option ℕ) : Type 0 where
+  pub still : kept ≡ true
+  pub keeps : option_map_or keeps_threads e.event true ≡ true
+  pub none : reader ≡ None
+
+-- who read the tick last, where one did before, and then maybe another
+abbrev pub last_reader : Option ℕ → Option ℕ → Option ℕ
+last_reader before (Some p) = Some p
+last_reader before None = before
 
 -- What a search keeps is of this run, and at the two ticks that it found the run stands alike, and reads no tick between. The
 -- later one has come.
 pub record IsRunSearch (c : Configuration) (programs : List (List ℕ)) (tick : ℕ) (search : RunSearch) : Type 0 where
   pub some : 0 < search.longest
   pub longest : (i : ℕ) → i < length c.levels → period c i ∣ search.longest
-  pub quiet : search.reader ≡ None → (p : ℕ) → p < length c.processes → ReadsNoTick (slice_index_or programs p [])
-  pub reader : IfSome search.reader (λ p. (p < length c.processes) × ReadsTick (slice_index_or programs p []))
+  pub reader : IsLastReader c programs tick search.reader
   pub saved : IfSome search.saved (IsKept c programs tick search.kept)
   pub cycle : IfSome search.cycle (λ y. RunStandsAgain c programs y.start y.length)
   pub within : IfSome search.cycle (λ y. y.start + y.length ≤ tick)
 
--- a search of a run that looks at the entry of the next tick is one up to that tick
-abbrev pub Follows : RunSearch → Entry → RunSearch → Type 0
-Follows before entry after =
-    (c : Configuration) (programs : List (List ℕ)) (tick : ℕ) → IsRunSearch c programs tick before
-    → trace c programs (tick + 1) ≡ entry ∷ trace c programs tick → IsRunSearch c programs (tick + 1) after
+-- a search of a run that looks at the entry of the next tick, and at who read the tick in it, is one up to that tick
+abbrev pub Follows : RunSearch → Entry → Option ℕ → RunSearch → Type 0
+Follows before entry reader after =
+    (c : Configuration) (programs : List (List ℕ)) (tick : ℕ) → IsChecked c → IsAccepted c → IsRunSearch c programs tick before
+    → trace c programs (tick + 1) ≡ entry ∷ trace c programs tick → IsReader c programs tick entry reader
+    → IsRunSearch c programs (tick + 1) after
 
 -- and one that looks at what the run is where the windows of all levels begin is still one
 abbrev pub LooksAtRun : RunSearch → RunState → RunSearch → Type 0
 LooksAtRun before now after =
-    (c : Configuration) (programs : List (List ℕ)) → IsChecked c → IsAccepted c → IsRunSearch c programs now.tick before → before.reader ≡ None
-    → IsRunState c programs now → now.tick % before.longest ≡ 0 → IsRunSearch c programs now.tick after
+    (c : Configuration) (programs : List (List ℕ)) → IsRunSearch c programs now.tick before → IsRunState c programs now
+    → now.tick % before.longest ≡ 0 → IsRunSearch c programs now.tick after

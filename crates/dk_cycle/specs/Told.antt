@@ -1,8 +1,7 @@
 -- What was found, and what it says of every tick.
-use Rattle.std.specs.Prelude.{ℕ, ◌≡◌, ◌+◌, ◌<◌, List, [], length, None, slice_index_or, IfSome}
+use Rattle.std.specs.Prelude.{ℕ, ◌≡◌, ◌+◌, ◌<◌, List, [], Option, Some, None, slice_index_or, IfSome}
 use Rattle.dk_config.specs.Configuration.{Configuration}
 use Rattle.dk_config.specs.Checked.{IsChecked, IsAccepted}
-use Rattle.dk_alone.specs.Alone.{ReadsNoTick}
 use Rattle.dk_alone.specs.Again.{WindowBegins}
 use Rattle.dk_cycle.specs.declared.keeping.Keeping.TheVariants as kind
 use Rattle.dk_cycle.specs.declared.own.OwnSearch.{OwnSearch}
@@ -10,22 +9,29 @@ use Rattle.dk_cycle.specs.declared.run.RunSearch.{RunSearch}
 use Rattle.dk_cycle.specs.declared.Cycle.{Cycle}
 use Rattle.dk_cycle.specs.declared.told.OwnTold.{OwnTold}
 use Rattle.dk_cycle.specs.declared.told.RunTold.{RunTold}
-use Rattle.dk_cycle.specs.Keeping.{IsKeeping, ReadsTick}
+use Rattle.dk_cycle.specs.Keeping.{IsKeeping}
 use Rattle.dk_cycle.specs.Own.{IsOwnSearch}
-use Rattle.dk_cycle.specs.Run.{IsRunSearch}
+use Rattle.dk_cycle.specs.Run.{IsLastReader, IsRunSearch}
 use Rattle.dk_cycle.specs.Repeating.{RepeatsForEver, RepeatsWhateverOthersDo}
 
+-- who reads the tick, where no cycle was found
+abbrev pub reader_by : Option Cycle → Option ℕ → Option ℕ
+reader_by (Some y) reader = None
+reader_by None reader = reader
+
 abbrev pub run_told : RunSearch → RunTold
-run_told search = record { reader = search.reader; cycle = search.cycle }
+run_told search = record { reader = reader_by search.cycle search.reader; cycle = search.cycle }
 
 abbrev pub own_told : OwnSearch → OwnTold
 own_told search = record { process = search.process; keeping = search.keeping; cycle = search.cycle }
 
--- a program reads the tick, or none does; and the run repeats for ever
+-- The run repeats for ever. Where that isn't told, a thread of the process that is named read the tick, last of all that did in
+-- so many ticks; or nobody did in them.
 pub record IsRunTold (c : Configuration) (programs : List (List ℕ)) (told : RunTold) : Type 0 where
-  pub reader : IfSome told.reader (λ p. (p < length c.processes) × ReadsTick (slice_index_or programs p []))
-  pub quiet : told.reader ≡ None → (p : ℕ) → p < length c.processes → ReadsNoTick (slice_index_or programs p [])
+  pub ticks : ℕ
   pub cycle : IfSome told.cycle (λ y. RepeatsForEver c programs y.start y.length)
+  pub reader : told.cycle ≡ None → IsLastReader c programs ticks told.reader
+  pub alone : (y : Cycle) → told.cycle ≡ Some y → told.reader ≡ None
 
 -- from a start of its windows on the process repeats in every run
 pub record HasCycle (c : Configuration) (programs : List (List ℕ)) (p : ℕ) (y : Cycle) : Type 0 where

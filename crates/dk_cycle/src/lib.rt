@@ -5,12 +5,14 @@
 
 mod keeping;
 mod own;
+mod reading;
 mod run;
 mod told;
 mod waiting;
 
 pub use keeping::Keeping;
 pub use own::{MainState, OwnSearch};
+pub use reading::{is_behind_read, quiet_caller};
 pub use run::{ProcessState, RunSearch, RunState, ThreadState};
 pub use told::{OwnTold, RunTold, own_told, run_told, told_law};
 pub use waiting::{WaitWatch, Waits, waits_law, waits_told};

@@ -1,19 +1,17 @@
 //! The search for a cycle of a whole run.
-ghost use Rattle.std.specs.Prelude.{ℕ, List, [], ◌≡◌, ◌+◌, ◌<◌, ◌%◌, ◌&&◌, length, slice_index_or, true, false, None, IfSome};
+ghost use Rattle.std.specs.Prelude.{ℕ, List, ◌≡◌, ◌<◌, ◌%◌, length, true, is_some, IfSome};
 ghost use Rattle.std.specs.Int.{◌∣◌};
 ghost use Rattle.std.specs.Option.{option_map_or};
 ghost use Rattle.dk_config.specs.Checked.{IsChecked, IsWithinLimits};
 ghost use Rattle.dk_config.specs.Windows.{period};
-ghost use Rattle.dk_alone.specs.Alone.{ReadsNoTick};
 ghost use Rattle.dk_repeat.specs.Repeat.{keeps_threads};
-ghost use Rattle.dk_cycle.specs.Keeping.{ReadsTick};
-ghost use Rattle.dk_cycle.specs.Run.{AreSame, AreSameThreads, IsSameProcess};
+ghost use Rattle.dk_cycle.specs.Run.{AreSame, AreSameThreads, GoesOn, IsSameProcess, last_reader};
 
 use crate::Cycle;
 use crate::own::{period_of, same_context};
 use dk_config::Config;
 use dk_cpu::Context;
-use dk_repeat::{clock_law, kept_law};
+use dk_repeat::{kept_law, reads_law};
 use dk_trace::{Entry, Event};
 
 /// A thread, by its serial, and its context.
@@ -42,11 +40,11 @@ pub struct RunState {
 pub struct RunSearch {
     /// A multiple of all periods.
     pub longest: u32,
-    /// The first process whose program reads the tick. Where there is one, no cycle is looked for.
+    /// The process whose thread read the tick last.
     pub reader: Option<u8>,
     /// What the run was at a tick at which the windows of all levels began.
     pub saved: Option<RunState>,
-    /// No thread was made or stopped since.
+    /// No thread was made or stopped since, and the tick wasn't read.
     pub kept: bool,
     /// What was found.
     pub cycle: Option<Cycle>,
@@ -109,6 +107,24 @@ fn keeps_threads(entry: &Entry) -> bool
     }
 }
 
+/// Whether a search goes on to keep what it keeps: no thread was made or stopped so far, nor is one in this entry, and nobody
+/// read the tick in it.
+fn goes_on(kept: bool, entry: &Entry, reader: Option<u8>) -> bool
+    ensures { result ≡ true → GoesOn kept entry.now reader }
+{
+    kept && keeps_threads(entry) && reader.is_none()
+}
+
+/// Who read the tick last, where it was read by this process before, and then by that one.
+fn last_reader(before: Option<u8>, now: Option<u8>) -> Option<u8>
+    ensures { result ≡ last_reader before now }
+{
+    match now {
+        Some(process) => Some(process),
+        None => before,
+    }
+}
+
 /// The longest period, a multiple of all.
 fn longest_of(config: &Config) -> u32
     requires checked { IsChecked config.now }
@@ -123,18 +139,15 @@ impl RunSearch {
     ghost use Rattle.dk_config.specs.Checked.{IsWithinLimits};
     ghost use Rattle.dk_cycle.specs.Run.{Follows, IsFoundRun, IsRunSearch, LooksAtRun};
 
-    /// Before the first tick. No program reads the tick, or that of this process does.
-    pub fn new(config: &Config, reader: Option<u8>) -> RunSearch
+    /// Before the first tick.
+    pub fn new(config: &Config) -> RunSearch
         requires checked { IsChecked config.now }
         requires limits { IsWithinLimits config.now }
-        ensures run { (programs : List (List ℕ))
-            → (reader ≡ None → (p : ℕ) → p < length config.now.processes → ReadsNoTick (slice_index_or programs p []))
-            → IfSome reader (λ p. (p < length config.now.processes) × ReadsTick (slice_index_or programs p []))
-            → IsRunSearch config.now programs 0 result }
+        ensures run { (programs : List (List ℕ)) → IsRunSearch config.now programs 0 result }
     {
         RunSearch {
             longest: longest_of(config),
-            reader,
+            reader: None,
             saved: None,
             kept: true,
             cycle: None,
@@ -143,9 +156,9 @@ impl RunSearch {
 
     /// Whether nothing is looked for any more.
     pub fn is_done(&self) -> bool
-        ensures { result ≡ false → self.now.reader ≡ None }
+        ensures { result ≡ is_some self.now.cycle }
     {
-        self.reader.is_some() || self.cycle.is_some()
+        self.cycle.is_some()
     }
 
     /// Whether the windows of all levels begin at the tick.
@@ -156,15 +169,18 @@ impl RunSearch {
         tick % self.longest == 0
     }
 
-    /// Looks at the entry of the next tick.
-    pub fn follow(&mut self, entry: &Entry)
-        ensures { Follows self.old entry.now self.new }
+    /// Looks at the entry of the next tick, in which a thread of this process read the tick, or nobody did.
+    pub fn follow(&mut self, entry: &Entry, reader: Option<u8>)
+        ensures { Follows self.old entry.now reader self.new }
     {
         kept_law();
-        self.kept = self.kept && keeps_threads(entry);
+        reads_law();
+        self.kept = goes_on(self.kept, entry, reader);
+        self.reader = last_reader(self.reader, reader);
     }
 
-    /// The cycle that ends now, where no thread was made or stopped and the run is what it was at the tick that is kept.
+    /// The cycle that ends now, where no thread was made or stopped, the tick wasn't read, and the run is what it was at the
+    /// tick that is kept.
     fn ends(&self, now: &RunState) -> Option<Cycle>
         ensures { IfSome result (IsFoundRun self.now.saved self.now.kept now.now) }
     {
@@ -186,8 +202,8 @@ impl RunSearch {
         }
     }
 
-    /// Whether a thread was made or stopped since, or what is kept is as old as the run was then, so that the search goes
-    /// on from now (after Brent 1980).
+    /// Whether a thread was made or stopped since or the tick was read, or what is kept is as old as the run was then, so
+    /// that the search goes on from now (after Brent 1980).
     fn is_due(&self, tick: u32) -> bool {
         match &self.saved {
             None => true,
@@ -199,7 +215,6 @@ impl RunSearch {
     pub fn look(&mut self, now: RunState)
         ensures { LooksAtRun self.old now self.new }
     {
-        clock_law();
         if let Some(cycle) = self.ends(&now) {
             self.cycle = Some(cycle);
             return;

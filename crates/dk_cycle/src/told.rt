@@ -1,6 +1,6 @@
 //! What was found, and what it says of every tick.
 ghost use Rattle.std.specs.Prelude.{◌≡◌};
-ghost use Rattle.dk_cycle.specs.Told.{OwnIsTold, RunIsTold, own_told, run_told};
+ghost use Rattle.dk_cycle.specs.Told.{OwnIsTold, RunIsTold, own_told, reader_by, run_told};
 
 use crate::Cycle;
 use crate::keeping::Keeping;
@@ -9,7 +9,7 @@ use crate::run::RunSearch;
 use dk_alone::{again_law, own_repeat_law};
 use dk_repeat::forever_law;
 
-/// The first process whose program reads the tick, and the cycle of the run.
+/// The cycle of the run; where none was found, the process whose thread read the tick last.
 #[derive(Clone, Copy)]
 pub struct RunTold {
     pub reader: Option<u8>,
@@ -24,12 +24,22 @@ pub struct OwnTold {
     pub cycle: Option<Cycle>,
 }
 
+/// Who reads the tick, where no cycle was found.
+fn reader_by(cycle: Option<Cycle>, reader: Option<u8>) -> Option<u8>
+    ensures { result ≡ reader_by cycle reader }
+{
+    match cycle {
+        Some(_) => None,
+        None => reader,
+    }
+}
+
 /// What was found of the run.
 pub fn run_told(search: &RunSearch) -> RunTold
     ensures { result ≡ run_told search.now }
 {
     RunTold {
-        reader: search.reader,
+        reader: reader_by(search.cycle, search.reader),
         cycle: search.cycle,
     }
 }

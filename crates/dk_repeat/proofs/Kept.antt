@@ -2,12 +2,12 @@
 use Rattle.dk_repeat.proofs.Names.{ℕ, ◌≡◌, Bool, true, false, cond, List, [], ◌∷◌, ◌++◌, length, Option, Some, None, refl, sym, ap, ◌∙◌, append-nil, map, is_some, option_or, option_map_or, then_some, and-false, Configuration, or-none, ThreadId, Event, Entry, is_of, stops, is_end, is_delete_of, Thread, family, after_entry, made_by, main_id, keeps_threads, standing}
 
 -- such an event ends nothing and makes nothing
-record Idle (c : Configuration) (p n : ℕ) (event : Option Event) : Type 0 where
-  ends : option_map_or is_end event false ≡ false
-  deletes : (serial : ℕ) → option_map_or (is_delete_of serial) event false ≡ false
-  makes : made_by c p n event ≡ []
+pub record Idle (c : Configuration) (p n : ℕ) (event : Option Event) : Type 0 where
+  pub ends : option_map_or is_end event false ≡ false
+  pub deletes : (serial : ℕ) → option_map_or (is_delete_of serial) event false ≡ false
+  pub makes : made_by c p n event ≡ []
 
-idle : (c : Configuration) (p n : ℕ) (event : Option Event) → option_map_or keeps_threads event true ≡ true → Idle c p n event
+pub idle : (c : Configuration) (p n : ℕ) (event : Option Event) → option_map_or keeps_threads event true ≡ true → Idle c p n event
 idle c p n None h = record { ends = refl; deletes = λ s. refl; makes = refl }
 idle c p n (Some (Event.Create serial level quota)) h = absurd (cc)
 idle c p n (Some (Event.Delete serial)) h = absurd (cc)
@@ -15,7 +15,7 @@ idle c p n (Some Event.Exit) h = absurd (cc)
 idle c p n (Some (Event.Fault kind)) h = absurd (cc)
 idle c p n (Some event) h = record { ends = refl; deletes = λ s. refl; makes = refl }
 
-stops-none : (c : Configuration) (p n : ℕ) (x : ThreadId) (e : Entry) → Idle c p n e.event → stops x e ≡ false
+pub stops-none : (c : Configuration) (p n : ℕ) (x : ThreadId) (e : Entry) → Idle c p n e.event → stops x e ≡ false
 stops-none c p n x e i = rw (i.ends, i.deletes x.serial) (simp and-false)
 
 rows-kept : (n : ℕ) (e : Entry) (xs : List Thread) → ((x : ThreadId) → stops x e ≡ false) → map standing (map (after_entry e n) xs) ≡ map standing xs

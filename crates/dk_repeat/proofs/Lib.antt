@@ -11,3 +11,4 @@ pub mod Stepping
 pub mod Repeating
 pub mod Premises
 pub mod Kept
+pub mod Reading

@@ -1,2 +1,3 @@
 pub mod Repeat
 pub mod Laws
+pub mod Reading

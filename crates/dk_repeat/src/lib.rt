@@ -9,6 +9,7 @@
 #![tactic(auto)]
 
 ghost use Rattle.dk_repeat.specs.Laws.{EntriesKeepThreads, MemoriesRepeat, ProgramsReadNoTick, RunsRepeat, RunsRepeatForEver, SpansRepeat};
+ghost use Rattle.dk_repeat.specs.Reading.{EntriesShowReads};
 
 use dk_bound::{begin_law, cause_law, chosen_law, known_holders_law, standing_law, threads_law};
 use dk_world::{audited_law, length_law};
@@ -70,3 +71,15 @@ pub fn clock_law()
 pub fn kept_law()
     ensures { EntriesKeepThreads }
 {}
+
+/// The entry of a tick, and the context behind it of the thread at a kernel call, show whether the tick was read in it, and by
+/// whom.
+pub fn reads_law()
+    ensures { EntriesShowReads }
+{
+    audited_law();
+    cause_law();
+    chosen_law();
+    threads_law();
+    standing_law();
+}

@@ -1,6 +1,7 @@
 pub mod Places
 pub mod Shown
 pub mod Counting
+pub mod Reading
 pub mod Owning
 pub mod Watching
 pub mod Told

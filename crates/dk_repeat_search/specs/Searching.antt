@@ -24,6 +24,7 @@ pub record AreOwn (c : Configuration) (programs : List (List ℕ)) (tick : ℕ) 
 pub record IsSearching (k : Running) (s : Searches) : Type 0 where
   pub run : IsRunSearch k.config k.programs k.ticks s.run
   pub own : AreOwn k.config k.programs k.ticks s.own.items
+  pub programs : s.programs.items ≡ k.programs
 
 -- after some ticks of the run of this configuration with these programs
 abbrev pub IsSearched : Workload → Searches → Type 0

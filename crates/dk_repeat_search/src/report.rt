@@ -3,7 +3,7 @@ ghost use Rattle.std.specs.Prelude.{◌≡◌, ◌≤◌, ◌<◌, IfOk};
 ghost use Rattle.dk_config.specs.declared.TheConstants.{MAX_RUN_TICKS};
 ghost use Rattle.dk_kernel.specs.Booting.{IsLoaded};
 ghost use Rattle.dk_repeat_report.specs.Lines.{names_of};
-ghost use Rattle.dk_repeat_search.specs.Repeats.{IsRepeatsOf, repeats};
+ghost use Rattle.dk_repeat_search.specs.Repeats.{IsRepeatsOf, KnowsReader, repeats, searched_ticks};
 ghost use Rattle.dk_repeat_search.specs.Counting.{IsFound};
 
 use crate::count::{Found, count_run, shares_of};
@@ -57,7 +57,8 @@ fn searched_by<L: Ledger>(
     requires name { blank.name ≡ L.name }
     requires parts { blank.parts ≡ L.parts }
     requires some { 0 < L.parts }
-    ensures { IfOk result (IsFound loaded) }
+    ensures found { IfOk result (IsFound loaded) }
+    ensures reader { IfOk result (λ found. KnowsReader loaded ticks found.run) }
 {
     let mut searches = Searches::of(alloc, &loaded)?;
     let shares = shares_of(alloc, &loaded)?;
@@ -91,17 +92,25 @@ fn searched_by<L: Ledger>(
     }
 }
 
-/// What is found in so many ticks.
-fn searched(alloc: Global, loaded: Loaded, ticks: u32) -> Result<Found, NoMemory>
-    requires { IsLoaded loaded }
-    ensures { IfOk result (IsFound loaded) }
+/// The ticks that a search takes.
+fn searched_ticks(ticks: u32) -> u32
+    ensures is { result ≡ searched_ticks ticks }
+    ensures few { result ≤ MAX_RUN_TICKS }
 {
-    let few = if ticks < MAX_RUN_TICKS {
+    if ticks < MAX_RUN_TICKS {
         ticks
     } else {
         MAX_RUN_TICKS
-    };
-    searched_by::<Brand>(alloc, loaded, few, Blank::new(1))
+    }
+}
+
+/// What is found in so many ticks.
+fn searched(alloc: Global, loaded: Loaded, ticks: u32) -> Result<Found, NoMemory>
+    requires { IsLoaded loaded }
+    ensures found { IfOk result (IsFound loaded) }
+    ensures reader { IfOk result (λ found. KnowsReader loaded (searched_ticks ticks) found.run) }
+{
+    searched_by::<Brand>(alloc, loaded, searched_ticks(ticks), Blank::new(1))
 }
 
 fn repeats_whole(told: RunTold) -> bool

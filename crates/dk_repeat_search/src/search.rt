@@ -1,18 +1,18 @@
 //! The searches for the cycles of a run and of each of its processes, tick by tick.
-ghost use Rattle.std.specs.Prelude.{ℕ, [], ◌≡◌, ◌+◌, ◌<◌, ◌≤◌, All, length, map, slice_index_or, true, false, None, IfOk, IfSome, OnOk};
+ghost use Rattle.std.specs.Prelude.{ℕ, [], ◌∷◌, ◌≡◌, ◌+◌, ◌≤◌, ◌<◌, All, map, slice_index_or, true, None, is_some, IfOk, OnOk};
 ghost use Rattle.dk_config.specs.declared.TheConstants.{MAX_TICKS};
-ghost use Rattle.dk_alone.specs.Alone.{ReadsNoTick};
-ghost use Rattle.dk_cycle.specs.Keeping.{ReadsTick};
+ghost use Rattle.dk_world.specs.Run.{trace};
 ghost use Rattle.dk_cycle.specs.Own.{IsOwnSearch};
+ghost use Rattle.dk_cycle.specs.Run.{IsReader};
 ghost use Rattle.dk_kernel.specs.Booting.{IsLoaded};
 ghost use Rattle.dk_repeat_search.specs.Searching.{AreOwn, process_of};
 
 use crate::states::{main_state, run_state};
 use dk_config::{MAX_TICKS, NoMemory};
-use dk_cycle::{OwnSearch, RunSearch};
-use dk_isa::holds_call;
+use dk_cycle::{OwnSearch, RunSearch, is_behind_read, quiet_caller};
 use dk_kernel::Kernel;
-use dk_loader::Loaded;
+use dk_loader::{Code, Loaded};
+use dk_repeat::reads_law;
 use dk_steps::Steps;
 use dk_trace::Entry;
 use std::alloc::Global;
@@ -23,12 +23,21 @@ use std::sync::ledger::Ledger;
 pub(crate) struct Searches {
     pub(crate) run: RunSearch,
     pub(crate) own: Vec<OwnSearch>,
+    /// The programs of the run, in which a call that reads the tick is looked up.
+    pub(crate) programs: Vec<Code>,
 }
 
-/// The number of the call that reads the tick.
-const TIME: u8 = 9;
-
 /// The bytes of the process's program.
+fn bytes_of(programs: &[Code], process: usize) -> &[u8]
+    ensures { result.now ≡ slice_index_or programs.now process [] }
+{
+    match programs.get(process) {
+        Some(program) => program.bytes(),
+        None => &[],
+    }
+}
+
+/// The same, before the first tick.
 fn program_of(loaded: &Loaded, process: usize) -> &[u8]
     ensures { result.now ≡ slice_index_or loaded.now.programs process [] }
 {
@@ -38,20 +47,34 @@ fn program_of(loaded: &Loaded, process: usize) -> &[u8]
     }
 }
 
-/// The first process whose program reads the tick.
-fn reader_of(loaded: &Loaded) -> Option<u8>
-    requires { IsLoaded loaded.now }
-    ensures some { IfSome result (λ p. (p < length loaded.now.config.processes)
-        × ReadsTick (slice_index_or loaded.now.programs p [])) }
-    ensures none { result ≡ None → (p : ℕ) → p < length loaded.now.config.processes
-        → ReadsNoTick (slice_index_or loaded.now.programs p []) }
+/// Copies of the programs.
+fn copies_of(alloc: Global, programs: &[Code]) -> Result<Vec<Code>, NoMemory>
+    ensures { IfOk result (λ copies. copies.items ≡ programs.now) }
 {
-    for process in 0..loaded.config.processes.len() {
-        if holds_call(program_of(loaded, process), TIME) {
-            return Some(process as u8);
-        }
+    let mut copies = Vec::new(alloc);
+    for program in programs {
+        copies.push(Code::new(program.bytes().to_vec(alloc)?))?;
     }
-    None
+    Ok(copies)
+}
+
+/// The process whose thread read the tick in the kernel's last tick, which has this entry.
+fn reader_of(programs: &[Code], kernel: &Kernel, entry: &Entry) -> Option<u8>
+    requires { programs.now ≡ kernel.now.programs }
+    ensures { (n : ℕ) → kernel.now.ticks ≡ n + 1
+        → trace kernel.now.config kernel.now.programs (n + 1) ≡ entry.now ∷ trace kernel.now.config kernel.now.programs n
+        → IsReader kernel.now.config kernel.now.programs n entry.now result }
+{
+    reads_law();
+    kernel.dispatcher();
+    let thread = quiet_caller(entry)?;
+    let context = kernel.context(thread)?;
+    let program = bytes_of(programs, thread.process as usize);
+    if is_behind_read(program, &context) {
+        Some(thread.process)
+    } else {
+        None
+    }
 }
 
 /// The search for the cycle of each process, before the first tick.
@@ -108,7 +131,6 @@ fn look_all(
 }
 
 impl Searches {
-    ghost use Rattle.std.specs.Prelude.{◌∷◌};
     ghost use Rattle.dk_kernel.specs.Running.{trace_of};
     ghost use Rattle.dk_repeat_search.specs.Searching.{IsSearching, begun};
 
@@ -118,8 +140,9 @@ impl Searches {
         ensures { IfOk result (IsSearching (begun loaded.now)) }
     {
         Ok(Searches {
-            run: RunSearch::new(&loaded.config, reader_of(loaded)),
+            run: RunSearch::new(&loaded.config),
             own: own_searches(alloc, loaded)?,
+            programs: copies_of(alloc, loaded.programs.as_slice())?,
         })
     }
 
@@ -150,7 +173,9 @@ impl Searches {
     }
 
     /// Whether nothing is looked for any more.
-    pub(crate) fn is_done(&self) -> bool {
+    pub(crate) fn is_done(&self) -> bool
+        ensures { result ≡ true → is_some self.now.run.cycle ≡ true }
+    {
         self.run.is_done() && self.own.iter().all(|search| search.is_done())
     }
 
@@ -163,7 +188,9 @@ impl Searches {
         ensures is { IsSearching kernel.new self.new }
     {
         let entry = kernel.tick(steps);
-        self.run.follow(&entry);
+        kernel.dispatcher();
+        let reader = reader_of(self.programs.as_slice(), kernel, &entry);
+        self.run.follow(&entry, reader);
         entry
     }
 
@@ -181,6 +208,7 @@ impl Searches {
         ensures config { kernel.new.config ≡ kernel.old.config }
         ensures programs { kernel.new.programs ≡ kernel.old.programs }
         ensures ticks { kernel.new.ticks ≤ kernel.old.ticks + ticks }
+        ensures all { OnOk result (self.new.run.cycle ≡ None → kernel.new.ticks ≡ kernel.old.ticks + ticks) }
     {
         self.look(alloc, kernel)?;
         for step in 0..ticks {

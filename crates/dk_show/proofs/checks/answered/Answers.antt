@@ -13,11 +13,11 @@ use Rattle.dk_show.proofs.checks.answered.Goals as goal
 pub returns-in-Some-clause-plans : goal.returns-in-Some-clause-plans
 returns-in-Some-clause-plans g c =
     let files = (g.D.Depot.seen c.args.depot.now).files in
-    let a = c.args.asked.now in
+    let a = c.args.ready in
     let f = c.args.request.now.form in
     let result = c.with_ledger.result in
     let named = subst (λ (name : List ℕ). IfSome files (λ at. Plans (IsOfNamed at name MAX_LEDGER_BYTES why.LongLedger
-    (λ bytes. IsOfNeeds f a.config (Some bytes) a.needs)) result)) c.as_str.ensures c.with_ledger.ensures.plans in
+    (λ bytes. IsOfNeeds f a.layout (Some bytes) a.needs)) result)) c.as_str.ensures c.with_ledger.ensures.plans in
     subst (λ (o : Option (List ℕ)). IfSome files (λ at. Plans (IsOfCheck at f o a) result)) (sym c.in-Some.is) named
 
 pub returns-in-Some-clause-asks : goal.returns-in-Some-clause-asks
@@ -33,14 +33,14 @@ returns-in-Some-clause-asks g c =
 pub returns-in-None-clause-plans : goal.returns-in-None-clause-plans
 returns-in-None-clause-plans g c =
     let files = (g.D.Depot.seen c.args.depot.now).files in
-    let a = c.args.asked.now in
+    let a = c.args.ready in
     let f = c.args.request.now.form in
-    let result = c.without_ledger.result in
-    subst (λ (o : Option (List ℕ)). IfSome files (λ at. Plans (IsOfCheck at f o a) result)) (sym c.in-None.is) (in_any files c.without_ledger.ensures.plans)
+    let result = c.of_ready.result in
+    subst (λ (o : Option (List ℕ)). IfSome files (λ at. Plans (IsOfCheck at f o a) result)) (sym c.in-None.is) (in_any files c.of_ready.ensures.plans)
 
 pub returns-in-None-clause-asks : goal.returns-in-None-clause-asks
 returns-in-None-clause-asks g c =
     let files = (g.D.Depot.seen c.args.depot.now).files in
     let view = g.D.Depot.seen c.args.depot.now in
-    subst (λ (o : Option (List ℕ)). Asks files (λ at. handed_ledger at o) (λ at. MissesLedger at o) view view c.without_ledger.result) (sym c.in-None.is)
-    (asks_nothing files view c.without_ledger.result)
+    subst (λ (o : Option (List ℕ)). Asks files (λ at. handed_ledger at o) (λ at. MissesLedger at o) view view c.of_ready.result) (sym c.in-None.is)
+    (asks_nothing files view c.of_ready.result)

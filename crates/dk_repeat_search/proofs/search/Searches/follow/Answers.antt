@@ -1,0 +1,13 @@
+use Rattle.std.proofs.Common.{◌∙◌, sym, ap}
+use Rattle.dk_kernel.specs.Running.{Running}
+use Rattle.dk_repeat_search.proofs.Reading.{searching-next}
+use Rattle.dk_repeat_search.proofs.search.Searches.follow.Goals as goal
+
+pub reader_of-reader-requires : goal.reader_of-reader-requires
+reader_of-reader-requires g c =
+    c.as_slice.ensures.value ∙ c.requires.is.programs ∙ sym (ap (λ (r : Running). r.programs) c.tick-entry.ensures.next)
+
+pub returns-clause-is : goal.returns-clause-is
+returns-clause-is g c =
+    searching-next c.args.kernel.now c.tick-entry.new.self c.args.self.now c.tick-entry.result c.reader_of-reader.result c.follow.new.self
+    c.tick-entry.ensures.next c.tick-entry.ensures.entry c.dispatcher.ensures.ruled.checked c.dispatcher.ensures.ruled.accepted c.requires.is c.reader_of-reader.ensures c.follow.ensures
