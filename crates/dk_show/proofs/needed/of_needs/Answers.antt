@@ -1,4 +1,17 @@
-use Rattle.std.proofs.Common.{inl, inr}
-use Rattle.dk_show.specs.Needed.{IsOfAll, IsTold}
+use Rattle.std.proofs.Common.{ℕ, List, inl, subst}
+use Rattle.std.specs.Prelude.{Option, option_map}
+use Rattle.dk_config.specs.Configuration.{Configuration}
+use Rattle.dk_show.specs.Needed.{IsFound, IsOfAll, IsTold}
 use Rattle.dk_show.proofs.Planning.{plans_wider}
 use Rattle.dk_show.proofs.needed.of_needs.Goals as goal
+
+pub returns-clause-plans : goal.returns-clause-plans
+returns-clause-plans c =
+    let f = c.args.form in
+    let l = c.args.layout in
+    let needs = c.args.needs.now in
+    let ledger = option_map (λ s. s.now) c.args.ledger in
+    let found = c.in_ok-found.found in
+    let is = subst (λ (x : Configuration). IsFound x ledger needs.rows found) c.config.ensures.is c.in_ok-found.ensures.found in
+    plans_wider (IsTold f l needs found) (IsOfAll f l ledger needs)
+    (λ text ended told. inl (record { found = found; is = is; told = told })) c.of_found.result c.of_found.ensures.plans

@@ -2,7 +2,7 @@ use Rattle.std.proofs.Common.{◌∙◌, refl}
 use Rattle.dk_window_table.proofs.KeptTable.{kept_csv_is}
 use Rattle.dk_show.proofs.windows.table_work.Goals as goal
 
-pub returns-clause-plans : goal.returns-in_ok-table-clause-plans
+pub returns-clause-plans : goal.returns-clause-plans
 returns-clause-plans c = λ past is text has.
     let report = c.args.report.now in
     (has ∙ c.new.ensures ∙ c.in_ok-table.ensures.wrote ∙ kept_csv_is report.heading past report.kept is, refl)
