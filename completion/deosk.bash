@@ -1,11 +1,12 @@
 # Completion of deosk, deosk-show and try for bash: `source completion/deosk.bash`, or a link to this file among bash's completions.
 # It gives the commands, their flags, and for each word the files of its kind.
 
-# the files with this ending, and the folders
+# the files with these endings, and the folders
 _deosk_files() {
-    local IFS=$'\n'
+    local IFS=$'\n' end found
     compopt -o filenames 2>/dev/null
-    COMPREPLY=($(compgen -f -X "!*$1" -- "$word"; compgen -d -- "$word"))
+    found=$(for end; do compgen -f -X "!*$end" -- "$word"; done; compgen -d -- "$word")
+    COMPREPLY=($found)
 }
 
 _deosk_processes() {
@@ -64,7 +65,7 @@ _deosk_show_arguments() {
     chain:*:-*) COMPREPLY=($(compgen -W --ledger -- "$word")) ;;
     chain:[2-9]:* | chain:[1-3][0-9]:*) _deosk_processes "${COMP_WORDS[first + 1]}" ;;
     svg:1:* | trace:1:* | vcd:1:* | csv:1:* | windows:1:* | holds:1:* | check:3:*) _deosk_files .txt ;;
-    replay:1:*) _deosk_files .profile ;;
+    replay:1:*) _deosk_files .profile .csv ;;
     replay:3:*) _deosk_files .toml ;;
     *:1:* | holds:2:* | impact:2:* | check:2:*) _deosk_files .toml ;;
     esac
