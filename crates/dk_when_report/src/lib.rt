@@ -6,4 +6,4 @@
 mod records;
 mod timings;
 
-pub use timings::{when, when_csv};
+pub use timings::{Timing, timing_of, when, when_csv};

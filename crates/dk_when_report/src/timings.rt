@@ -32,7 +32,8 @@ pub struct Timing {
     pub margin: u32,
 }
 
-fn timing_of(config: &Config, process: u32) -> Timing
+/// What the line of the process tells.
+pub fn timing_of(config: &Config, process: u32) -> Timing
     requires checked { IsChecked config.now }
     requires limits { IsWithinLimits config.now }
     requires process { process < length config.now.processes }
