@@ -1,0 +1,10 @@
+pub mod Cells
+pub mod LevelRows
+pub mod TimingRows
+pub mod Tiles
+pub mod Sections
+pub mod Pages
+pub use Rattle.dk_config.specs.Checked
+pub use Rattle.dk_config_report.specs.Pages
+pub use Rattle.dk_config.specs.Ahead
+pub use Rattle.dk_outside.specs.Written
