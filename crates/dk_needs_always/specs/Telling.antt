@@ -42,7 +42,7 @@ abbrev pub repeating_by : Option ℕ → Option Cycle → Repeating
 repeating_by (Some p) cycle = Repeating.ReadsTick p
 repeating_by None cycle = cycle_told cycle
 
--- whether the run repeats; nothing is told of one in which a program reads the tick
+-- whether the run repeats; where no cycle was found, who read the tick last, if anybody did
 abbrev pub repeating_of : RunTold → Repeating
 repeating_of told = repeating_by told.reader told.cycle
 

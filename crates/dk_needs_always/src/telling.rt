@@ -56,7 +56,7 @@ fn cycle_told(cycle: Option<Cycle>) -> Repeating
     }
 }
 
-/// Whether the run repeats: nothing is told of one in which a program reads the tick.
+/// Whether the run repeats. Where no cycle was found, who read the tick last, if anybody did.
 fn repeating_of(told: RunTold) -> Repeating
     ensures { result ≡ repeating_of told }
 {

@@ -85,7 +85,7 @@ repeating_reason (Repeating.Every start every) = codes "every " ++ decimal every
 repeating_reason (Repeating.NotWithin n) = codes "not within " ++ decimal n
 repeating_reason (Repeating.ReadsTick p) = codes "reads the tick"
 
--- the process whose program reads the tick
+-- the process whose thread read the tick last, where that is told
 abbrev pub repeating_subject : List (List ℕ) → Repeating → List ℕ
 repeating_subject names (Repeating.ReadsTick p) = name_at names p
 repeating_subject names _ = []

@@ -123,7 +123,7 @@ pub(crate) fn repeating_reason(alloc: Global, repeating: Repeating) -> Result<St
     }
 }
 
-/// The process whose program reads the tick.
+/// The process whose thread read the tick last, where that is told.
 pub(crate) fn repeating_subject(names: &[Text], repeating: Repeating) -> &str
     ensures text { result.now ≡ repeating_subject names.now repeating }
     ensures plain { AreNamed names.now → IsPlain result.now }

@@ -72,7 +72,7 @@ pub enum Repeating {
     Every { start: u32, length: u32 },
     /// That isn't known: no cycle was found in so many ticks.
     NotWithin(u32),
-    /// That isn't known: an instruction of this process's program reads the tick.
+    /// That isn't known: no cycle was found, and a thread of this process read the tick, the last that did.
     ReadsTick(u8),
 }
 
