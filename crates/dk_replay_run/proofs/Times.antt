@@ -6,10 +6,11 @@ use Rattle.std.proofs.lemmas.Bool.Decides.{nat_tests}
 use Rattle.dk_config.specs.Configuration.{Configuration}
 use Rattle.dk_profile.specs.declared.steps.Step.{Step}
 use Rattle.dk_profile.specs.declared.steps.Step.TheVariants as kind
-use Rattle.dk_replay_run.specs.Jobs.{BeginsWithWork, FitWindows, HaveRoom, job_steps, job_time, steps_of_jobs, timed_steps, work_times}
+use Rattle.dk_replay_run.specs.Jobs.{BeginsWithWork, FitWindows, HaveRoom, job_steps, job_time, steps_of_jobs, work_times}
+use Rattle.dk_times.specs.Table.{job_of}
 use Rattle.dk_replay_run.proofs.Room.{some-job}
 
-one-same : (call ticks n : ℕ) → ticks - call ≡ n → timed_steps call ticks ≡ job_steps n
+one-same : (call ticks n : ℕ) → ticks - call ≡ n → job_of call ticks ≡ job_steps n
 one-same call ticks zero is =
     let test : nat_lt call ticks ≡ false = grind (arith, nat_tests) in
     rw test refl
@@ -17,10 +18,10 @@ one-same call ticks (suc n) is =
     let test : nat_lt call ticks ≡ true = grind (arith, nat_tests) in
     rw test (ap (λ k. kind.Work k ∷ kind.Wait ∷ []) is)
 
-pub same-steps : (call : ℕ) (times : List ℕ) → flat_map (timed_steps call) times ≡ steps_of_jobs (work_times call times)
+pub same-steps : (call : ℕ) (times : List ℕ) → flat_map (job_of call) times ≡ steps_of_jobs (work_times call times)
 same-steps call [] = refl
 same-steps call (ticks ∷ times) =
-    ap (λ (l : List Step). l ++ flat_map (timed_steps call) times) (one-same call ticks (ticks - call) refl)
+    ap (λ (l : List Step). l ++ flat_map (job_of call) times) (one-same call ticks (ticks - call) refl)
     ∙ ap (λ (l : List Step). job_steps (ticks - call) ++ l) (same-steps call times)
 
 pub have-room : (c : Configuration) (p : ℕ) (times : List ℕ) → FitWindows c p times → HaveRoom c p (work_times c.costs.call times)

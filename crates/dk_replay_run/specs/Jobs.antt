@@ -1,5 +1,5 @@
 -- Jobs of a work and a wait: their steps, where each of them begins, and what a window with one has.
-use Rattle.std.specs.Prelude.{ℕ, zero, suc, ◌≡◌, ◌+◌, ◌-◌, ◌*◌, ◌%◌, ◌<◌, ◌≤◌, false, nat_lt, if◌then◌else◌, List, [], ◌∷◌, ◌++◌, length, map, take, replicate, slice_index_or, sum_by, Some}
+use Rattle.std.specs.Prelude.{ℕ, zero, suc, ◌≡◌, ◌+◌, ◌-◌, ◌*◌, ◌%◌, ◌<◌, ◌≤◌, false, List, [], ◌∷◌, ◌++◌, length, map, take, replicate, slice_index_or, sum_by, Some}
 use Rattle.dk_config.specs.Configuration.{Configuration}
 use Rattle.dk_config.specs.Windows.{budget}
 use Rattle.dk_trace.specs.declared.ThreadId.{ThreadId}
@@ -43,11 +43,7 @@ abbrev pub HaveRoom : Configuration → ℕ → List ℕ → Type 0
 HaveRoom c p [] = Unit {0}
 HaveRoom c p (n ∷ times) = (n + c.costs.call + 2 * c.costs.switch ≤ budget c p) × HaveRoom c p times
 
--- the steps of a job that takes so many ticks in all, of which its wait takes those of a call
-abbrev pub timed_steps : ℕ → ℕ → List Step
-timed_steps call ticks = if nat_lt call ticks then Step.Work (ticks - call) ∷ Step.Wait ∷ [] else Step.Wait ∷ []
-
--- how long such jobs work
+-- how long jobs work that take so many ticks in all, of which the wait of each takes those of a call
 abbrev pub work_times : ℕ → List ℕ → List ℕ
 work_times call times = map (λ ticks. ticks - call) times
 

@@ -9,8 +9,10 @@ use Rattle.dk_trace.specs.Entries.{does, is_budget_of, is_wait}
 use Rattle.dk_alone.specs.Alone.{ReadsNoTick, alone, entries_of}
 use Rattle.dk_alone.specs.Again.{own_window, window_from}
 use Rattle.dk_profile.specs.declared.steps.Step.{Step}
+use Rattle.dk_profile.specs.Steps.{steps_of}
+use Rattle.dk_times.specs.Table.{job_of, table_readings, times_of}
 use Rattle.dk_replay.specs.Code.{program_of}
-use Rattle.dk_replay_run.specs.Jobs.{BeginsWithWork, FitWindows, HaveRoom, StandsReady, job_place, job_time, job_window, steps_of_jobs, timed_steps, work_times}
+use Rattle.dk_replay_run.specs.Jobs.{BeginsWithWork, FitWindows, HaveRoom, StandsReady, job_place, job_time, job_window, steps_of_jobs, work_times}
 
 -- the program of a profile never reads the tick
 abbrev pub ProfilesReadNoTick : Type 0
@@ -65,5 +67,15 @@ abbrev pub UsesItsTimes : Type 0
 UsesItsTimes =
     (c : Configuration) (programs : List (List ℕ)) (p k : ℕ) (times : List ℕ) → IsWithinLimits c → IsChecked c → IsAccepted c
     → p < length c.processes → slots c p ≡ 0 → may_ask c p ≡ false → BeginsWithWork (work_times c.costs.call times) → FitWindows c p times
-    → slice_index_or programs p [] ≡ program_of (flat_map (timed_steps c.costs.call) times)
+    → slice_index_or programs p [] ≡ program_of (flat_map (job_of c.costs.call) times)
     → HasUsed p (slice_index_or times (k % length times) 0 + 2 * c.costs.switch) (window_from c programs p (window_tick c p k))
+
+-- And so of the bytes of a table, in which the column of a name tells these times.
+abbrev pub UsesItsTable : Type 0
+UsesItsTable =
+    (c : Configuration) (programs : List (List ℕ)) (p k : ℕ) (name table : List ℕ) → IsWithinLimits c → IsChecked c → IsAccepted c
+    → p < length c.processes → slots c p ≡ 0 → may_ask c p ≡ false
+    → BeginsWithWork (work_times c.costs.call (times_of c.costs.call name table)) → FitWindows c p (times_of c.costs.call name table)
+    → slice_index_or programs p [] ≡ program_of (steps_of (table_readings c.costs.call name table))
+    → HasUsed p (slice_index_or (times_of c.costs.call name table) (k % length (times_of c.costs.call name table)) 0 + 2 * c.costs.switch)
+    (window_from c programs p (window_tick c p k))

@@ -5,7 +5,7 @@
 //! All rules are this project's own.
 #![tactic(auto)]
 
-ghost use Rattle.dk_replay_run.specs.Laws.{JobsAlone, JobsInTurn, ProfilesReadNoTick, Replays, UsesItsJobs, UsesItsTimes};
+ghost use Rattle.dk_replay_run.specs.Laws.{JobsAlone, JobsInTurn, ProfilesReadNoTick, Replays, UsesItsJobs, UsesItsTable, UsesItsTimes};
 
 use dk_alone::windows_law;
 
@@ -45,4 +45,11 @@ pub fn times_law()
     ensures { UsesItsTimes }
 {
     uses_law();
+}
+
+/// And so of the bytes of a table, in which the column of a name tells these times: with the program of this table.
+pub fn tables_law()
+    ensures { UsesItsTable }
+{
+    times_law();
 }
