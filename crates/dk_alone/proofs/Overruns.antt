@@ -11,13 +11,13 @@ not-false false h = refl
 not-false true h = absurd (cc)
 
 -- no entry of another passes the test
-abbrev IsOwn : ℕ → (Entry → Bool) → Type 0
+abbrev pub IsOwn : ℕ → (Entry → Bool) → Type 0
 IsOwn p test = (e : Entry) → is_of_process p e ≡ false → test e ≡ false
 
 no-more : (n : ℕ) → 0 + n ≡ n
 no-more n = omega arith
 
-count-own : (p : ℕ) (test : Entry → Bool) → IsOwn p test → (es : List Entry) → count_by test es ≡ count_by test (entries_of p es)
+pub count-own : (p : ℕ) (test : Entry → Bool) → IsOwn p test → (es : List Entry) → count_by test es ≡ count_by test (entries_of p es)
 count-own p test own [] = refl
 count-own p test own (e ∷ es) =
     let rest = count-own p test own es in
@@ -28,7 +28,7 @@ count-own p test own (e ∷ es) =
           count_by-cons test e es ∙ ap (λ b. cond b 1 0 + count_by test es) (own e other) ∙ no-more (count_by test es) ∙ rest ∙ ap (count_by test) (sym (filter-out p e es other))
     ]
 
-any-own : (p : ℕ) (test : Entry → Bool) → IsOwn p test → (es : List Entry) → list_any test es ≡ list_any test (entries_of p es)
+pub any-own : (p : ℕ) (test : Entry → Bool) → IsOwn p test → (es : List Entry) → list_any test es ≡ list_any test (entries_of p es)
 any-own p test own [] = refl
 any-own p test own (e ∷ es) =
     let rest = any-own p test own es in

@@ -1,5 +1,5 @@
 -- Which event closes whose window, and what demand and blocking lose: nobody's, one thread's, or those of a whole process.
-use Rattle.std.specs.Prelude.{ℕ, ◌≡◌, ◌+◌, ◌<◌, ◌⊎◌, Bool, true, false, ◌&&◌, ◌==◌, nat_le, if◌then◌else◌, List, ◌∷◌, length, sum_by, Option, Some, is_none}
+use Rattle.std.specs.Prelude.{ℕ, ◌≡◌, ◌+◌, ◌<◌, ◌⊎◌, Bool, true, false, ◌&&◌, ◌==◌, nat_le, if◌then◌else◌, List, ◌∷◌, length, sum_by, Option, Some, None, is_none}
 use Rattle.dk_config.specs.Configuration.{Configuration}
 use Rattle.dk_trace.specs.declared.Event.{Event}
 use Rattle.dk_trace.specs.declared.Entry.{Entry}
@@ -17,7 +17,13 @@ may_close (Some Event.Wait) = true
 may_close (Some Event.Exit) = true
 may_close (Some (Event.Fault kind)) = true
 may_close (Some (Event.Delete serial)) = true
-may_close _ = false
+may_close None = false
+may_close (Some (Event.Create serial level quota)) = false
+may_close (Some (Event.Lock m)) = false
+may_close (Some (Event.Unlock m)) = false
+may_close (Some (Event.Slack amount)) = false
+may_close (Some (Event.Put value)) = false
+may_close (Some (Event.Refused refusal)) = false
 
 pub record WhoCloses (c : Configuration) (e : Entry) (past : List Entry) : Type 0 where
   -- a wait closes its own thread

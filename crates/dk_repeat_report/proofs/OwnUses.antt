@@ -1,9 +1,8 @@
 -- What is told of a process by itself is seen in the entries that it has in its windows.
-use Rattle.std.proofs.Common.{ℕ, suc, ◌≡◌, ◌+◌, ◌-◌, ◌*◌, ◌/◌, ◌≤◌, ◌∙◌, inl, inr, Bool, true, false, cond, List, [], ◌∷◌, length, map, take, Option, Some, None, refl, sym, ap, subst, arith}
+use Rattle.std.proofs.Common.{ℕ, suc, ◌≡◌, ◌+◌, ◌-◌, ◌*◌, ◌/◌, ◌≤◌, ◌∙◌, Bool, true, false, cond, List, [], ◌∷◌, length, map, take, Option, Some, None, refl, sym, ap, subst, arith}
 use Rattle.std.specs.Prelude.{◌==◌, ◌&&◌, ◌||◌, not, nat_lt, if◌then◌else◌, count_by, slice_index_or}
 use Rattle.std.specs.List.{list_any}
 use Rattle.std.specs.Option.{option_map_or}
-use Rattle.std.proofs.lemmas.Bool.{cases_Bool}
 use Rattle.std.proofs.lemmas.Bool.Decides.{nat_tests}
 use Rattle.std.proofs.lemmas.List.{take_all}
 use Rattle.std.proofs.Math.Nat.{mod_self}
@@ -20,7 +19,8 @@ use Rattle.dk_world.specs.Run.{trace}
 use Rattle.dk_world.specs.Laws.{TicksAreCounted}
 use Rattle.dk_alone.specs.Alone.{entries_of, is_of_process}
 use Rattle.dk_alone.specs.Again.{WindowBegins}
-use Rattle.dk_alone.proofs.Own.{filter-in, filter-out, other-main}
+use Rattle.dk_alone.proofs.Own.{other-main}
+use Rattle.dk_alone.proofs.Overruns.{IsOwn, any-own, count-own}
 use Rattle.dk_alone.proofs.Cycles.{begins-cycles, begins-rest}
 use Rattle.dk_report.specs.Counts as counts
 use Rattle.dk_window_report.specs.declared.row.Did.{Did}
@@ -34,32 +34,6 @@ use Rattle.dk_repeat_report.specs.OwnUses.{IsSameOwn, OwnCyclesAreAlike}
 use Rattle.dk_repeat_report.proofs.Windows.{windows}
 
 -- ---- entries of the process
-
-abbrev IsOwn : ℕ → (Entry → Bool) → Type 0
-IsOwn p test = (e : Entry) → is_of_process p e ≡ false → test e ≡ false
-
-no-more : (n : ℕ) → 0 + n ≡ n
-no-more n = omega arith
-
-count-own : (p : ℕ) (test : Entry → Bool) → IsOwn p test → (es : List Entry) → count_by test es ≡ count_by test (entries_of p es)
-count-own p test own [] = refl
-count-own p test own (e ∷ es) =
-    let rest = count-own p test own es in
-    elim (cases_Bool (is_of_process p e)) [
-      | inl is ↦
-          count_by-cons test e es ∙ ap (λ k. cond (test e) 1 0 + k) rest ∙ sym (count_by-cons test e (entries_of p es)) ∙ ap (count_by test) (sym (filter-in p e es is))
-      | inr other ↦
-          count_by-cons test e es ∙ ap (λ b. cond b 1 0 + count_by test es) (own e other) ∙ no-more (count_by test es) ∙ rest ∙ ap (count_by test) (sym (filter-out p e es other))
-    ]
-
-any-own : (p : ℕ) (test : Entry → Bool) → IsOwn p test → (es : List Entry) → list_any test es ≡ list_any test (entries_of p es)
-any-own p test own [] = refl
-any-own p test own (e ∷ es) =
-    let rest = any-own p test own es in
-    elim (cases_Bool (is_of_process p e)) [
-      | inl is ↦ ap (λ b. test e || b) rest ∙ ap (list_any test) (sym (filter-in p e es is))
-      | inr other ↦ ap (λ b. b || list_any test es) (own e other) ∙ rest ∙ ap (list_any test) (sym (filter-out p e es other))
-    ]
 
 count-same : (p : ℕ) (test : Entry → Bool) → IsOwn p test → (es fs : List Entry) → entries_of p es ≡ entries_of p fs → count_by test es ≡ count_by test fs
 count-same p test own es fs same = count-own p test own es ∙ ap (count_by test) same ∙ sym (count-own p test own fs)

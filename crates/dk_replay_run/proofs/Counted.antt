@@ -1,37 +1,11 @@
 -- What is counted in the window of a job: the ticks of the main's budget, and that it waits.
 use Rattle.dk_alone.proofs.Names.{ℕ, zero, suc, ◌≡◌, ◌+◌, ◌-◌, ◌*◌, ◌<◌, inl, inr, Bool, true, false, cond, ◌||◌, List, [], ◌∷◌, ◌++◌, refl, sym, ap, ◌∙◌, arith, count_by, list_any, replicate, cases_Bool, count_by-cons, Configuration, Label, Entry, is_budget_of, does, is_wait, main_id, budget-not, quiet_entry, is_of_process, entries_of}
 use Rattle.std.proofs.Common.{append-nil}
-use Rattle.dk_alone.proofs.Own.{filter-in, filter-out, other-main}
+use Rattle.dk_alone.proofs.Own.{other-main}
+use Rattle.dk_alone.proofs.Overruns.{any-own, count-own}
 use Rattle.dk_replay_run.specs.Jobs.{job_window}
 use Rattle.dk_replay_run.proofs.Turns.{same-self, waits}
 use Rattle.dk_replay_run.proofs.Windows.{joined}
-
--- no entry of another process passes the test
-abbrev IsOwn : ℕ → (Entry → Bool) → Type 0
-IsOwn p test = (e : Entry) → is_of_process p e ≡ false → test e ≡ false
-
-no-more : (n : ℕ) → 0 + n ≡ n
-no-more n = omega arith
-
-count-own : (p : ℕ) (test : Entry → Bool) → IsOwn p test → (es : List Entry) → count_by test es ≡ count_by test (entries_of p es)
-count-own p test own [] = refl
-count-own p test own (e ∷ es) =
-    let rest = count-own p test own es in
-    elim (cases_Bool (is_of_process p e)) [
-      | inl is ↦
-          count_by-cons test e es ∙ ap (λ k. cond (test e) 1 0 + k) rest ∙ sym (count_by-cons test e (entries_of p es)) ∙ ap (count_by test) (sym (filter-in p e es is))
-      | inr other ↦
-          count_by-cons test e es ∙ ap (λ b. cond b 1 0 + count_by test es) (own e other) ∙ no-more (count_by test es) ∙ rest ∙ ap (count_by test) (sym (filter-out p e es other))
-    ]
-
-any-own : (p : ℕ) (test : Entry → Bool) → IsOwn p test → (es : List Entry) → list_any test es ≡ list_any test (entries_of p es)
-any-own p test own [] = refl
-any-own p test own (e ∷ es) =
-    let rest = any-own p test own es in
-    elim (cases_Bool (is_of_process p e)) [
-      | inl is ↦ ap (λ b. test e || b) rest ∙ ap (list_any test) (sym (filter-in p e es is))
-      | inr other ↦ ap (λ b. b || list_any test es) (own e other) ∙ rest ∙ ap (list_any test) (sym (filter-out p e es other))
-    ]
 
 count-replicate : (test : Entry → Bool) (e : Entry) → test e ≡ true → (n : ℕ) (es : List Entry) → count_by test (replicate n e ++ es) ≡ n + count_by test es
 count-replicate test e is zero es = omega arith

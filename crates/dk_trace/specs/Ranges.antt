@@ -48,7 +48,10 @@ HasEvent s (Event.Lock m) = m < MAX_MUTEXES
 HasEvent s (Event.Unlock m) = m < MAX_MUTEXES
 HasEvent s (Event.Slack amount) = amount < 2 ^ 32
 HasEvent s (Event.Put value) = value < 2 ^ 32
-HasEvent s _ = Unit {0}
+HasEvent s Event.Wait = Unit {0}
+HasEvent s Event.Exit = Unit {0}
+HasEvent s (Event.Fault kind) = Unit {0}
+HasEvent s (Event.Refused refusal) = Unit {0}
 
 -- an event is of a thread that executes
 abbrev pub HasOwnEvent : Size → Label → Option Event → Type 0
