@@ -1,3 +1,4 @@
 pub mod Stands
 pub mod Telling
 pub mod Seen
+pub mod Starts

@@ -1,7 +1,8 @@
 -- A run, or a process, that is what it was stands again.
-use Rattle.std.proofs.Common.{ℕ, ◌≡◌, ◌+◌, ◌-◌, ◌<◌, ◌≤◌, ◌%◌, ◌∙◌, ◌∷◌, inl, inr, Bool, true, List, length, Option, Some, None, refl, sym, subst, arith}
+use Rattle.std.proofs.Common.{ℕ, suc, ◌≡◌, ◌+◌, ◌-◌, ◌<◌, ◌≤◌, ◌%◌, ◌∙◌, ◌∷◌, inl, inr, Bool, true, List, length, Option, Some, None, refl, sym, ap, subst, arith}
 use Rattle.std.specs.Prelude.{slice_get, IfSome}
 use Rattle.std.specs.Int.{◌∣◌}
+use Rattle.std.specs.Option.{option_map_or}
 use Rattle.std.proofs.lemmas.Bool.{cases_eq}
 use Rattle.std.proofs.lemmas.Option.{slice_get_within}
 use Rattle.std.proofs.lemmas.Nat.Gcd.{dvd_trans, dvd_of_mod-eq-zero, mod-eq-zero_of_dvd}
@@ -11,7 +12,7 @@ use Rattle.dk_config.specs.Checked.{IsChecked, IsAccepted, IsWithinLimits}
 use Rattle.dk_trace.specs.declared.Entry.{Entry}
 use Rattle.dk_world.specs.Run.{World, world, trace}
 use Rattle.dk_alone.specs.Again.{WindowBegins, ProcessStandsAlike, ProcessStandsAgain}
-use Rattle.dk_repeat.specs.Repeat.{ReadsNoTickNext, WindowsBegin, ThreadsStandAlike, RunStandsAlike, RunStandsAgain}
+use Rattle.dk_repeat.specs.Repeat.{ReadsNoTickNext, WindowsBegin, ThreadsStandAlike, RunStandsAlike, RunStandsAgain, entry_at, keeps_threads, newest}
 use Rattle.dk_repeat.specs.Laws.{EntriesKeepThreads}
 use Rattle.dk_repeat.specs.Reading.{EntriesShowReads, NobodyReads, ReadsTickAt}
 use Rattle.dk_cycle.specs.declared.Cycle.{Cycle}
@@ -22,7 +23,7 @@ use Rattle.dk_cycle.specs.declared.run.ProcessState.{ProcessState}
 use Rattle.dk_cycle.specs.declared.run.RunState.{RunState}
 use Rattle.dk_cycle.specs.declared.run.RunSearch.{RunSearch}
 use Rattle.dk_cycle.specs.Own.{IsFound, IsMainState, IsOwnSearch, IsSavedMain}
-use Rattle.dk_cycle.specs.Run.{AreProcessStates, AreSame, AreSameThreads, IsFoundRun, IsKept, IsLastReader, IsReader, IsRunSearch, IsRunState, IsSameProcess, GoesOn, last_reader}
+use Rattle.dk_cycle.specs.Run.{AreAllProcesses, AreProcessStates, AreSame, AreSameThreads, IsFoundRun, IsKept, IsLongest, IsLastReader, IsReader, IsRunSearch, IsRunState, IsSameProcess, GoesOn, KeepsThreadsFrom, KeepsThreadsIn, last_reader}
 
 begins-by : (c : Configuration) (p tick own : ℕ) → own ≡ period c (main_level c p) → tick % own ≡ 0 → WindowBegins c p tick
 begins-by c p tick own is begins = subst (λ n. tick % n ≡ 0) is begins
@@ -104,7 +105,7 @@ same-more one other many s t before is is' here = λ p u v less there there'.
 
 -- where the processes are the same and the threads stand alike the run does
 stands-alike : (c : Configuration) (w v : World) (one other : List ProcessState) → AreProcessStates c w (length c.processes) one → AreProcessStates c v (length c.processes) other
-    → AreSame one other (length one) → ThreadsStandAlike c w.past v.past → RunStandsAlike c w v
+    → AreAllProcesses one other → ThreadsStandAlike c w.past v.past → RunStandsAlike c w v
 stands-alike c w v one other were are same threads = record {
   threads = threads;
   memory = λ p here.
@@ -117,19 +118,27 @@ stands-alike c w v one other were are same threads = record {
       let among = s.2.threads x has running in
       let mine : ThreadState = record { serial = x.id.serial; context = (w.images p).contexts x.id.serial } in
       let low = slice_get_within s.0.threads.items among.0 mine among.1 in
-      t.2.contexts among.0 mine (sym ((both p s.0 t.0 s.1 t.1).threads among.0 low) ∙ among.1);
+      t.2.contexts among.0 mine (sym ((both p s.0 t.0 s.1 t.1).threads.each among.0 low) ∙ among.1);
 }
   where
     both : (p : ℕ) (s t : ProcessState) → slice_get one p ≡ Some s → slice_get other p ≡ Some t → IsSameProcess s t
-    both p s t is is' = same p s t (slice_get_within one p s is) is is'
+    both p s t is is' = same.each p s t (slice_get_within one p s is) is is'
 
-pub last-divides : (c : Configuration) (i : ℕ) → IsChecked c → IsWithinLimits c → i < length c.levels → period c i ∣ period c (length c.levels - 1)
-last-divides c i checked limits known =
-    let some = limits.some_levels in checked.divides i (length c.levels - 1) (omega (arith, known)) (omega (arith, some))
+pub last-is-longest : (c : Configuration) (n : ℕ) → IsChecked c → IsWithinLimits c → n ≡ period c (length c.levels - 1) → IsLongest c n
+last-is-longest c n checked limits is =
+    let levels = limits.some_levels in
+    record {
+      some = subst (λ m. 0 < m) (sym is) (checked.positive (length c.levels - 1) (omega (arith, levels)));
+      level = length c.levels - 1;
+      known = omega (arith, levels);
+      is = is;
+      divides = λ i known.
+          subst (λ m. period c i ∣ m) (sym is) (checked.divides i (length c.levels - 1) (omega (arith, known)) (omega (arith, levels)));
+    }
 
-begins-all : (c : Configuration) (longest tick : ℕ) → ((i : ℕ) → i < length c.levels → period c i ∣ longest) → tick % longest ≡ 0 → WindowsBegin c tick
-begins-all c longest tick divides begins = λ i known.
-    mod-eq-zero_of_dvd (period c i) (dvd_trans (period c i) (divides i known) (dvd_of_mod-eq-zero longest begins))
+pub begins-all : (c : Configuration) (longest tick : ℕ) → IsLongest c longest → tick % longest ≡ 0 → WindowsBegin c tick
+begins-all c longest tick is begins = λ i known.
+    mod-eq-zero_of_dvd (period c i) (dvd_trans (period c i) (is.divides i known) (dvd_of_mod-eq-zero longest begins))
 
 run-again : (c : Configuration) (programs : List (List ℕ)) (saved : Option RunState) (kept : Bool) (now : RunState) (y : Cycle)
     → IfSome saved (IsKept c programs now.tick kept) → IsRunState c programs now → WindowsBegin c now.tick → IsFoundRun saved kept now y
@@ -152,22 +161,31 @@ run-again c programs saved kept now y keeps is begins found =
       clock = λ n less. was.clock found.still (y.start + n) (omega (arith, start)) (omega (arith, start, sum, less));
     }
 
+cycle-keeps : (c : Configuration) (programs : List (List ℕ)) (saved : Option RunState) (kept : Bool) (now : RunState) (y : Cycle)
+    → IfSome saved (IsKept c programs now.tick kept) → IsFoundRun saved kept now y → KeepsThreadsFrom c programs y.start y.length
+cycle-keeps c programs saved kept now y keeps found =
+    let before = found.before in
+    let was : IsKept c programs now.tick kept before = subst (λ (o : Option RunState). IfSome o (IsKept c programs now.tick kept)) found.is keeps in
+    let later = found.later in
+    let start = found.start in
+    let long = found.lasts in
+    λ n low high. was.keeps found.still n (omega (arith, start, low)) (omega (arith, later, start, long, high))
+
 pub run-with-cycle : (c : Configuration) (programs : List (List ℕ)) (search : RunSearch) (now : RunState) (y : Cycle) → IsRunSearch c programs now.tick search
     → IsRunState c programs now → now.tick % search.longest ≡ 0 → IsFoundRun search.saved search.kept now y
     → IsRunSearch c programs now.tick (record search { cycle = Some y })
 run-with-cycle c programs search now y is state begins found = record {
-  some = is.some;
   longest = is.longest;
   reader = is.reader;
   saved = is.saved;
   cycle = run-again c programs search.saved search.kept now y is.saved state (begins-all c search.longest now.tick is.longest begins) found;
+  keeps = cycle-keeps c programs search.saved search.kept now y is.saved found;
   within = let later = found.later in let start = found.start in let long = found.lasts in omega (arith, later, start, long);
 }
 
 pub run-with-saved : (c : Configuration) (programs : List (List ℕ)) (search : RunSearch) (now : RunState) → IsRunSearch c programs now.tick search → IsRunState c programs now
     → now.tick % search.longest ≡ 0 → IsRunSearch c programs now.tick (record search { saved = Some now; kept = true })
 run-with-saved c programs search now is state begins = record {
-  some = is.some;
   longest = is.longest;
   reader = is.reader;
   saved = record {
@@ -175,14 +193,30 @@ run-with-saved c programs search now is state begins = record {
     come = omega arith;
     threads = λ kept p here. refl;
     clock = λ kept n low high. absurd (omega (arith, low, high));
+    keeps = λ kept n low high. absurd (omega (arith, low, high));
   };
   cycle = is.cycle;
+  keeps = is.keeps;
   within = is.within;
 }
 
+-- the entry of a tick is the one that comes with it
+pub entry-there : (c : Configuration) (programs : List (List ℕ)) (tick : ℕ) (e : Entry) → trace c programs (tick + 1) ≡ e ∷ trace c programs tick → entry_at c programs tick ≡ Some e
+entry-there c programs tick e adds =
+    let one : suc tick ≡ tick + 1 = omega arith in
+    ap (λ n. newest (trace c programs n)) one ∙ ap newest adds
+
+pub kept-in : (c : Configuration) (programs : List (List ℕ)) (tick : ℕ) (e : Entry) → trace c programs (tick + 1) ≡ e ∷ trace c programs tick
+    → option_map_or keeps_threads e.event true ≡ true → KeepsThreadsIn c programs tick
+kept-in c programs tick e adds keeps = λ f is.
+    let both : Some e ≡ Some f = sym (entry-there c programs tick e adds) ∙ is in
+    let same : e ≡ f = cc in
+    subst (λ (g : Entry). option_map_or keeps_threads g.event true ≡ true) same keeps
+
 -- the entry of one more tick
 joined : (c : Configuration) (programs : List (List ℕ)) (tick : ℕ) (kept both : Bool) (o : Option RunState)
-    → (both ≡ true → (kept ≡ true) × ThreadsStandAlike c (trace c programs tick) (trace c programs (tick + 1)) × ReadsNoTickNext c (world c programs tick))
+    → (both ≡ true → (kept ≡ true) × ThreadsStandAlike c (trace c programs tick) (trace c programs (tick + 1)) × ReadsNoTickNext c (world c programs tick)
+    × KeepsThreadsIn c programs tick)
     → IfSome o (IsKept c programs tick kept) → IfSome o (IsKept c programs (tick + 1) both)
 joined c programs tick kept both None more is = tt
 joined c programs tick kept both (Some s) more is = record {
@@ -194,6 +228,12 @@ joined c programs tick kept both (Some s) more is = record {
       elim (cases_eq tick n) [
         | inl same ↦ subst (λ t. ReadsNoTickNext c (world c programs t)) same m.2
         | inr other ↦ is.clock m.0 n low (omega (arith, high, other))
+      ];
+  keeps = λ all n low high.
+      let m = more all in
+      elim (cases_eq tick n) [
+        | inl same ↦ subst (KeepsThreadsIn c programs) same m.3
+        | inr other ↦ is.keeps m.0 n low (omega (arith, high, other))
       ];
 }
 
@@ -240,7 +280,6 @@ pub followed : (c : Configuration) (programs : List (List ℕ)) (tick : ℕ) (se
     → trace c programs (tick + 1) ≡ e ∷ trace c programs tick → IsReader c programs tick e reader
     → IsRunSearch c programs (tick + 1) (record search { reader = last; kept = both })
 followed c programs tick search e reader last both keeping showing goes last-is checked accepted is adds here = record {
-  some = is.some;
   longest = is.longest;
   reader = subst (IsLastReader c programs (tick + 1)) (sym last-is) (reader-more c programs tick e search.reader reader adds here is.reader);
   saved = joined c programs tick search.kept both search.saved (λ all.
@@ -250,7 +289,9 @@ followed c programs tick search e reader last both keeping showing goes last-is 
         g.still,
         subst (λ es. ThreadsStandAlike c (trace c programs tick) es) (sym adds) alike,
         shows.quiet g.keeps (subst (λ (o : Option ℕ). IsReader c programs tick e o) g.none here),
+        kept-in c programs tick e adds g.keeps,
       )) is.saved;
   cycle = is.cycle;
+  keeps = is.keeps;
   within = still-within tick search.cycle is.within;
 }

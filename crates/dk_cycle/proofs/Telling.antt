@@ -10,14 +10,18 @@ use Rattle.dk_repeat.specs.Repeat.{RunStandsAgain}
 use Rattle.dk_repeat.specs.Laws.{RunsRepeatForEver}
 use Rattle.dk_cycle.specs.declared.Cycle.{Cycle}
 use Rattle.dk_cycle.specs.Keeping.{IsKeeping}
-use Rattle.dk_cycle.specs.Repeating.{RepeatsForEver}
+use Rattle.dk_cycle.specs.Start.{StartsFirst}
 use Rattle.dk_cycle.specs.Run.{IsLastReader}
-use Rattle.dk_cycle.specs.Told.{HasCycle, OwnIsTold, RunIsTold, reader_by}
+use Rattle.dk_cycle.specs.Told.{HasCycle, IsRunCycle, OwnIsTold, RunIsTold, reader_by}
 
 run-cycle : (c : Configuration) (programs : List (List ℕ)) (o : Option Cycle) → RunsRepeatForEver → IsChecked c → IsAccepted c
-    → IfSome o (λ y. RunStandsAgain c programs y.start y.length) → IfSome o (λ y. RepeatsForEver c programs y.start y.length)
-run-cycle c programs None law checked accepted again = tt
-run-cycle c programs (Some y) law checked accepted again = λ cycles n. law c programs y.start y.length cycles n checked accepted again
+    → IfSome o (λ y. RunStandsAgain c programs y.start y.length) → IfSome o (StartsFirst c programs) → IfSome o (IsRunCycle c programs)
+run-cycle c programs None law checked accepted again first = tt
+run-cycle c programs (Some y) law checked accepted again first = record {
+  stands = again;
+  repeats = λ cycles n. law c programs y.start y.length cycles n checked accepted again;
+  first = first;
+}
 
 own-cycle : (c : Configuration) (programs : List (List ℕ)) (p : ℕ) (o : Option Cycle) → StandsAgainAsAlone → ProcessesRepeat → IsChecked c → IsAccepted c
     → KeepsToItself c p (slice_index_or programs p []) → IfSome o (λ y. ProcessStandsAgain c programs p y.start y.length) → IfSome o (HasCycle c programs p)
@@ -40,9 +44,9 @@ read-none (Some z) reader y is = refl
 read-none None reader y is = absurd (cc)
 
 pub run-is-told : RunsRepeatForEver → RunIsTold
-run-is-told law c programs tick search checked accepted is = record {
+run-is-told law c programs tick search checked accepted is first = record {
   ticks = tick;
-  cycle = run-cycle c programs search.cycle law checked accepted is.cycle;
+  cycle = run-cycle c programs search.cycle law checked accepted is.cycle first;
   reader = read-last c programs tick search.cycle search.reader is.reader;
   alone = read-none search.cycle search.reader;
 }

@@ -1,5 +1,5 @@
 -- The search for a cycle of a whole run.
-use Rattle.std.specs.Prelude.{ℕ, ◌≡◌, ◌+◌, ◌-◌, ◌<◌, ◌≤◌, ◌%◌, Bool, true, List, ◌∷◌, length, Option, Some, None, slice_get, IfSome}
+use Rattle.std.specs.Prelude.{ℕ, ◌≡◌, ◌+◌, ◌-◌, ◌<◌, ◌≤◌, ◌%◌, Bool, true, List, ◌∷◌, length, Option, Some, None, slice_get, IfSome, is_some}
 use Rattle.std.specs.Int.{◌∣◌}
 use Rattle.std.specs.Option.{option_map_or}
 use Rattle.dk_config.specs.Configuration.{Configuration}
@@ -9,7 +9,7 @@ use Rattle.dk_trace.specs.declared.Entry.{Entry}
 use Rattle.dk_trace.specs.Members.{Has}
 use Rattle.dk_trace.specs.Threads.{Thread, family}
 use Rattle.dk_world.specs.Run.{World, world, trace}
-use Rattle.dk_repeat.specs.Repeat.{ReadsNoTickNext, WindowsBegin, ThreadsStandAlike, RunStandsAgain, keeps_threads}
+use Rattle.dk_repeat.specs.Repeat.{ReadsNoTickNext, WindowsBegin, ThreadsStandAlike, RunStandsAgain, entry_at, keeps_threads}
 use Rattle.dk_repeat.specs.Reading.{NobodyReads, ReadLast, ReadsTickAt}
 use Rattle.dk_cycle.specs.declared.Cycle.{Cycle}
 use Rattle.dk_cycle.specs.declared.run.ThreadState.{ThreadState}
@@ -46,13 +46,31 @@ pub record IsSavedRun (c : Configuration) (programs : List (List ℕ)) (s : RunS
 abbrev pub AreSameThreads : List ThreadState → List ThreadState → ℕ → Type 0
 AreSameThreads one other many = (place : ℕ) → place < many → slice_get one place ≡ slice_get other place
 
+-- as many, and all of them are
+pub record AreAllThreads (one other : List ThreadState) : Type 0 where
+  pub many : length one ≡ length other
+  pub each : AreSameThreads one other (length one)
+
 pub record IsSameProcess (one other : ProcessState) : Type 0 where
   pub memory : one.words.items ≡ other.words.items
-  pub threads : AreSameThreads one.threads.items other.threads.items (length one.threads.items)
+  pub threads : AreAllThreads one.threads.items other.threads.items
 
 abbrev pub AreSame : List ProcessState → List ProcessState → ℕ → Type 0
 AreSame one other many =
     (p : ℕ) (s t : ProcessState) → p < many → slice_get one p ≡ Some s → slice_get other p ≡ Some t → IsSameProcess s t
+
+-- as many, and all of them are the same
+pub record AreAllProcesses (one other : List ProcessState) : Type 0 where
+  pub many : length one ≡ length other
+  pub each : AreSame one other (length one)
+
+-- the run is what it was at the tick that is kept, an earlier one, and what is kept goes on
+pub record IsBackRun (saved : Option RunState) (kept : Bool) (now : RunState) : Type 0 where
+  pub before : RunState
+  pub is : saved ≡ Some before
+  pub still : kept ≡ true
+  pub later : before.tick < now.tick
+  pub same : AreAllProcesses before.processes.items now.processes.items
 
 -- the cycle from the tick that is kept to a later one at which the run is the same
 pub record IsFoundRun (saved : Option RunState) (kept : Bool) (now : RunState) (y : Cycle) : Type 0 where
@@ -62,7 +80,16 @@ pub record IsFoundRun (saved : Option RunState) (kept : Bool) (now : RunState) (
   pub later : before.tick < now.tick
   pub start : y.start ≡ before.tick
   pub lasts : y.length ≡ now.tick - before.tick
-  pub same : AreSame before.processes.items now.processes.items (length before.processes.items)
+  pub same : AreAllProcesses before.processes.items now.processes.items
+
+-- the entry of the tick neither makes nor stops a thread
+abbrev pub KeepsThreadsIn : Configuration → List (List ℕ) → ℕ → Type 0
+KeepsThreadsIn c programs n =
+    (e : Entry) → entry_at c programs n ≡ Some e → option_map_or keeps_threads e.event true ≡ true
+
+-- so many ticks from tick s on
+abbrev pub KeepsThreadsFrom : Configuration → List (List ℕ) → ℕ → ℕ → Type 0
+KeepsThreadsFrom c programs s k = (n : ℕ) → s ≤ n → n < s + k → KeepsThreadsIn c programs n
 
 -- it is of this run, and where no thread was made or stopped since and the tick wasn't read, its threads stand alike then and at
 -- the tick, and no call ended that reads the tick
@@ -71,6 +98,7 @@ pub record IsKept (c : Configuration) (programs : List (List ℕ)) (tick : ℕ) 
   pub come : s.tick ≤ tick
   pub threads : kept ≡ true → ThreadsStandAlike c (trace c programs s.tick) (trace c programs tick)
   pub clock : kept ≡ true → (n : ℕ) → s.tick ≤ n → n < tick → ReadsNoTickNext c (world c programs n)
+  pub keeps : kept ≡ true → (n : ℕ) → s.tick ≤ n → n < tick → KeepsThreadsIn c programs n
 
 -- a thread of this process read the tick in the tick with this entry, or nobody did
 abbrev pub IsReader : Configuration → List (List ℕ) → ℕ → Entry → Option ℕ → Type 0
@@ -93,14 +121,22 @@ abbrev pub last_reader : Option ℕ → Option ℕ → Option ℕ
 last_reader before (Some p) = Some p
 last_reader before None = before
 
--- What a search keeps is of this run, and at the two ticks that it found the run stands alike, and reads no tick between. The
--- later one has come.
+-- it is the longest period, a multiple of all
+pub record IsLongest (c : Configuration) (n : ℕ) : Type 0 where
+  pub some : 0 < n
+  pub level : ℕ
+  pub known : level < length c.levels
+  pub is : n ≡ period c level
+  pub divides : (i : ℕ) → i < length c.levels → period c i ∣ n
+
+-- What a search keeps is of this run, and at the two ticks that it found the run stands alike, reads no tick between, and makes
+-- and stops no thread. The later one has come.
 pub record IsRunSearch (c : Configuration) (programs : List (List ℕ)) (tick : ℕ) (search : RunSearch) : Type 0 where
-  pub some : 0 < search.longest
-  pub longest : (i : ℕ) → i < length c.levels → period c i ∣ search.longest
+  pub longest : IsLongest c search.longest
   pub reader : IsLastReader c programs tick search.reader
   pub saved : IfSome search.saved (IsKept c programs tick search.kept)
   pub cycle : IfSome search.cycle (λ y. RunStandsAgain c programs y.start y.length)
+  pub keeps : IfSome search.cycle (λ y. KeepsThreadsFrom c programs y.start y.length)
   pub within : IfSome search.cycle (λ y. y.start + y.length ≤ tick)
 
 -- a search of a run that looks at the entry of the next tick, and at who read the tick in it, is one up to that tick
@@ -115,3 +151,7 @@ abbrev pub LooksAtRun : RunSearch → RunState → RunSearch → Type 0
 LooksAtRun before now after =
     (c : Configuration) (programs : List (List ℕ)) → IsRunSearch c programs now.tick before → IsRunState c programs now
     → now.tick % before.longest ≡ 0 → IsRunSearch c programs now.tick after
+
+-- where no thread was made or stopped, the tick wasn't read, and the run is what it was at the tick that is kept, a cycle is found
+abbrev pub FindsRun : RunSearch → RunState → RunSearch → Type 0
+FindsRun before now after = IsBackRun before.saved before.kept now → is_some after.cycle ≡ true

@@ -3,6 +3,7 @@ use Rattle.std.specs.Prelude.{ℕ, ◌≡◌, ◌+◌, ◌<◌, List, [], Option
 use Rattle.dk_config.specs.Configuration.{Configuration}
 use Rattle.dk_config.specs.Checked.{IsChecked, IsAccepted}
 use Rattle.dk_alone.specs.Again.{WindowBegins}
+use Rattle.dk_repeat.specs.Repeat.{RunStandsAgain}
 use Rattle.dk_cycle.specs.declared.keeping.Keeping.TheVariants as kind
 use Rattle.dk_cycle.specs.declared.own.OwnSearch.{OwnSearch}
 use Rattle.dk_cycle.specs.declared.run.RunSearch.{RunSearch}
@@ -12,6 +13,7 @@ use Rattle.dk_cycle.specs.declared.told.RunTold.{RunTold}
 use Rattle.dk_cycle.specs.Keeping.{IsKeeping}
 use Rattle.dk_cycle.specs.Own.{IsOwnSearch}
 use Rattle.dk_cycle.specs.Run.{IsLastReader, IsRunSearch}
+use Rattle.dk_cycle.specs.Start.{StartsFirst}
 use Rattle.dk_cycle.specs.Repeating.{RepeatsForEver, RepeatsWhateverOthersDo}
 
 -- who reads the tick, where no cycle was found
@@ -25,11 +27,17 @@ run_told search = record { reader = reader_by search.cycle search.reader; cycle 
 abbrev pub own_told : OwnSearch → OwnTold
 own_told search = record { process = search.process; keeping = search.keeping; cycle = search.cycle }
 
+-- from its start on the run repeats for ever, and at no earlier tick it stands again so many ticks later
+pub record IsRunCycle (c : Configuration) (programs : List (List ℕ)) (y : Cycle) : Type 0 where
+  pub stands : RunStandsAgain c programs y.start y.length
+  pub repeats : RepeatsForEver c programs y.start y.length
+  pub first : StartsFirst c programs y
+
 -- The run repeats for ever. Where that isn't told, a thread of the process that is named read the tick, last of all that did in
 -- so many ticks; or nobody did in them.
 pub record IsRunTold (c : Configuration) (programs : List (List ℕ)) (told : RunTold) : Type 0 where
   pub ticks : ℕ
-  pub cycle : IfSome told.cycle (λ y. RepeatsForEver c programs y.start y.length)
+  pub cycle : IfSome told.cycle (IsRunCycle c programs)
   pub reader : told.cycle ≡ None → IsLastReader c programs ticks told.reader
   pub alone : (y : Cycle) → told.cycle ≡ Some y → told.reader ≡ None
 
@@ -47,7 +55,7 @@ pub record IsOwnTold (c : Configuration) (programs : List (List ℕ)) (told : Ow
 
 abbrev pub RunIsTold : Type 0
 RunIsTold = (c : Configuration) (programs : List (List ℕ)) (tick : ℕ) (search : RunSearch) → IsChecked c → IsAccepted c → IsRunSearch c programs tick search
-    → IsRunTold c programs (run_told search)
+    → IfSome search.cycle (StartsFirst c programs) → IsRunTold c programs (run_told search)
 
 abbrev pub OwnIsTold : Type 0
 OwnIsTold = (c : Configuration) (programs : List (List ℕ)) (tick : ℕ) (search : OwnSearch) → IsChecked c → IsAccepted c → IsOwnSearch c programs tick search

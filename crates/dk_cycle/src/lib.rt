@@ -7,13 +7,15 @@ mod keeping;
 mod own;
 mod reading;
 mod run;
+mod start;
 mod told;
 mod waiting;
 
 pub use keeping::Keeping;
-pub use own::{MainState, OwnSearch};
+pub use own::{MainState, OwnSearch, same_context};
 pub use reading::{is_behind_read, quiet_caller};
 pub use run::{ProcessState, RunSearch, RunState, ThreadState};
+pub use start::StartSearch;
 pub use told::{OwnTold, RunTold, own_told, run_told, told_law};
 pub use waiting::{WaitWatch, Waits, waits_law, waits_told};
 

@@ -51,7 +51,7 @@ pub(crate) fn level_of(config: &Config, process: u8) -> u32
 }
 
 /// Whether two contexts are equal.
-pub(crate) fn same_context(one: &Context, other: &Context) -> bool
+pub fn same_context(one: &Context, other: &Context) -> bool
     ensures same { result ≡ true → one.now ≡ other.now }
     ensures only { one.now ≡ other.now → result ≡ true }
 {

@@ -1,17 +1,16 @@
 //! The search for a cycle of a whole run.
-ghost use Rattle.std.specs.Prelude.{ℕ, List, ◌≡◌, ◌<◌, ◌%◌, length, true, is_some, IfSome};
-ghost use Rattle.std.specs.Int.{◌∣◌};
+ghost use Rattle.std.specs.Prelude.{ℕ, List, ◌≡◌, ◌<◌, ◌%◌, length, true, option_map, is_some, IfSome};
 ghost use Rattle.std.specs.Option.{option_map_or};
 ghost use Rattle.dk_config.specs.Checked.{IsChecked, IsWithinLimits};
-ghost use Rattle.dk_config.specs.Windows.{period};
 ghost use Rattle.dk_repeat.specs.Repeat.{keeps_threads};
-ghost use Rattle.dk_cycle.specs.Run.{AreSame, AreSameThreads, GoesOn, IsSameProcess, last_reader};
+ghost use Rattle.dk_cycle.specs.Start.{with_start};
+ghost use Rattle.dk_cycle.specs.Run.{AreAllProcesses, AreAllThreads, GoesOn, IsLongest, IsSameProcess, last_reader};
 
 use crate::Cycle;
 use crate::own::{period_of, same_context};
 use dk_config::Config;
 use dk_cpu::Context;
-use dk_repeat::{kept_law, reads_law};
+use dk_repeat::{forever_law, kept_law, reads_law};
 use dk_trace::{Entry, Event};
 
 /// A thread, by its serial, and its context.
@@ -51,14 +50,16 @@ pub struct RunSearch {
 }
 
 fn same_thread(one: &ThreadState, other: &ThreadState) -> bool
-    ensures { result ≡ true → one.now ≡ other.now }
+    ensures same { result ≡ true → one.now ≡ other.now }
+    ensures only { one.now ≡ other.now → result ≡ true }
 {
     one.serial == other.serial && same_context(&one.context, &other.context)
 }
 
-/// Whether the threads of the one list are at their places in the other.
+/// Whether the threads of the one list are at their places in the other, and no more are there.
 fn same_threads(one: &[ThreadState], other: &[ThreadState]) -> bool
-    ensures { result ≡ true → AreSameThreads one.now other.now (length one.now) }
+    ensures same { result ≡ true → AreAllThreads one.now other.now }
+    ensures only { AreAllThreads one.now other.now → result ≡ true }
 {
     if one.len() != other.len() {
         return false;
@@ -72,7 +73,8 @@ fn same_threads(one: &[ThreadState], other: &[ThreadState]) -> bool
 }
 
 fn same_process(one: &ProcessState, other: &ProcessState) -> bool
-    ensures { result ≡ true → IsSameProcess one.now other.now }
+    ensures same { result ≡ true → IsSameProcess one.now other.now }
+    ensures only { IsSameProcess one.now other.now → result ≡ true }
 {
     one.words.as_slice() == other.words.as_slice()
         && same_threads(one.threads.as_slice(), other.threads.as_slice())
@@ -80,7 +82,8 @@ fn same_process(one: &ProcessState, other: &ProcessState) -> bool
 
 /// Whether the processes are the same.
 fn same_processes(one: &[ProcessState], other: &[ProcessState]) -> bool
-    ensures { result ≡ true → AreSame one.now other.now (length one.now) }
+    ensures same { result ≡ true → AreAllProcesses one.now other.now }
+    ensures only { AreAllProcesses one.now other.now → result ≡ true }
 {
     if one.len() != other.len() {
         return false;
@@ -109,8 +112,9 @@ fn keeps_threads(entry: &Entry) -> bool
 
 /// Whether a search goes on to keep what it keeps: no thread was made or stopped so far, nor is one in this entry, and nobody
 /// read the tick in it.
-fn goes_on(kept: bool, entry: &Entry, reader: Option<u8>) -> bool
-    ensures { result ≡ true → GoesOn kept entry.now reader }
+pub(crate) fn goes_on(kept: bool, entry: &Entry, reader: Option<u8>) -> bool
+    ensures same { result ≡ true → GoesOn kept entry.now reader }
+    ensures only { GoesOn kept entry.now reader → result ≡ true }
 {
     kept && keeps_threads(entry) && reader.is_none()
 }
@@ -129,15 +133,15 @@ fn last_reader(before: Option<u8>, now: Option<u8>) -> Option<u8>
 fn longest_of(config: &Config) -> u32
     requires checked { IsChecked config.now }
     requires limits { IsWithinLimits config.now }
-    ensures some { 0 < result }
-    ensures longest { (i : ℕ) → i < length config.now.levels → period config.now i ∣ result }
+    ensures { IsLongest config.now result }
 {
     period_of(config, config.levels.len() - 1)
 }
 
 impl RunSearch {
     ghost use Rattle.dk_config.specs.Checked.{IsWithinLimits};
-    ghost use Rattle.dk_cycle.specs.Run.{Follows, IsFoundRun, IsRunSearch, LooksAtRun};
+    ghost use Rattle.dk_cycle.specs.Run.{FindsRun, Follows, IsBackRun, IsFoundRun, IsRunSearch, LooksAtRun};
+    ghost use Rattle.dk_cycle.specs.Start.{StartsAt};
 
     /// Before the first tick.
     pub fn new(config: &Config) -> RunSearch
@@ -182,7 +186,8 @@ impl RunSearch {
     /// The cycle that ends now, where no thread was made or stopped, the tick wasn't read, and the run is what it was at the
     /// tick that is kept.
     fn ends(&self, now: &RunState) -> Option<Cycle>
-        ensures { IfSome result (IsFoundRun self.now.saved self.now.kept now.now) }
+        ensures found { IfSome result (IsFoundRun self.now.saved self.now.kept now.now) }
+        ensures finds { IsBackRun self.now.saved self.now.kept now.now → is_some result ≡ true }
     {
         match &self.saved {
             None => None,
@@ -213,7 +218,8 @@ impl RunSearch {
 
     /// Looks at what the run is now, where the windows of all levels begin.
     pub fn look(&mut self, now: RunState)
-        ensures { LooksAtRun self.old now self.new }
+        ensures run { LooksAtRun self.old now self.new }
+        ensures finds { FindsRun self.old now self.new }
     {
         if let Some(cycle) = self.ends(&now) {
             self.cycle = Some(cycle);
@@ -222,6 +228,20 @@ impl RunSearch {
         if self.is_due(now.tick) {
             self.saved = Some(now);
             self.kept = true;
+        }
+    }
+
+    /// Lets the cycle start at an earlier tick, at which the run stands again as much later.
+    pub fn start_at(&mut self, start: u32)
+        ensures run { StartsAt self.old start self.new }
+        ensures cycle { self.new.cycle ≡ option_map (with_start start) self.old.cycle }
+    {
+        forever_law();
+        if let Some(cycle) = self.cycle {
+            self.cycle = Some(Cycle {
+                start,
+                length: cycle.length,
+            });
         }
     }
 }
