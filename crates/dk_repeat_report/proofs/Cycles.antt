@@ -7,6 +7,7 @@ use Rattle.dk_repeat.specs.Repeat.{entry_at}
 use Rattle.dk_repeat.proofs.Repeating.{spans}
 use Rattle.dk_cycle.specs.declared.Cycle.{Cycle}
 use Rattle.dk_cycle.specs.Repeating.{RepeatsForEver}
+use Rattle.dk_cycle.specs.Told.{IsRunCycle}
 use Rattle.dk_cycle_counts.specs.declared.counts.CycleCounts.{CycleCounts}
 use Rattle.dk_cycle_counts.specs.Counts.{AreCountsOf}
 use Rattle.dk_repeat_report.specs.Cycles.{CyclesAreAlike, IsEachCounted, IsOneCounted, WindowsRepeat, entries_from, shares_of}
@@ -31,8 +32,8 @@ windows-repeat c programs s k p tick repeats later =
 
 -- where one cycle is counted each is
 pub each-counted : (c : Configuration) (programs : List (List ℕ)) (o : Option Cycle) (counts : Option CycleCounts) → CyclesAreAlike
-    → IfSome o (λ y. RepeatsForEver c programs y.start y.length) → IsOneCounted c programs o counts → IsEachCounted c programs o counts
+    → IfSome o (IsRunCycle c programs) → IsOneCounted c programs o counts → IsEachCounted c programs o counts
 each-counted c programs None None law repeats one = tt
 each-counted c programs None (Some k) law repeats one = one
 each-counted c programs (Some y) None law repeats one = one
-each-counted c programs (Some y) (Some k) law repeats one = law c programs y k repeats one
+each-counted c programs (Some y) (Some k) law repeats one = law c programs y k repeats.repeats one

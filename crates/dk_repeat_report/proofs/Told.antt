@@ -47,7 +47,7 @@ pub repeats-text : (c : Configuration) (programs : List (List ℕ)) (ticks : ℕ
     → RunIsTold → OwnIsTold → CyclesAreAlike → OwnCyclesAreAlike → IsChecked c → IsAccepted c → AreOf c programs run counts own
     → text ≡ found_text (names_of c) ticks run counts own → (r : IsRepeats c programs ticks text) × (r.run ≡ run_told run)
 repeats-text c programs ticks run counts own text run-law own-law cycles-law own-cycles-law checked accepted of is =
-    let told = run-law c programs of.tick run checked accepted of.run_is in (
+    let told = run-law c programs of.tick run checked accepted of.run_is of.first in (
       record {
         run = run_told run;
         counts = counts;

@@ -8,6 +8,7 @@ ghost use Rattle.dk_repeat_search.specs.Searching.{begun};
 use crate::search::Searches;
 use dk_config::{MAX_RUN_TICKS, MAX_TICKS, NoMemory};
 use dk_cycle::{OwnSearch, RunTold, WaitWatch, Waits, run_told, told_law, waits_law, waits_told};
+use dk_cycle_start::SecondPass;
 use dk_kernel::Kernel;
 use dk_loader::Loaded;
 use dk_steps::Steps;
@@ -121,7 +122,7 @@ fn all_waits(
     Ok(waits)
 }
 
-/// The ticks of the kernel, whose steps aren't counted.
+/// The ticks of the kernels, whose steps aren't counted.
 fn watched_by<L: Ledger>(
     alloc: Global,
     loaded: Loaded,
@@ -138,10 +139,13 @@ fn watched_by<L: Ledger>(
     told_law();
     waits_law();
     let mut watching = Watching::of(alloc, &loaded)?;
+    let pass = SecondPass::of(alloc, &loaded)?;
     let mut steps = Steps::<L>::new(blank);
     match Kernel::boot(alloc, loaded) {
         Ok(mut kernel) => {
             watching.watch(alloc, &mut kernel, ticks, &mut steps)?;
+            let reached = kernel.now();
+            pass.settle(alloc, &mut watching.searches.run, reached, &mut steps)?;
             let own = watching.searches.own.as_slice();
             let waits = all_waits(alloc, own, watching.watches.as_slice())?;
             Ok(Always {

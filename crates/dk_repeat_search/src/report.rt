@@ -12,6 +12,7 @@ use crate::search::Searches;
 use dk_config::{Config, MAX_RUN_TICKS, NoMemory, Text};
 use dk_config_report::Page;
 use dk_cycle::{RunTold, run_told, told_law};
+use dk_cycle_start::SecondPass;
 use dk_kernel::Kernel;
 use dk_loader::Loaded;
 use dk_repeat_report::{cycles_law, own_cycles_law, repeats_text};
@@ -45,7 +46,8 @@ fn names_of(alloc: Global, config: &Config) -> Result<Vec<Text>, NoMemory>
     Ok(names)
 }
 
-/// The ticks of the kernel, whose steps aren't counted: those of the searches, and those of the cycles that are counted.
+/// The ticks of the kernels, whose steps aren't counted: those of the searches, of the second pass, and of the cycles that are
+/// counted.
 fn searched_by<L: Ledger>(
     alloc: Global,
     loaded: Loaded,
@@ -62,11 +64,13 @@ fn searched_by<L: Ledger>(
 {
     let mut searches = Searches::of(alloc, &loaded)?;
     let shares = shares_of(alloc, &loaded)?;
+    let pass = SecondPass::of(alloc, &loaded)?;
     let mut steps = Steps::<L>::new(blank);
     match Kernel::boot(alloc, loaded) {
         Ok(mut kernel) => {
             searches.search(alloc, &mut kernel, ticks, &mut steps)?;
             let reached = kernel.now();
+            pass.settle(alloc, &mut searches.run, reached, &mut steps)?;
             let counts = count_run(
                 alloc,
                 &mut kernel,

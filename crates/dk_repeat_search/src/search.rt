@@ -1,18 +1,16 @@
 //! The searches for the cycles of a run and of each of its processes, tick by tick.
-ghost use Rattle.std.specs.Prelude.{ℕ, [], ◌∷◌, ◌≡◌, ◌+◌, ◌≤◌, ◌<◌, All, map, slice_index_or, true, None, is_some, IfOk, OnOk};
+ghost use Rattle.std.specs.Prelude.{[], ◌∷◌, ◌≡◌, ◌+◌, ◌≤◌, ◌<◌, All, map, slice_index_or, true, None, is_some, IfOk, OnOk};
 ghost use Rattle.dk_config.specs.declared.TheConstants.{MAX_TICKS};
-ghost use Rattle.dk_world.specs.Run.{trace};
 ghost use Rattle.dk_cycle.specs.Own.{IsOwnSearch};
-ghost use Rattle.dk_cycle.specs.Run.{IsReader};
 ghost use Rattle.dk_kernel.specs.Booting.{IsLoaded};
 ghost use Rattle.dk_repeat_search.specs.Searching.{AreOwn, process_of};
 
 use crate::states::{main_state, run_state};
 use dk_config::{MAX_TICKS, NoMemory};
-use dk_cycle::{OwnSearch, RunSearch, is_behind_read, quiet_caller};
+use dk_cycle::{OwnSearch, RunSearch};
+use dk_cycle_start::{programs_of, reader_of};
 use dk_kernel::Kernel;
 use dk_loader::{Code, Loaded};
-use dk_repeat::reads_law;
 use dk_steps::Steps;
 use dk_trace::Entry;
 use std::alloc::Global;
@@ -27,53 +25,13 @@ pub(crate) struct Searches {
     pub(crate) programs: Vec<Code>,
 }
 
-/// The bytes of the process's program.
-fn bytes_of(programs: &[Code], process: usize) -> &[u8]
-    ensures { result.now ≡ slice_index_or programs.now process [] }
-{
-    match programs.get(process) {
-        Some(program) => program.bytes(),
-        None => &[],
-    }
-}
-
-/// The same, before the first tick.
+/// The bytes of the process's program, before the first tick.
 fn program_of(loaded: &Loaded, process: usize) -> &[u8]
     ensures { result.now ≡ slice_index_or loaded.now.programs process [] }
 {
     match loaded.programs.get(process) {
         Some(program) => program.bytes(),
         None => &[],
-    }
-}
-
-/// Copies of the programs.
-fn copies_of(alloc: Global, programs: &[Code]) -> Result<Vec<Code>, NoMemory>
-    ensures { IfOk result (λ copies. copies.items ≡ programs.now) }
-{
-    let mut copies = Vec::new(alloc);
-    for program in programs {
-        copies.push(Code::new(program.bytes().to_vec(alloc)?))?;
-    }
-    Ok(copies)
-}
-
-/// The process whose thread read the tick in the kernel's last tick, which has this entry.
-fn reader_of(programs: &[Code], kernel: &Kernel, entry: &Entry) -> Option<u8>
-    requires { programs.now ≡ kernel.now.programs }
-    ensures { (n : ℕ) → kernel.now.ticks ≡ n + 1
-        → trace kernel.now.config kernel.now.programs (n + 1) ≡ entry.now ∷ trace kernel.now.config kernel.now.programs n
-        → IsReader kernel.now.config kernel.now.programs n entry.now result }
-{
-    reads_law();
-    kernel.dispatcher();
-    let thread = quiet_caller(entry)?;
-    let context = kernel.context(thread)?;
-    let program = bytes_of(programs, thread.process as usize);
-    if is_behind_read(program, &context) {
-        Some(thread.process)
-    } else {
-        None
     }
 }
 
@@ -142,7 +100,7 @@ impl Searches {
         Ok(Searches {
             run: RunSearch::new(&loaded.config),
             own: own_searches(alloc, loaded)?,
-            programs: copies_of(alloc, loaded.programs.as_slice())?,
+            programs: programs_of(alloc, loaded.programs.as_slice())?,
         })
     }
 

@@ -5,7 +5,7 @@ use Rattle.dk_trace.specs.Threads.{threads}
 use Rattle.dk_threads.specs.Recount.{is_there}
 use Rattle.dk_world.specs.Run.{world, trace}
 use Rattle.dk_cycle.specs.Run.{IsReader}
-use Rattle.dk_cycle_start.proofs.Reading.{behind, no-caller, no-context, not-behind}
+use Rattle.dk_cycle_start.proofs.Readers.{behind, no-caller, no-context, not-behind}
 use Rattle.dk_cycle_start.proofs.reading.reader_of.Goals as goal
 
 pub returns-in_err-thread : goal.returns-in_err-thread

@@ -4,7 +4,6 @@ use Rattle.std.specs.Prelude.{slice_index_or}
 use Rattle.std.specs.List.{list_any}
 use Rattle.std.proofs.Math.Bool.{or-true}
 use Rattle.dk_config.specs.Configuration.{Configuration}
-use Rattle.dk_config.specs.Checked.{IsChecked, IsAccepted}
 use Rattle.dk_trace.specs.declared.ThreadId.{ThreadId}
 use Rattle.dk_trace.specs.declared.Entry.{Entry}
 use Rattle.dk_trace.specs.Members.{Has}
@@ -16,18 +15,13 @@ use Rattle.dk_threads.specs.Recount.{has_row, is_there}
 use Rattle.dk_cpu.specs.declared.Context.{Context}
 use Rattle.dk_world.specs.Run.{world, trace}
 use Rattle.dk_repeat.specs.Reading.{HasRead, IsBehindRead, RunsOn, ShowsReads, quiet_caller}
-use Rattle.dk_kernel.specs.Running.{Running, trace_of}
-use Rattle.dk_cycle.specs.declared.run.RunSearch.{RunSearch}
-use Rattle.dk_cycle.specs.Run.{Follows, IsReader}
-use Rattle.dk_repeat_search.specs.declared.search.Searches.{Searches}
-use Rattle.dk_repeat_search.specs.Searching.{IsSearching}
-use Rattle.dk_repeat_search.proofs.Owning.{searches-later}
+use Rattle.dk_cycle.specs.Run.{IsReader}
 
 -- a thread that runs on has a row
 row-running : (c : Configuration) (n : ℕ) (x : Thread) → x.stop ≡ None → has_row c n x ≡ true
 row-running c n x running = rw running (or-true (is_main x))
 
-found-running : (c : Configuration) (programs : List (List ℕ)) (n : ℕ) (x : ThreadId) → RunsOn c programs n x
+pub found-running : (c : Configuration) (programs : List (List ℕ)) (n : ℕ) (x : ThreadId) → RunsOn c programs n x
     → list_any (is_there c (length (trace c programs n)) x) (threads c (trace c programs n)) ≡ true
 found-running c programs n x on =
     let past = trace c programs n in
@@ -69,25 +63,3 @@ module _ (c : Configuration) (programs : List (List ℕ)) (n : ℕ) (e : Entry) 
         shows.reads x names (subst (λ code. IsBehindRead code (((world c programs (n + 1)).images x.process).contexts x.serial)) there
             (subst (IsBehindRead program) is read)),
       )
-
--- the searches after one more tick
-pub searching-next : (k l : Running) (s : Searches) (e : Entry) (reader : Option ℕ) (run : RunSearch) → l ≡ record k { ticks = k.ticks + 1 } → trace_of l ≡ e ∷ trace_of k
-    → IsChecked l.config → IsAccepted l.config → IsSearching k s
-    → ((n : ℕ) → l.ticks ≡ n + 1 → trace l.config l.programs (n + 1) ≡ e ∷ trace l.config l.programs n → IsReader l.config l.programs n e reader)
-    → Follows s.run e reader run → IsSearching l (record s { run = run })
-searching-next k l s e reader run next adds checked' accepted' is reads follows =
-    let config : l.config ≡ k.config = ap (λ (r : Running). r.config) next in
-    let programs : l.programs ≡ k.programs = ap (λ (r : Running). r.programs) next in
-    let ticks : l.ticks ≡ k.ticks + 1 = ap (λ (r : Running). r.ticks) next in
-    let checked : IsChecked k.config = subst (λ (c : Configuration). IsChecked c) config checked' in
-    let accepted : IsAccepted k.config = subst (λ (c : Configuration). IsAccepted c) config accepted' in
-    let more : trace k.config k.programs (k.ticks + 1) ≡ e ∷ trace k.config k.programs k.ticks = ap (λ (r : Running). trace_of r) (sym next) ∙ adds in
-    let read : IsReader k.config k.programs k.ticks e reader =
-    subst (λ (r : Running). trace r.config r.programs (k.ticks + 1) ≡ e ∷ trace r.config r.programs k.ticks → IsReader r.config r.programs k.ticks e reader) next
-    (reads k.ticks ticks) more in
-    subst (λ (r : Running). IsSearching r (record s { run = run })) (sym next)
-    (record {
-      run = follows k.config k.programs k.ticks checked accepted is.run more read;
-      own = record { all = searches-later k.config k.programs k.ticks s.own.items is.own.all; processes = is.own.processes };
-      programs = is.programs;
-    })

@@ -1,0 +1,3 @@
+pub mod Readers
+pub mod Threads
+pub mod Walking

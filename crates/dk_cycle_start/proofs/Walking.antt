@@ -1,0 +1,105 @@
+-- Two kernels of one run, of which one is later by the length of a cycle.
+use Rattle.std.proofs.Common.{ℕ, ◌≡◌, ◌+◌, ◌<◌, ◌≤◌, ◌∙◌, inl, inr, Bool, true, false, List, ◌∷◌, length, Option, Some, None, refl, sym, ap, subst, arith}
+use Rattle.std.specs.Prelude.{IfSome}
+use Rattle.std.proofs.lemmas.Bool.{cases_eq}
+use Rattle.dk_config.specs.Configuration.{Configuration}
+use Rattle.dk_config.specs.Checked.{IsChecked, IsAccepted}
+use Rattle.dk_trace.specs.declared.Entry.{Entry}
+use Rattle.dk_world.specs.Run.{trace}
+use Rattle.dk_loader.specs.Workload.{Workload}
+use Rattle.dk_repeat.specs.Repeat.{RunStandsAgain, ThreadsStandAlike}
+use Rattle.dk_kernel.specs.Booting.{IsLoaded}
+use Rattle.dk_kernel.specs.Running.{Running, trace_of, world_of}
+use Rattle.dk_cycle.specs.declared.Cycle.{Cycle}
+use Rattle.dk_cycle.specs.declared.run.RunSearch.{RunSearch}
+use Rattle.dk_cycle.specs.declared.start.StartSearch.{StartSearch}
+use Rattle.dk_cycle.specs.Run.{IsReader, IsRunSearch, KeepsThreadsFrom}
+use Rattle.dk_cycle.specs.Start.{AreImagesAlike, FollowsStart, IsOpen, Opens, Shuts, StartsAt, StartsFirst, with_start}
+use Rattle.dk_cycle_start.specs.Alike.{AreComparable, AreDifferent}
+use Rattle.dk_cycle_start.specs.Passes.{Answers, IsCycleOf, IsFirst, IsLater, IsSearch, IsSettled, begun}
+
+-- the search after one more tick of the later kernel
+pub search-next : (k l : Running) (s t : StartSearch) (e : Entry) (reader : Option ℕ) (tick : ℕ) → tick ≡ k.ticks → l ≡ record k { ticks = k.ticks + 1 }
+    → trace_of l ≡ e ∷ trace_of k → IsChecked l.config → IsAccepted l.config → IsSearch k s
+    → ((n : ℕ) → l.ticks ≡ n + 1 → trace l.config l.programs (n + 1) ≡ e ∷ trace l.config l.programs n → IsReader l.config l.programs n e reader)
+    → FollowsStart s tick e reader t → IsSearch l t
+search-next k l s t e reader tick now next adds checked' accepted' is reads follows =
+    let config : l.config ≡ k.config = ap (λ (r : Running). r.config) next in
+    let ticks : l.ticks ≡ k.ticks + 1 = ap (λ (r : Running). r.ticks) next in
+    let checked : IsChecked k.config = subst (λ (c : Configuration). IsChecked c) config checked' in
+    let accepted : IsAccepted k.config = subst (λ (c : Configuration). IsAccepted c) config accepted' in
+    let more : trace k.config k.programs (k.ticks + 1) ≡ e ∷ trace k.config k.programs k.ticks = ap (λ (r : Running). trace_of r) (sym next) ∙ adds in
+    let read : IsReader k.config k.programs k.ticks e reader =
+    subst (λ (r : Running). trace r.config r.programs (k.ticks + 1) ≡ e ∷ trace r.config r.programs k.ticks → IsReader r.config r.programs k.ticks e reader) next
+    (reads k.ticks ticks) more in
+    let follow : FollowsStart s k.ticks e reader t = subst (λ n. FollowsStart s n e reader t) now follows in
+    subst (λ (r : Running). IsSearch r t) (sym next) (follow k.config k.programs checked accepted is more read)
+
+-- ---- the run at both ticks
+
+module _ (k l : Running) (y : Cycle) (s : StartSearch) (early late : ℕ) (at : early ≡ k.ticks) (at-late : late ≡ l.ticks) (later : IsLater k y.length l) (is : IsSearch l s) where
+  ends : late ≡ k.ticks + y.length
+  ends = at-late ∙ ap (λ (r : Running). r.ticks) later
+
+  own : IsSearch (record k { ticks = k.ticks + y.length }) s
+  own = subst (λ (r : Running). IsSearch r s) later is
+
+  pub open-now : Opens s early late → IsOpen k.config k.programs k.ticks y.length
+  open-now opens =
+      let there = subst (λ n. Opens s n late) at opens in
+      there k.config k.programs y.length (subst (λ n. IsSearch (record k { ticks = n }) s) (sym ends) own) ends
+
+  pub comparable : Opens s early late → AreComparable k l
+  comparable opens = record {
+    config = ap (λ (r : Running). r.config) later;
+    threads = subst (λ (r : Running). ThreadsStandAlike k.config (trace_of k) (trace_of r)) (sym later) (open-now opens).threads;
+  }
+
+  pub shut-now : IsChecked k.config → IsAccepted k.config → IsCycleOf k y → Shuts s early late → Answers k y k.ticks false
+  shut-now checked accepted of shuts =
+      let there = subst (λ n. Shuts s n late) at shuts in
+      record {
+        yes = λ never. absurd (cc);
+        no = λ no. there k.config k.programs y checked accepted (subst (λ n. IsSearch (record k { ticks = n }) s) (sym ends) own) of.stands of.keeps ends;
+      }
+
+  pub answered : IsCycleOf k y → Opens s early late → (b : Bool) → (b ≡ true → AreImagesAlike k.config (world_of k) (world_of l)) → (b ≡ false → AreDifferent k l)
+      → Answers k y k.ticks b
+  answered of opens b same other =
+      let o = open-now opens in
+      record {
+        yes = λ yes.
+            let images : AreImagesAlike k.config (world_of k) (world_of (record k { ticks = k.ticks + y.length })) =
+            subst (λ (r : Running). AreImagesAlike k.config (world_of k) (world_of r)) later (same yes) in
+            record {
+              later = of.stands.later;
+              begins = o.begins;
+              begins_later = o.begins_later;
+              alike = record { threads = o.threads; memory = images.memory; contexts = images.contexts };
+              clock = o.clock;
+            };
+        no = λ no stands.
+            other no (subst (λ (r : Running). AreImagesAlike k.config (world_of k) (world_of r)) (sym later)
+            (record { memory = stands.alike.memory; contexts = stands.alike.contexts }));
+      }
+
+-- ---- tick by tick
+
+-- both are one tick on
+pub both-next : (k l : Running) (n : ℕ) (k' l' : Running) → IsLater k n l → k' ≡ record k { ticks = k.ticks + 1 } → l' ≡ record l { ticks = l.ticks + 1 } → IsLater k' n l'
+both-next k l n k' l' later next next' =
+    let order : k.ticks + n + 1 ≡ k.ticks + 1 + n = omega arith in
+    next' ∙ ap (λ (r : Running). record r { ticks = r.ticks + 1 }) later ∙ ap (λ m. record k { ticks = m }) order
+    ∙ sym (ap (λ (r : Running). record r { ticks = r.ticks + n }) next)
+
+pub none-more : (k : Running) (y : Cycle) (start : ℕ) → ((t : ℕ) → t < start → RunStandsAgain k.config k.programs t y.length → ⊥)
+    → (RunStandsAgain k.config k.programs start y.length → ⊥) → (t : ℕ) → t < start + 1 → RunStandsAgain k.config k.programs t y.length → ⊥
+none-more k y start before here t less =
+    elim (cases_eq start t) [
+      | inl same ↦ subst (λ n. RunStandsAgain k.config k.programs n y.length → ⊥) same here
+      | inr other ↦ before t (omega (arith, less, other))
+    ]
+
+pub both-if : {P Q : Bool → Type 0} (o : Option Bool) (R : Bool → Type 0) → IfSome o P → IfSome o Q → ((b : Bool) → P b → Q b → R b) → IfSome o R
+both-if None R one other gives = tt
+both-if (Some b) R one other gives = gives b one other

@@ -1,0 +1,12 @@
+use Rattle.std.proofs.Common.{ℕ, ◌≡◌, ◌+◌, ◌<◌}
+use Rattle.dk_repeat.specs.Repeat.{RunStandsAgain}
+use Rattle.dk_cycle_start.specs.Passes.{IsLater, IsSearch}
+use Rattle.dk_cycle_start.proofs.walk.first_start.Given as goal
+
+abbrev pub invariant-loop-start : goal.invariant-loop-start
+invariant-loop-start g l = record {
+  next : l.early ≡ record l.fn.early { ticks = l.start };
+  later : IsLater l.early l.cycle.length l.late;
+  is : IsSearch l.late l.search;
+  none : (t : ℕ) → t < l.start → RunStandsAgain l.fn.early.config l.fn.early.programs t l.cycle.length → ⊥;
+}

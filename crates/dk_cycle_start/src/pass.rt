@@ -1,0 +1,94 @@
+//! The second pass over a run whose cycle was found.
+ghost use Rattle.std.specs.Prelude.{◌≡◌, ◌+◌, ◌<◌, ◌≤◌, length, IfOk, OnOk};
+ghost use Rattle.dk_config.specs.declared.TheConstants.{MAX_TICKS};
+ghost use Rattle.dk_kernel.specs.Booting.{IsLoaded};
+ghost use Rattle.dk_cycle.specs.Run.{IsRunSearch};
+ghost use Rattle.dk_cycle_start.specs.Passes.{IsCycleOf, IsFirst, IsPass, IsSearch, IsSettled, begun};
+
+use crate::copies::{copy_of, programs_of};
+use crate::walk::{first_start, lead};
+use dk_config::{MAX_TICKS, NoMemory};
+use dk_cycle::{Cycle, RunSearch, StartSearch};
+use dk_kernel::Kernel;
+use dk_loader::{Code, Loaded};
+use dk_steps::Steps;
+use std::alloc::Global;
+use std::sync::ledger::Ledger;
+
+/// What a second pass over a run needs: its configuration with its programs, twice, and the programs once more, in which a call
+/// that reads the tick is looked up.
+#[derive(Drop)]
+pub struct SecondPass {
+    pub early: Loaded,
+    pub late: Loaded,
+    pub programs: Vec<Code>,
+}
+
+/// The least tick at which the run stands again as much later as the cycle is long.
+fn least_start<L: Ledger>(
+    alloc: Global,
+    pass: SecondPass,
+    mut search: StartSearch,
+    cycle: Cycle,
+    steps: &mut Steps<L>,
+) -> Result<u32, NoMemory>
+    requires pass { IsPass pass }
+    requires room { cycle.start + cycle.length ≤ MAX_TICKS }
+    requires is { IsSearch (begun pass.early) search }
+    requires cycle { IsCycleOf (begun pass.early) cycle }
+    ensures { IfOk result (IsFirst (begun pass.early) cycle) }
+{
+    let processes = pass.early.config.processes.len() as u8;
+    let Ok(mut early) = Kernel::boot(alloc, pass.early) else {
+        return Err(NoMemory);
+    };
+    let Ok(mut late) = Kernel::boot(alloc, pass.late) else {
+        return Err(NoMemory);
+    };
+    let programs = pass.programs.as_slice();
+    lead(&mut search, &mut late, programs, cycle.length, steps);
+    match first_start(&mut search, &mut early, &mut late, programs, processes, cycle, steps) {
+        Some(start) => Ok(start),
+        // It never comes so: each process has a program.
+        None => Err(NoMemory),
+    }
+}
+
+impl SecondPass {
+    /// Of the run of this configuration with its programs, before it.
+    pub fn of(alloc: Global, loaded: &Loaded) -> Result<SecondPass, NoMemory>
+        requires { IsLoaded loaded.now }
+        ensures pass { IfOk result IsPass }
+        ensures same { IfOk result (λ pass. pass.early ≡ loaded.now) }
+    {
+        let early = copy_of(alloc, loaded)?;
+        let late = copy_of(alloc, loaded)?;
+        let programs = programs_of(alloc, loaded.programs.as_slice())?;
+        Ok(SecondPass {
+            early,
+            late,
+            programs,
+        })
+    }
+
+    /// Lets the cycle of a search that has seen so many ticks start where it first can. `Err` is want of memory.
+    pub fn settle<L: Ledger>(
+        self,
+        alloc: Global,
+        search: &mut RunSearch,
+        ticks: u32,
+        steps: &mut Steps<L>,
+    ) -> Result<(), NoMemory>
+        requires pass { IsPass self }
+        requires few { ticks ≤ MAX_TICKS }
+        requires is { IsRunSearch self.early.config self.early.programs ticks search.old }
+        ensures { OnOk result (IsSettled self.early ticks search.old search.new) }
+    {
+        let Some(cycle) = search.cycle else {
+            return Ok(());
+        };
+        let start = least_start(alloc, self, StartSearch::new(search), cycle, steps)?;
+        search.start_at(start);
+        Ok(())
+    }
+}
