@@ -1,6 +1,6 @@
 -- Two kernels of one run, of which one is later by the length of a cycle.
 use Rattle.std.proofs.Common.{ℕ, ◌≡◌, ◌+◌, ◌<◌, ◌≤◌, ◌∙◌, inl, inr, Bool, true, false, List, ◌∷◌, length, Option, Some, None, refl, sym, ap, subst, arith}
-use Rattle.std.specs.Prelude.{IfSome}
+use Rattle.std.specs.Prelude.{IfSome, option_map}
 use Rattle.std.proofs.lemmas.Bool.{cases_eq}
 use Rattle.dk_config.specs.Configuration.{Configuration}
 use Rattle.dk_config.specs.Checked.{IsChecked, IsAccepted}
@@ -103,3 +103,15 @@ none-more k y start before here t less =
 pub both-if : {P Q : Bool → Type 0} (o : Option Bool) (R : Bool → Type 0) → IfSome o P → IfSome o Q → ((b : Bool) → P b → Q b → R b) → IfSome o R
 both-if None R one other gives = tt
 both-if (Some b) R one other gives = gives b one other
+
+-- a search whose cycle was moved to its first start
+pub settled : (w : Workload) (tick : ℕ) (before after : RunSearch) (y : Cycle) (start : ℕ) → IsLoaded w → IsRunSearch w.config w.programs tick before
+    → before.cycle ≡ Some y → IsFirst (begun w) y start → StartsAt before start after → after.cycle ≡ option_map (with_start start) before.cycle
+    → IsSettled w tick before after
+settled w tick before after y start loaded is cycle first moves new =
+    let found : after.cycle ≡ Some (with_start start y) = new ∙ ap (option_map (with_start start)) cycle in
+    record {
+      is = moves w.config w.programs tick y loaded.checked loaded.accepted is cycle first.early first.stands;
+      first = subst (λ (o : Option Cycle). IfSome o (StartsFirst w.config w.programs)) (sym found) first.first;
+      had = λ none. absurd (let both : None ≡ Some (with_start start y) = sym none ∙ found in cc);
+    }

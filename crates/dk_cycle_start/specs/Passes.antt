@@ -48,5 +48,4 @@ pub record IsPass (s : SecondPass) : Type 0 where
 pub record IsSettled (w : Workload) (tick : ℕ) (before after : RunSearch) : Type 0 where
   pub is : IsRunSearch w.config w.programs tick after
   pub first : IfSome after.cycle (StartsFirst w.config w.programs)
-  pub reader : after.reader ≡ before.reader
   pub had : after.cycle ≡ None → before.cycle ≡ None

@@ -1,74 +1,15 @@
--- Who read the tick in the last tick of a kernel's run.
-use Rattle.std.proofs.Common.{ℕ, ◌≡◌, ◌+◌, ◌∙◌, Bool, true, false, List, [], ◌∷◌, length, Option, Some, None, refl, sym, ap, subst, arith}
-use Rattle.std.specs.Prelude.{slice_index_or}
-use Rattle.std.specs.List.{list_any}
-use Rattle.std.proofs.Math.Bool.{or-true}
+-- The searches of a kernel's run after one more tick.
+use Rattle.std.proofs.Common.{ℕ, ◌≡◌, ◌+◌, ◌∙◌, ◌∷◌, Option, sym, ap, subst}
 use Rattle.dk_config.specs.Configuration.{Configuration}
 use Rattle.dk_config.specs.Checked.{IsChecked, IsAccepted}
-use Rattle.dk_trace.specs.declared.ThreadId.{ThreadId}
 use Rattle.dk_trace.specs.declared.Entry.{Entry}
-use Rattle.dk_trace.specs.Members.{Has}
-use Rattle.dk_trace.specs.Threads.{Thread, family, is_main, threads}
-use Rattle.dk_trace.specs.Entries.{is_same}
-use Rattle.dk_trace.proofs.Members.{flat-has, list_any-has}
-use Rattle.dk_trace.proofs.Same.{same-self}
-use Rattle.dk_threads.specs.Recount.{has_row, is_there}
-use Rattle.dk_cpu.specs.declared.Context.{Context}
-use Rattle.dk_world.specs.Run.{world, trace}
-use Rattle.dk_repeat.specs.Reading.{HasRead, IsBehindRead, RunsOn, ShowsReads, quiet_caller}
+use Rattle.dk_world.specs.Run.{trace}
 use Rattle.dk_kernel.specs.Running.{Running, trace_of}
 use Rattle.dk_cycle.specs.declared.run.RunSearch.{RunSearch}
 use Rattle.dk_cycle.specs.Run.{Follows, IsReader}
 use Rattle.dk_repeat_search.specs.declared.search.Searches.{Searches}
 use Rattle.dk_repeat_search.specs.Searching.{IsSearching}
 use Rattle.dk_repeat_search.proofs.Owning.{searches-later}
-
--- a thread that runs on has a row
-row-running : (c : Configuration) (n : ℕ) (x : Thread) → x.stop ≡ None → has_row c n x ≡ true
-row-running c n x running = rw running (or-true (is_main x))
-
-found-running : (c : Configuration) (programs : List (List ℕ)) (n : ℕ) (x : ThreadId) → RunsOn c programs n x
-    → list_any (is_there c (length (trace c programs n)) x) (threads c (trace c programs n)) ≡ true
-found-running c programs n x on =
-    let past = trace c programs n in
-    let among : Has (threads c past) on.row = flat-has (λ p. family c p past) 0 (length c.processes) x.process on.row (omega arith) (let low = on.process in omega (arith, low)) on.among in
-    let named : is_same x on.row.id ≡ true = rw on.name (same-self x) in
-    list_any-has (is_there c (length past) x) (threads c past) on.row among (rw (named, row-running c (length past) on.row on.running) refl)
-
-module _ (c : Configuration) (programs : List (List ℕ)) (n : ℕ) (e : Entry) (shows : ShowsReads c programs n e) where
-  pub no-caller : quiet_caller e ≡ None → IsReader c programs n e None
-  no-caller none = λ p r. let one = shows.only p r in let never : None ≡ Some one.0 = sym none ∙ one.1 in absurd (cc)
-
-  -- the caller is the one that is seen
-  only-one : (x : ThreadId) → quiet_caller e ≡ Some x → (HasRead c programs (n + 1) x → ⊥) → IsReader c programs n e None
-  only-one x names not-read = λ p r.
-      let one = shows.only p r in
-      let both : Some one.0 ≡ Some x = sym one.1 ∙ names in
-      let same : one.0 ≡ x = cc in
-      not-read (subst (HasRead c programs (n + 1)) same one.2)
-
-  -- it is there
-  pub no-context : (x : ThreadId) (there : Bool) → quiet_caller e ≡ Some x
-      → there ≡ list_any (is_there c (length (trace c programs (n + 1))) x) (threads c (trace c programs (n + 1))) → there ≡ false → ⊥
-  no-context x there names is none =
-      let found = found-running c programs (n + 1) x (shows.there x names) in
-      let never : false ≡ true = sym none ∙ is ∙ found in
-      cc
-
-  pub not-behind : (x : ThreadId) (program : List ℕ) (z : Context) → quiet_caller e ≡ Some x → program ≡ slice_index_or programs x.process []
-      → z ≡ ((world c programs (n + 1)).images x.process).contexts x.serial → (IsBehindRead program z → ⊥) → IsReader c programs n e None
-  not-behind x program z names there is not-read =
-      only-one x names (λ read. not-read (subst (IsBehindRead program) (sym is)
-      (subst (λ code. IsBehindRead code (((world c programs (n + 1)).images x.process).contexts x.serial)) (sym there) read)))
-
-  pub behind : (x : ThreadId) (program : List ℕ) (z : Context) → quiet_caller e ≡ Some x → program ≡ slice_index_or programs x.process []
-      → z ≡ ((world c programs (n + 1)).images x.process).contexts x.serial → IsBehindRead program z → IsReader c programs n e (Some x.process)
-  behind x program z names there is read =
-      let on = shows.there x names in (
-        on.process,
-        shows.reads x names (subst (λ code. IsBehindRead code (((world c programs (n + 1)).images x.process).contexts x.serial)) there
-            (subst (IsBehindRead program) is read)),
-      )
 
 -- the searches after one more tick
 pub searching-next : (k l : Running) (s : Searches) (e : Entry) (reader : Option ℕ) (run : RunSearch) → l ≡ record k { ticks = k.ticks + 1 } → trace_of l ≡ e ∷ trace_of k

@@ -6,7 +6,8 @@ use Rattle.dk_kernel.specs.Booting.{IsLoaded}
 use Rattle.dk_kernel.specs.Running.{Running}
 use Rattle.dk_cycle.specs.declared.Cycle.{Cycle}
 use Rattle.dk_cycle.specs.declared.told.RunTold.{RunTold}
-use Rattle.dk_cycle.specs.Run.{IsLastReader}
+use Rattle.dk_cycle.specs.declared.run.RunSearch.{RunSearch}
+use Rattle.dk_cycle.specs.Run.{IsLastReader, IsRunSearch}
 use Rattle.dk_cycle.specs.Told.{OwnIsTold, RunIsTold, reader_by, run_told}
 use Rattle.dk_cycle_counts.specs.declared.counts.CycleCounts.{CycleCounts}
 use Rattle.dk_repeat_report.specs.declared.own.OwnFound.{OwnFound}
@@ -16,25 +17,42 @@ use Rattle.dk_repeat_report.specs.Lines.{names_of}
 use Rattle.dk_repeat_report.specs.Found.{AreOf, found_text}
 use Rattle.dk_repeat_report.proofs.Told.{repeats-text}
 use Rattle.dk_repeat_search.specs.declared.count.Found.{Found}
-use Rattle.dk_repeat_search.specs.declared.search.Searches.{Searches}
-use Rattle.dk_repeat_search.specs.Searching.{IsSearching}
+use Rattle.dk_cycle_start.specs.Passes.{IsSettled}
 use Rattle.dk_repeat_search.specs.Counting.{AreOwnFound, IsFound}
 use Rattle.dk_repeat_search.specs.Repeats.{IsRepeatsOf, KnowsReader, repeats, searched_ticks}
 
-pub are-of : (w : Workload) (k : Running) (s : Searches) (counts : Option CycleCounts) (own : List OwnFound) → k.config ≡ w.config → k.programs ≡ w.programs
-    → IsSearching k s → IsOneCounted k.config k.programs s.run.cycle counts → AreOwnFound k.config k.programs own → AreOf w.config w.programs s.run counts own
-are-of w k s counts own config programs is counted found =
-    subst (λ (c : Configuration). AreOf c w.programs s.run counts own) config
-    (subst (λ (ps : List (List ℕ)). AreOf k.config ps s.run counts own) programs
-    (record { tick = k.ticks; run_is = is.run; counts_are = counted; own_are = found.all; processes = found.processes }))
+-- the search of a kernel's run, which is that of this configuration with its programs
+pub search-of : (w v : Workload) (k : Running) (run : RunSearch) (tick : ℕ) → v ≡ w → tick ≡ k.ticks → k.config ≡ w.config → k.programs ≡ w.programs
+    → IsRunSearch k.config k.programs k.ticks run → IsRunSearch v.config v.programs tick run
+search-of w v k run tick same now config programs is =
+    subst (λ (u : Workload). IsRunSearch u.config u.programs tick run) (sym same)
+    (subst (λ n. IsRunSearch w.config w.programs n run) (sym now)
+    (subst (λ (c : Configuration). IsRunSearch c w.programs k.ticks run) config (subst (λ (ps : List (List ℕ)). IsRunSearch k.config ps k.ticks run) programs is)))
+
+-- and back
+pub search-back : (w : Workload) (k : Running) (run : RunSearch) (tick : ℕ) → tick ≡ k.ticks → k.config ≡ w.config → k.programs ≡ w.programs
+    → IsRunSearch w.config w.programs tick run → IsRunSearch k.config k.programs k.ticks run
+search-back w k run tick now config programs is =
+    subst (λ (c : Configuration). IsRunSearch c k.programs k.ticks run) (sym config)
+    (subst (λ (ps : List (List ℕ)). IsRunSearch w.config ps k.ticks run) (sym programs) (subst (λ n. IsRunSearch w.config w.programs n run) now is))
+
+pub settled-of : (w v : Workload) (tick : ℕ) (before after : RunSearch) → v ≡ w → IsSettled v tick before after → IsSettled w tick before after
+settled-of w v tick before after same is = subst (λ (u : Workload). IsSettled u tick before after) same is
+
+pub are-of : (w : Workload) (k : Running) (tick : ℕ) (before run : RunSearch) (counts : Option CycleCounts) (own : List OwnFound) → k.config ≡ w.config → k.programs ≡ w.programs
+    → IsSettled w tick before run → IsOneCounted k.config k.programs run.cycle counts → AreOwnFound k.config k.programs own → AreOf w.config w.programs run counts own
+are-of w k tick before run counts own config programs is counted found =
+    let counted' : IsOneCounted w.config w.programs run.cycle counts =
+    subst (λ (c : Configuration). IsOneCounted c w.programs run.cycle counts) config
+    (subst (λ (ps : List (List ℕ)). IsOneCounted k.config ps run.cycle counts) programs counted) in
+    let found' : AreOwnFound w.config w.programs own =
+    subst (λ (c : Configuration). AreOwnFound c w.programs own) config (subst (λ (ps : List (List ℕ)). AreOwnFound k.config ps own) programs found) in
+    record { tick = tick; run_is = is.is; first = is.first; counts_are = counted'; own_are = found'.all; processes = found'.processes }
 
 -- a search that found no cycle took all ticks, and knows who read the tick last in them
-pub knows-reader : (w : Workload) (k : Running) (s : Searches) (ticks : ℕ) → k.config ≡ w.config → k.programs ≡ w.programs → IsSearching k s
-    → (s.run.cycle ≡ None → k.ticks ≡ ticks) → KnowsReader w ticks s.run
-knows-reader w k s ticks config programs is all = λ none.
-    subst (λ n. IsLastReader w.config w.programs n s.run.reader) (all none)
-    (subst (λ (c : Configuration). IsLastReader c w.programs k.ticks s.run.reader) config
-    (subst (λ (ps : List (List ℕ)). IsLastReader k.config ps k.ticks s.run.reader) programs is.run.reader))
+pub knows-reader : (w : Workload) (tick ticks : ℕ) (before run : RunSearch) → IsSettled w tick before run → (before.cycle ≡ None → tick ≡ ticks) → KnowsReader w ticks run
+knows-reader w tick ticks before run is all = λ none.
+    subst (λ n. IsLastReader w.config w.programs n run.reader) (all (is.had none)) is.is.reader
 
 told-reader : (c : Configuration) (programs : List (List ℕ)) (ticks : ℕ) (o : Option Cycle) (reader : Option ℕ) → (o ≡ None → IsLastReader c programs ticks reader)
     → o ≡ None → IsLastReader c programs ticks (reader_by o reader)

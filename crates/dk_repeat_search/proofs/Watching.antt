@@ -12,6 +12,8 @@ use Rattle.dk_config.specs.Checked.{IsChecked, IsAccepted}
 use Rattle.dk_loader.specs.Workload.{Workload}
 use Rattle.dk_kernel.specs.Booting.{IsLoaded}
 use Rattle.dk_kernel.specs.Running.{Running}
+use Rattle.dk_cycle.specs.declared.run.RunSearch.{RunSearch}
+use Rattle.dk_cycle_start.specs.Passes.{IsSettled}
 use Rattle.dk_cycle.specs.declared.keeping.Keeping.TheVariants as kind
 use Rattle.dk_cycle.specs.declared.own.OwnSearch.{OwnSearch}
 use Rattle.dk_cycle.specs.declared.told.RunTold.{RunTold}
@@ -87,17 +89,17 @@ are-waits law c programs tick own watches waits checked accepted are seen told =
     wide = many-watches c programs tick watches seen
 
 -- what a kernel's searches and watches tell of its run
-pub always-of : (w : Workload) (k : Running) (s : Watching) (run : RunTold) (waits : List Waits) → RunIsTold → WaitsAreTold → k.config ≡ w.config → k.programs ≡ w.programs
-    → IsLoaded w → IsWatching k s → run ≡ run_told s.searches.run → AreTold s.searches.own.items s.watches.items (length s.searches.own.items) waits
+pub always-of : (w : Workload) (k : Running) (s : Watching) (tick : ℕ) (before after : RunSearch) (run : RunTold) (waits : List Waits) → RunIsTold → WaitsAreTold
+    → k.config ≡ w.config → k.programs ≡ w.programs → IsLoaded w → IsWatching k s → IsSettled w tick before after → run ≡ run_told after → AreTold s.searches.own.items s.watches.items (length s.searches.own.items) waits
     → IsRunTold w.config w.programs run × AreWaits w.config w.programs waits
-always-of w k s run waits run-law waits-law config programs loaded is run-is told =
+always-of w k s tick before after run waits run-law waits-law config programs loaded is settled run-is told =
     let checked = subst (λ (z : Configuration). IsChecked z) (sym config) loaded.checked in
     let accepted = subst (λ (z : Configuration). IsAccepted z) (sym config) loaded.accepted in
-    let of-run : IsRunTold k.config k.programs run =
-    subst (IsRunTold k.config k.programs) (sym run-is) (run-law k.config k.programs k.ticks s.searches.run checked accepted is.searches.run) in
+    let of-run : IsRunTold w.config w.programs run =
+    subst (IsRunTold w.config w.programs) (sym run-is) (run-law w.config w.programs tick after loaded.checked loaded.accepted settled.is settled.first) in
     let of-waits : AreWaits k.config k.programs waits =
     are-waits waits-law k.config k.programs k.ticks s.searches.own.items s.watches.items waits checked accepted is.searches.own is.watches told in (
-      subst (λ (z : Configuration). IsRunTold z w.programs run) config (subst (λ (ps : List (List ℕ)). IsRunTold k.config ps run) programs of-run),
+      of-run,
       subst (λ (z : Configuration). AreWaits z w.programs waits) config (subst (λ (ps : List (List ℕ)). AreWaits k.config ps waits) programs of-waits),
     )
 

@@ -93,6 +93,7 @@ impl Watching {
         ensures is { OnOk result (IsWatching kernel.new self.new) }
         ensures config { kernel.new.config ≡ kernel.old.config }
         ensures programs { kernel.new.programs ≡ kernel.old.programs }
+        ensures ticks { kernel.new.ticks ≤ kernel.old.ticks + ticks }
     {
         self.look(alloc, kernel)?;
         for step in 0..ticks {

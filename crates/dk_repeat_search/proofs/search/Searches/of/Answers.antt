@@ -12,5 +12,5 @@ returns c =
     record {
       run = run w.programs;
       own = c.in_ok-own_searches.ensures;
-      programs = c.in_ok-copies_of.ensures ∙ c.as_slice.ensures.value ∙ ap (λ (v : Workload). v.programs) c.loaded.view_is;
+      programs = c.in_ok-programs_of.ensures ∙ c.as_slice.ensures.value ∙ ap (λ (v : Workload). v.programs) c.loaded.view_is;
     }
