@@ -9,13 +9,13 @@ use Rattle.dk_certify.specs.declared.table.TableRow.{TableRow}
 use Rattle.dk_ledger.specs.declared.header.ProcessLine.{ProcessLine}
 use Rattle.dk_ledger.specs.declared.line.LedgerLine.{LedgerLine}
 use Rattle.dk_ledger.specs.Heading.{level_body, process_body}
-use Rattle.dk_ledger.specs.LineText.{line_body}
+use Rattle.dk_ledger.specs.LineText.{joined, line_body}
 use Rattle.dk_ledger.specs.Readable.{IsLevelRow, IsProcessLine}
 use Rattle.dk_ledger.specs.ReadSoFar.{Kept, Item, IsKept, Fits, item_body, end_body}
 use Rattle.dk_ledger.specs.Words.{level_words, process_words, end_words, line_words}
 use Rattle.dk_ledger.proofs.NameLemmas.{both_left, both_right}
 use Rattle.dk_ledger.proofs.WordBytes.{is_glyph, all_more}
-use Rattle.dk_ledger.proofs.Split.{Glyphs, joined, all_append, level_joined, process_joined, end_joined, line_joined, level_glyphs, process_glyphs, end_glyphs, line_glyphs}
+use Rattle.dk_ledger.proofs.Split.{Glyphs, all_append, level_joined, process_joined, end_joined, line_joined, level_glyphs, process_glyphs, end_glyphs, line_glyphs}
 use Rattle.dk_ledger.proofs.EntryLists.{IsReadableLine}
 use Rattle.dk_ledger.proofs.NextItem.{part_printable}
 

@@ -18,7 +18,7 @@ use Rattle.dk_certify.specs.declared.table.TableRow.{TableRow}
 use Rattle.dk_ledger.specs.declared.header.ProcessLine.{ProcessLine}
 use Rattle.dk_ledger.specs.declared.line.LedgerLine.{LedgerLine}
 use Rattle.dk_ledger.specs.Heading.{Heading, level_body, process_body}
-use Rattle.dk_ledger.specs.LineText.{thread_text, work_text, slack_text, label_text, fault_text, event_part, line_body}
+use Rattle.dk_ledger.specs.LineText.{thread_text, work_text, slack_text, label_text, fault_text, event_part, joined, line_body}
 use Rattle.dk_ledger.specs.Readable.{IsLevelRow, IsProcessLine, size_in}
 use Rattle.dk_ledger.specs.ReadSoFar.{end_body}
 use Rattle.dk_ledger.specs.Words.{level_words, process_words, end_words, source_words, label_words, event_words, line_words, words_of}
@@ -28,12 +28,6 @@ use Rattle.dk_ledger.proofs.WordBytes.{is_glyph, name_glyphs, name_at_glyphs, de
 
 abbrev is_blank : ℕ → Bool
 is_blank b = b == 32
-
--- the words with a blank between each two
-abbrev pub joined : List (List ℕ) → List ℕ
-joined [] = []
-joined (w ∷ []) = w
-joined (w ∷ v ∷ ws) = w ++ 32 ∷ joined (v ∷ ws)
 
 -- words of glyphs
 abbrev pub Glyphs : List (List ℕ) → Type 0
@@ -95,16 +89,7 @@ label_joined h label more = grind (arith, nat_tests, joined-cons, slack_joined)
 
 event_behind : (event : Option Event) → event_part event ≡ behind (event_words event)
 event_behind None = refl
-event_behind (Some Event.Wait) = refl
-event_behind (Some Event.Exit) = refl
-event_behind (Some (Event.Fault kind)) = refl
-event_behind (Some (Event.Create serial level quota)) = simp append_assoc
-event_behind (Some (Event.Delete serial)) = refl
-event_behind (Some (Event.Lock m)) = refl
-event_behind (Some (Event.Unlock m)) = refl
-event_behind (Some (Event.Slack amount)) = refl
-event_behind (Some (Event.Put value)) = refl
-event_behind (Some (Event.Refused refusal)) = refl
+event_behind (Some event) = refl
 
 some_label : (h : Heading) (label : Label) (more : List (List ℕ)) → (w : List ℕ) × (ws : List (List ℕ)) × (label_words h label more ≡ w ∷ ws)
 some_label h (Label.Kernel j) more = (_, _, refl)
