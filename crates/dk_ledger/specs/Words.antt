@@ -1,7 +1,8 @@
 -- The words of a ledger's lines, which single blanks part.
-use Rattle.std.specs.Prelude.{ℕ, ◌∷◌, [], List, map, take, ◌==◌, slice_index_or, decimal, codes, Option, Some, None}
+use Rattle.std.specs.Prelude.{ℕ, Bool, true, ◌≡◌, ◌||◌, ◌∷◌, [], List, map, take, ◌==◌, slice_index_or, decimal, codes, Option, Some, None}
 use Rattle.std.specs.Borrow.{Bor}
-use Rattle.std.specs.List.{slice_split}
+use Rattle.std.specs.List.{AllByRecursion, list_all, slice_split}
+use Rattle.dk_config.specs.Rules.{is_word}
 use Rattle.dk_trace.specs.declared.Source.{Source}
 use Rattle.dk_trace.specs.declared.Label.{Label}
 use Rattle.dk_trace.specs.declared.Event.{Event}
@@ -58,3 +59,13 @@ event_words (Some event) = word_of event ∷ argument_words (arguments_of event)
 
 abbrev pub line_words : Heading → LedgerLine → List (List ℕ)
 line_words h l = decimal l.start ∷ decimal l.count ∷ label_words h l.label (event_words l.event)
+
+-- a lower letter, a digit, an underscore or a dot
+abbrev pub is_spelled : ℕ → Bool
+is_spelled b = is_word b || b == 46
+
+abbrev pub IsSpelled : List ℕ → Type 0
+IsSpelled word = list_all is_spelled word ≡ true
+
+abbrev pub AreSpelled : List (List ℕ) → Type 0
+AreSpelled ws = AllByRecursion IsSpelled ws
