@@ -1,4 +1,6 @@
 pub mod Turns
+pub mod Moves
+pub mod Doing
 pub mod Phases
 pub mod Rounds
 pub mod Room
