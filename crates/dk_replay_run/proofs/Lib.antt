@@ -1,6 +1,7 @@
 pub mod Turns
 pub mod Moves
 pub mod Doing
+pub mod Laps
 pub mod Phases
 pub mod Rounds
 pub mod Room
