@@ -2,6 +2,7 @@ pub mod Turns
 pub mod Moves
 pub mod Doing
 pub mod Laps
+pub mod Fitting
 pub mod Phases
 pub mod Rounds
 pub mod Room
