@@ -4,6 +4,7 @@ pub mod Doing
 pub mod Laps
 pub mod Fitting
 pub mod Phases
+pub mod Parts
 pub mod Rounds
 pub mod Room
 pub mod Clock

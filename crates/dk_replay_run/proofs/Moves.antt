@@ -65,7 +65,7 @@ answered at regs eight = record { place = refl; registers = length-set regs 0 0 
 pub as-parts : (at : ℕ) (x : Context) → StandsAt at x → x ≡ standing x.regs at 0
 as-parts at x s = ap (λ p. standing x.regs p x.left) s.place ∙ ap (λ l. standing x.regs at l) s.left
 
-replicate-on : (e : Entry) (n : ℕ) (es : List Entry) → replicate n e ++ (e ∷ es) ≡ e ∷ (replicate n e ++ es)
+pub replicate-on : (e : Entry) (n : ℕ) (es : List Entry) → replicate n e ++ (e ∷ es) ≡ e ∷ (replicate n e ++ es)
 replicate-on e zero es = refl
 replicate-on e (suc n) es = ap (λ (t : List Entry). e ∷ t) (replicate-on e n es)
 
