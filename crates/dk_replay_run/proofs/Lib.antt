@@ -11,4 +11,5 @@ pub mod Clock
 pub mod Windows
 pub mod Counted
 pub mod Times
+pub mod InTurn
 mod Witness
