@@ -40,7 +40,7 @@ step-long cost p (kind.Slack n) some = ap suc (call-long cost p (Event.Slack n) 
 step-long cost p (kind.Put n) some = ap suc (call-long cost p (Event.Put n) some) ∙ omega arith
 step-long cost p kind.Wait some = call-long cost p Event.Wait some
 
-steps-long : (cost p : ℕ) (steps : List Step) → 0 < cost → length (flat_map (step_entries cost p) steps) ≡ sum_by (step_ticks cost) steps
+pub steps-long : (cost p : ℕ) (steps : List Step) → 0 < cost → length (flat_map (step_entries cost p) steps) ≡ sum_by (step_ticks cost) steps
 steps-long cost p [] some = refl
 steps-long cost p (s ∷ steps) some =
     omega (arith, length-append (step_entries cost p s) (flat_map (step_entries cost p) steps), step-long cost p s some, steps-long cost p steps some, sum_by-cons (step_ticks cost) s steps)

@@ -12,4 +12,5 @@ pub mod Windows
 pub mod Counted
 pub mod Times
 pub mod InTurn
+pub mod Whole
 mod Witness

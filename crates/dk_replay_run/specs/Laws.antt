@@ -1,5 +1,5 @@
 -- The laws of a process whose program is that of a profile.
-use Rattle.std.specs.Prelude.{ℕ, ◌≡◌, ◌+◌, ◌*◌, ◌%◌, ◌<◌, true, false, List, [], length, take, flat_map, count_by, slice_index_or}
+use Rattle.std.specs.Prelude.{ℕ, ◌≡◌, ◌+◌, ◌*◌, ◌%◌, ◌<◌, ◌≤◌, true, false, List, [], length, take, flat_map, count_by, reverse, slice_index_or}
 use Rattle.std.specs.List.{list_any}
 use Rattle.dk_config.specs.Configuration.{Configuration}
 use Rattle.dk_config.specs.Checked.{IsAccepted, IsChecked, IsWithinLimits}
@@ -9,10 +9,12 @@ use Rattle.dk_trace.specs.Entries.{does, is_budget_of, is_wait}
 use Rattle.dk_alone.specs.Alone.{ReadsNoTick, alone, entries_of}
 use Rattle.dk_alone.specs.Again.{own_window, window_from}
 use Rattle.dk_profile.specs.declared.steps.Step.{Step}
-use Rattle.dk_profile.specs.Steps.{steps_of}
+use Rattle.dk_profile.specs.Faults.{body}
+use Rattle.dk_profile.specs.Steps.{is_work, steps_of}
 use Rattle.dk_times.specs.Table.{job_of, table_readings, times_of}
 use Rattle.dk_replay.specs.Code.{program_of}
 use Rattle.dk_replay_run.specs.Jobs.{BeginsWithWork, FitWindows, HaveRoom, StandsReady, job_place, job_time, job_window, steps_of_jobs, work_times}
+use Rattle.dk_replay_run.specs.Profiles.{JobsFit, first_window, job_entries, job_in_turn, job_ticks, part_of, profile_steps, whole_window, windows_of}
 
 -- the program of a profile never reads the tick
 abbrev pub ProfilesReadNoTick : Type 0
@@ -79,3 +81,35 @@ UsesItsTable =
     → slice_index_or programs p [] ≡ program_of (steps_of (table_readings c.costs.call name table))
     → HasUsed p (slice_index_or (times_of c.costs.call name table) (k % length (times_of c.costs.call name table)) 0 + 2 * c.costs.switch)
     (window_from c programs p (window_tick c p k))
+
+-- With the processor to itself, a process with the program of a profile whose jobs fit and have some work has in window j of
+-- job k, counted from the one in which the job begins, both switches, the part of the job that comes next, and nothing else.
+abbrev pub PartsAlone : Type 0
+PartsAlone =
+    (c : Configuration) (p k j : ℕ) (jobs : List (List Step)) → IsWithinLimits c → IsChecked c → IsAccepted c → p < length c.processes
+    → list_any is_work (profile_steps jobs) ≡ true → JobsFit c p jobs → j < windows_of c p (job_in_turn jobs k)
+    → entries_of p
+    (take (period c (main_level c p)) (alone c p (program_of (profile_steps jobs)) (window_tick c p (first_window c p jobs k + j) + period c (main_level c p))).past)
+    ≡ reverse (whole_window c p (part_of c p (job_in_turn jobs k) j))
+
+-- So in every run, whatever programs the others have.
+abbrev pub ReplaysParts : Type 0
+ReplaysParts =
+    (c : Configuration) (programs : List (List ℕ)) (p k j : ℕ) (jobs : List (List Step)) → IsWithinLimits c → IsChecked c → IsAccepted c
+    → p < length c.processes → slots c p ≡ 0 → may_ask c p ≡ false
+    → list_any is_work (profile_steps jobs) ≡ true → JobsFit c p jobs → j < windows_of c p (job_in_turn jobs k)
+    → slice_index_or programs p [] ≡ program_of (profile_steps jobs)
+    → own_window c programs p (window_tick c p (first_window c p jobs k + j)) ≡ reverse (whole_window c p (part_of c p (job_in_turn jobs k) j))
+
+-- none of the jobs is longer than the body
+abbrev pub AreWithinBody : Configuration → ℕ → List (List Step) → Type 0
+AreWithinBody c p jobs = (k : ℕ) → job_ticks c (job_in_turn jobs k) ≤ body c p
+
+-- So where none is, window k has the whole of job k.
+abbrev pub ReplaysJobs : Type 0
+ReplaysJobs =
+    (c : Configuration) (programs : List (List ℕ)) (p k : ℕ) (jobs : List (List Step)) → IsWithinLimits c → IsChecked c → IsAccepted c
+    → p < length c.processes → slots c p ≡ 0 → may_ask c p ≡ false
+    → list_any is_work (profile_steps jobs) ≡ true → JobsFit c p jobs → AreWithinBody c p jobs
+    → slice_index_or programs p [] ≡ program_of (profile_steps jobs)
+    → own_window c programs p (window_tick c p k) ≡ reverse (whole_window c p (job_entries c p (job_in_turn jobs k)))

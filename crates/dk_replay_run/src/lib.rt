@@ -5,7 +5,7 @@
 //! All rules are this project's own.
 #![tactic(auto)]
 
-ghost use Rattle.dk_replay_run.specs.Laws.{JobsAlone, JobsInTurn, ProfilesReadNoTick, Replays, UsesItsJobs, UsesItsTable, UsesItsTimes};
+ghost use Rattle.dk_replay_run.specs.Laws.{JobsAlone, JobsInTurn, PartsAlone, ProfilesReadNoTick, Replays, ReplaysJobs, ReplaysParts, UsesItsJobs, UsesItsTable, UsesItsTimes};
 
 use dk_alone::windows_law;
 
@@ -52,4 +52,26 @@ pub fn tables_law()
     ensures { UsesItsTable }
 {
     times_law();
+}
+
+/// With the processor to itself a process whose jobs may work, put, lock and unlock has in each window of a job the part of it
+/// that comes next.
+pub fn parts_law()
+    ensures { PartsAlone }
+{}
+
+/// So in every run: in each window of job k it has both switches, the part of the job that comes next, and nothing else.
+pub fn windows_of_jobs_law()
+    ensures { ReplaysParts }
+{
+    clock_law();
+    parts_law();
+    windows_law();
+}
+
+/// So where no job is longer than the body, window k has the whole of job k.
+pub fn whole_jobs_law()
+    ensures { ReplaysJobs }
+{
+    windows_of_jobs_law();
 }
