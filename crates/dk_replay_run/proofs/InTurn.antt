@@ -45,7 +45,7 @@ steps-long cost p [] some = refl
 steps-long cost p (s ∷ steps) some =
     omega (arith, length-append (step_entries cost p s) (flat_map (step_entries cost p) steps), step-long cost p s some, steps-long cost p steps some, sum_by-cons (step_ticks cost) s steps)
 
-workless-none : (jobs : List (List Step)) → list_any is_work (profile_steps jobs) ≡ true → 0 < length jobs
+pub workless-none : (jobs : List (List Step)) → list_any is_work (profile_steps jobs) ≡ true → 0 < length jobs
 workless-none [] works = absurd (cc)
 workless-none (job ∷ jobs) works = omega arith
 

@@ -14,3 +14,4 @@ pub mod Times
 pub mod InTurn
 pub mod Whole
 mod Witness
+mod WitnessJobs

@@ -1,5 +1,5 @@
 -- The laws of a process whose program is that of a profile.
-use Rattle.std.specs.Prelude.{ℕ, ◌≡◌, ◌+◌, ◌*◌, ◌%◌, ◌<◌, ◌≤◌, true, false, List, [], length, take, flat_map, count_by, reverse, slice_index_or}
+use Rattle.std.specs.Prelude.{ℕ, ◌≡◌, ◌+◌, ◌*◌, ◌%◌, ◌<◌, ◌≤◌, true, false, List, [], ◌∷◌, length, take, flat_map, count_by, reverse, slice_index_or}
 use Rattle.std.specs.List.{list_any}
 use Rattle.dk_config.specs.Configuration.{Configuration}
 use Rattle.dk_config.specs.Checked.{IsAccepted, IsChecked, IsWithinLimits}
@@ -103,7 +103,8 @@ ReplaysParts =
 
 -- none of the jobs is longer than the body
 abbrev pub AreWithinBody : Configuration → ℕ → List (List Step) → Type 0
-AreWithinBody c p jobs = (k : ℕ) → job_ticks c (job_in_turn jobs k) ≤ body c p
+AreWithinBody c p [] = Unit {0}
+AreWithinBody c p (job ∷ jobs) = (job_ticks c job ≤ body c p) × AreWithinBody c p jobs
 
 -- So where none is, window k has the whole of job k.
 abbrev pub ReplaysJobs : Type 0
