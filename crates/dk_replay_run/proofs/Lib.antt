@@ -13,5 +13,6 @@ pub mod Counted
 pub mod Times
 pub mod InTurn
 pub mod Whole
+pub mod Faultless
 mod Witness
 mod WitnessJobs

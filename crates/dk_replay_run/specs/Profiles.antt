@@ -40,6 +40,17 @@ whole_job job = job ++ Step.Wait ∷ []
 abbrev pub profile_steps : List (List Step) → List Step
 profile_steps jobs = flat_map whole_job jobs
 
+-- a step in front of those of the first job
+abbrev pub before_first : Step → List (List Step) → List (List Step)
+before_first step [] = (step ∷ []) ∷ []
+before_first step (job ∷ jobs) = (step ∷ job) ∷ jobs
+
+-- the jobs of a profile with these steps, each up to its wait
+abbrev pub jobs_in : List Step → List (List Step)
+jobs_in [] = []
+jobs_in (Step.Wait ∷ steps) = [] ∷ jobs_in steps
+jobs_in (step ∷ steps) = before_first step (jobs_in steps)
+
 -- job k, where the jobs come in turn for ever
 abbrev pub job_in_turn : List (List Step) → ℕ → List Step
 job_in_turn jobs k = slice_index_or jobs (k % length jobs) []
