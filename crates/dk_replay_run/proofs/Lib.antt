@@ -14,5 +14,6 @@ pub mod Times
 pub mod InTurn
 pub mod Whole
 pub mod Faultless
+pub mod Said
 mod Witness
 mod WitnessJobs

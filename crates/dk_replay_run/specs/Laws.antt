@@ -11,10 +11,13 @@ use Rattle.dk_alone.specs.Again.{own_window, window_from}
 use Rattle.dk_profile.specs.declared.steps.Step.{Step}
 use Rattle.dk_profile.specs.Faults.{body}
 use Rattle.dk_profile.specs.Steps.{is_work, steps_of}
+use Rattle.dk_times.specs.declared.form.Form.{Form}
+use Rattle.dk_times.specs.Whole.{readings_in}
+use Rattle.dk_replay.specs.Pages.{is_made, program_for}
 use Rattle.dk_times.specs.Table.{job_of, table_readings, times_of}
 use Rattle.dk_replay.specs.Code.{program_of}
 use Rattle.dk_replay_run.specs.Jobs.{BeginsWithWork, FitWindows, HaveRoom, StandsReady, job_place, job_time, job_window, steps_of_jobs, work_times}
-use Rattle.dk_replay_run.specs.Profiles.{JobsFit, first_window, job_entries, job_in_turn, job_ticks, part_of, profile_steps, whole_window, windows_of}
+use Rattle.dk_replay_run.specs.Profiles.{JobsFit, first_window, job_entries, job_in_turn, job_ticks, jobs_in, part_of, profile_steps, whole_window, windows_of}
 
 -- the program of a profile never reads the tick
 abbrev pub ProfilesReadNoTick : Type 0
@@ -114,3 +117,18 @@ ReplaysJobs =
     → list_any is_work (profile_steps jobs) ≡ true → JobsFit c p jobs → AreWithinBody c p jobs
     → slice_index_or programs p [] ≡ program_of (profile_steps jobs)
     → own_window c programs p (window_tick c p k) ≡ reverse (whole_window c p (job_entries c p (job_in_turn jobs k)))
+
+-- the jobs of a profile in this form of process p, which has this name
+abbrev pub profile_jobs : Configuration → Form → ℕ → List ℕ → List ℕ → List (List Step)
+profile_jobs c form p name bytes = jobs_in (steps_of (readings_in c form p name bytes))
+
+-- So of the bytes of a profile, a text or a table, with which nothing is wrong: with the program that is made of it, the process has
+-- in each window of job k both switches, the part of the job that comes next, and nothing else.
+abbrev pub ReplaysProfiles : Type 0
+ReplaysProfiles =
+    (c : Configuration) (programs : List (List ℕ)) (form : Form) (p k j : ℕ) (name bytes : List ℕ) → IsWithinLimits c → IsChecked c → IsAccepted c
+    → p < length c.processes → slots c p ≡ 0 → may_ask c p ≡ false → is_made c form p name bytes ≡ true
+    → j < windows_of c p (job_in_turn (profile_jobs c form p name bytes) k)
+    → slice_index_or programs p [] ≡ program_for c form p name bytes
+    → own_window c programs p (window_tick c p (first_window c p (profile_jobs c form p name bytes) k + j))
+    ≡ reverse (whole_window c p (part_of c p (job_in_turn (profile_jobs c form p name bytes) k) j))

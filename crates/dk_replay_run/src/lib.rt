@@ -5,7 +5,7 @@
 //! All rules are this project's own.
 #![tactic(auto)]
 
-ghost use Rattle.dk_replay_run.specs.Laws.{JobsAlone, JobsInTurn, PartsAlone, ProfilesReadNoTick, Replays, ReplaysJobs, ReplaysParts, UsesItsJobs, UsesItsTable, UsesItsTimes};
+ghost use Rattle.dk_replay_run.specs.Laws.{JobsAlone, JobsInTurn, PartsAlone, ProfilesReadNoTick, Replays, ReplaysJobs, ReplaysParts, ReplaysProfiles, UsesItsJobs, UsesItsTable, UsesItsTimes};
 
 use dk_alone::windows_law;
 
@@ -72,6 +72,13 @@ pub fn windows_of_jobs_law()
 /// So where no job is longer than the body, window k has the whole of job k.
 pub fn whole_jobs_law()
     ensures { ReplaysJobs }
+{
+    windows_of_jobs_law();
+}
+
+/// And so of the bytes of a profile with which nothing is wrong: with the program that is made of it.
+pub fn profiles_law()
+    ensures { ReplaysProfiles }
 {
     windows_of_jobs_law();
 }
