@@ -15,5 +15,7 @@ pub mod InTurn
 pub mod Whole
 pub mod Faultless
 pub mod Said
+pub mod Joined
+pub mod UsedJobs
 mod Witness
 mod WitnessJobs

@@ -19,7 +19,7 @@ onto-is (e ∷ more) es =
     onto-is more (e ∷ es)
     ∙ sym (ap (λ (t : List Entry). t ++ es) (reverse_onto more e []) ∙ append_assoc (reverse more) (e ∷ []) es)
 
-onto-both : (a b es : List Entry) → onto (a ++ b) es ≡ onto b (onto a es)
+pub onto-both : (a b es : List Entry) → onto (a ++ b) es ≡ onto b (onto a es)
 onto-both [] b es = refl
 onto-both (e ∷ a) b es = onto-both a b (e ∷ es)
 

@@ -1,5 +1,5 @@
 -- Jobs of any steps but slack: the entries of their ticks, when they fit, and the windows that they take.
-use Rattle.std.specs.Prelude.{ℕ, zero, suc, ◌≡◌, ◌+◌, ◌-◌, ◌*◌, ◌/◌, ◌%◌, ◌^◌, ◌<◌, ◌≤◌, true, List, [], ◌∷◌, ◌++◌, drop, flat_map, length, replicate, slice_index_or, sum_by, take, Option, Some, None}
+use Rattle.std.specs.Prelude.{ℕ, zero, suc, ◌≡◌, ◌+◌, ◌-◌, ◌*◌, ◌/◌, ◌%◌, ◌^◌, ◌<◌, ◌≤◌, true, List, [], ◌∷◌, ◌++◌, drop, flat_map, length, replicate, slice_get, slice_index_or, sum_by, take, Option, Some, None}
 use Rattle.dk_config.specs.Configuration.{Configuration}
 use Rattle.dk_config.specs.Certification.{is_user}
 use Rattle.dk_config.specs.Windows.{longest_hold}
@@ -106,6 +106,16 @@ first_window c p jobs (suc k) = first_window c p jobs k + windows_of c p (job_in
 -- what of a job is done in its window j, counted from 0: the next entries, as many as the body has
 abbrev pub part_of : Configuration → ℕ → List Step → ℕ → List Entry
 part_of c p job j = take (body c p) (drop (j * body c p) (job_entries c p job))
+
+-- the parts of a job's first windows, joined
+abbrev pub parts_up_to : Configuration → ℕ → List Step → ℕ → List Entry
+parts_up_to c p job zero = []
+parts_up_to c p job (suc j) = parts_up_to c p job j ++ part_of c p job j
+
+-- in tick n of a job's ticks in the body, counted from 1, its call with this event is granted
+abbrev pub IsGrantedIn : Configuration → ℕ → List Step → ℕ → Event → Type 0
+IsGrantedIn c p job n event =
+    slice_get (job_entries c p job) (n - 1) ≡ Some (record { label = Label.Call (record { process = p; serial = 0 }); event = Some event })
 
 -- a window of the main with these entries in its body, the oldest first: both switches and nothing else beside them
 abbrev pub whole_window : Configuration → ℕ → List Entry → List Entry

@@ -5,7 +5,7 @@
 //! All rules are this project's own.
 #![tactic(auto)]
 
-ghost use Rattle.dk_replay_run.specs.Laws.{JobsAlone, JobsInTurn, PartsAlone, ProfilesReadNoTick, Replays, ReplaysJobs, ReplaysParts, ReplaysProfiles, UsesItsJobs, UsesItsTable, UsesItsTimes};
+ghost use Rattle.dk_replay_run.specs.Laws.{JobsAlone, JobsInTurn, LocksInTheirTicks, PartsAlone, PartsAreWhole, ProfilesReadNoTick, Replays, ReplaysJobs, ReplaysParts, ReplaysProfiles, UsesItsJobs, UsesItsTable, UsesItsTimes, UsesWholeJobs, WindowsAreParts};
 
 use dk_alone::windows_law;
 
@@ -81,4 +81,19 @@ pub fn profiles_law()
     ensures { ReplaysProfiles }
 {
     windows_of_jobs_law();
+}
+
+/// Each window of the main is one of those of a job, and the parts of a job in its windows, joined, are its entries. In these a
+/// lock and an unlock are granted in the tick of the job up to which its steps take.
+pub fn parts_are_jobs_law()
+    ensures windows { WindowsAreParts }
+    ensures whole { PartsAreWhole }
+    ensures locks { LocksInTheirTicks }
+{}
+
+/// Where no job is longer than the body, the main uses in window k exactly the ticks of job k and both switches, and it waits.
+pub fn used_jobs_law()
+    ensures { UsesWholeJobs }
+{
+    whole_jobs_law();
 }
