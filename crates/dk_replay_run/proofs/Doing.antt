@@ -1,17 +1,15 @@
 -- The ticks of a main that has the processor to itself and may hold a mutex.
-use Rattle.dk_alone.proofs.Names.{ℕ, zero, suc, ◌≡◌, ◌+◌, ◌-◌, ◌%◌, ◌<◌, ◌≤◌, inl, inr, Bool, true, false, cond, eqb, ltb, not, ◌&&◌, List, [], ◌∷◌, ◌++◌, length, map, Option, Some, None, refl, sym, ap, ◌∙◌, subst, arith, nat_tests, Configuration, IsChecked, period, main_level, budget, longest_hold, is_user, Phase, Label, Event, Entry, is_budget_of, is_out_of, Hold, aged, held_after, held_by, innermost_left, Job, body_left, job, thread_body_left, phase, rem, same-job, the_job, job-charged, main_id, main_row, Context, Tick, Outcome, KernelCall, body_tick, reg, Effect, effect, or_refused, done, lock_refusal, unlock_refusal, held-quiet, World, breaks_hold, quiet_entry, alone}
-use Rattle.std.specs.Prelude.{◌==◌}
+use Rattle.dk_alone.proofs.Names.{ℕ, zero, suc, ◌≡◌, ◌+◌, ◌-◌, ◌%◌, ◌<◌, ◌≤◌, inl, inr, Bool, true, false, cond, eqb, ltb, not, ◌&&◌, List, [], ◌∷◌, ◌++◌, length, map, Option, Some, None, refl, sym, ap, ◌∙◌, subst, arith, nat_tests, Configuration, IsChecked, period, main_level, budget, longest_hold, is_user, Phase, Label, Event, Entry, is_budget_of, is_out_of, Hold, aged, held_after, held_by, innermost_left, Job, body_left, job, thread_body_left, phase, rem, same-job, the_job, job-charged, main_id, main_row, Context, Outcome, KernelCall, body_tick, reg, or_refused, done, lock_refusal, unlock_refusal, held-quiet, World, breaks_hold, quiet_entry, alone}
 use Rattle.dk_cpu.specs.Machine.{ran}
 use Rattle.dk_cpu.specs.State.{replied}
 use Rattle.dk_profile.specs.Faults.{body}
 use Rattle.dk_profile.specs.declared.jobs.HeldMutex.{HeldMutex}
-use Rattle.dk_alone.proofs.Own.{Own, own, after, same-own}
+use Rattle.dk_alone.proofs.Own.{Own, after, same-own}
 use Rattle.dk_alone.proofs.Same.{lock_with, unlock_with}
-use Rattle.dk_alone.proofs.Ties.{alone-long}
 use Rattle.dk_replay_run.specs.Profiles.{IsFree}
 use Rattle.dk_replay_run.proofs.Turns as turns
 use Rattle.dk_replay_run.proofs.Turns.{At, effect_of, here, same-self}
-use Rattle.dk_replay_run.proofs.Moves.{IsDone, IsMove, Moves, Tells, last_tick}
+use Rattle.dk_replay_run.proofs.Moves.{IsMove, Moves, Tells, last_tick}
 
 -- what a past says of a main in the midst of its window
 abbrev pub busy : List Entry → ℕ → ℕ → List Hold → Own

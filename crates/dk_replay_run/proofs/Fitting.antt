@@ -1,8 +1,7 @@
 -- A job that fits can be done tick by tick.
-use Rattle.std.proofs.Common.{◌≡◌, ◌∙◌, refl, ap, sym, subst, ◌<◌, ◌≤◌, ◌+◌, ◌-◌, ◌*◌, ◌%◌, ℕ, zero, suc, true, List, [], ◌∷◌, ◌++◌, length, append_assoc, append-nil, arith, Option, Some, None}
+use Rattle.std.proofs.Common.{◌≡◌, refl, ap, sym, subst, ◌<◌, ◌≤◌, ◌+◌, ◌-◌, ℕ, zero, suc, List, [], ◌∷◌, ◌++◌, length, append_assoc, append-nil, arith, Option, Some, None}
 use Rattle.std.specs.Prelude.{flat_map, replicate, slice_index_or}
 use Rattle.dk_config.specs.Configuration.{Configuration}
-use Rattle.dk_config.specs.Certification.{is_user}
 use Rattle.dk_config.specs.Windows.{longest_hold}
 use Rattle.dk_trace.specs.declared.Label.{Label}
 use Rattle.dk_trace.specs.declared.Event.{Event}
@@ -12,7 +11,7 @@ use Rattle.dk_trace.proofs.Mains.{main_id}
 use Rattle.dk_profile.specs.declared.jobs.HeldMutex.{HeldMutex}
 use Rattle.dk_profile.specs.declared.steps.Step.{Step}
 use Rattle.dk_profile.specs.declared.steps.Step.TheVariants as kind
-use Rattle.dk_replay_run.specs.Profiles.{EndsHold, FitsFrom, IsFree, JobsFit, call_entries, step_entries, whole_job, work_entries}
+use Rattle.dk_replay_run.specs.Profiles.{FitsFrom, JobsFit, call_entries, step_entries, whole_job, work_entries}
 use Rattle.dk_replay_run.proofs.Moves.{last_tick}
 use Rattle.dk_replay_run.proofs.Doing.{Goes, Granted, Stays, held_next}
 use Rattle.dk_replay_run.proofs.Laps.{ArePlain}

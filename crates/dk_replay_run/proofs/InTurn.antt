@@ -1,5 +1,5 @@
 -- The jobs in turn, each from the window in which it begins to the one in which it waits.
-use Rattle.dk_alone.proofs.Names.{ℕ, zero, suc, ◌≡◌, ◌+◌, ◌-◌, ◌*◌, ◌/◌, ◌%◌, ◌<◌, ◌≤◌, inl, inr, Bool, true, false, leb, List, [], ◌∷◌, ◌++◌, length, Option, None, refl, sym, ap, ◌∙◌, subst, arith, nat_tests, cases_Bool, reverse, replicate, take, flat_map, sum_by, filter-append, append_cancel_right, mul-mod_left, Configuration, IsChecked, IsAccepted, period, main_level, budget, window_start, Label, Event, Entry, main_id, Context, quiet_entry, alone, choice_alone, is_of_process, entries_of}
+use Rattle.dk_alone.proofs.Names.{ℕ, zero, suc, ◌≡◌, ◌+◌, ◌-◌, ◌*◌, ◌/◌, ◌%◌, ◌<◌, ◌≤◌, inl, inr, true, false, leb, List, [], ◌∷◌, ◌++◌, length, None, refl, sym, ap, ◌∙◌, subst, arith, nat_tests, cases_Bool, reverse, replicate, take, flat_map, sum_by, filter-append, append_cancel_right, mul-mod_left, Configuration, IsChecked, IsAccepted, period, main_level, budget, window_start, Label, Event, Entry, main_id, Context, quiet_entry, alone, choice_alone, is_of_process, entries_of}
 use Rattle.std.proofs.Common.{append_assoc, append-nil, length-append}
 use Rattle.std.specs.Prelude.{drop}
 use Rattle.std.specs.List.{list_any}
@@ -17,7 +17,7 @@ use Rattle.dk_profile.specs.Steps.{is_work, step_ticks}
 use Rattle.dk_alone.proofs.Own.{own-begins}
 use Rattle.dk_alone.proofs.Again.{on, on-is, entry-by}
 use Rattle.dk_replay.specs.Code.{program_of}
-use Rattle.dk_replay_run.specs.Profiles.{JobsFit, call_entries, first_window, job_entries, job_in_turn, job_ticks, part_of, profile_steps, step_entries, whole_job, whole_window, windows_of, work_entries}
+use Rattle.dk_replay_run.specs.Profiles.{JobsFit, call_entries, first_window, job_entries, job_in_turn, job_ticks, part_of, profile_steps, step_entries, whole_window, windows_of}
 use Rattle.dk_replay_run.proofs.Turns.{At, going, own_from}
 use Rattle.dk_replay_run.proofs.Moves.{Moves, last_tick}
 use Rattle.dk_replay_run.proofs.Doing.{Goes, onto}

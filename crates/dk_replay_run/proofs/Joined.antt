@@ -1,6 +1,6 @@
 -- The windows of a run are those of the jobs, and their parts are the whole of each.
-use Rattle.std.proofs.Common.{◌≡◌, ◌∙◌, refl, ap, sym, subst, inl, inr, ◌<◌, ◌≤◌, ◌+◌, ◌-◌, ◌*◌, ◌/◌, ◌%◌, ℕ, zero, suc, Bool, true, false, List, [], ◌∷◌, ◌++◌, length, length-append, append_assoc, take, arith, Some}
-use Rattle.std.specs.Prelude.{drop, flat_map, nat_le, replicate, slice_get, sum_by}
+use Rattle.std.proofs.Common.{◌≡◌, ◌∙◌, refl, ap, sym, inl, inr, ◌<◌, ◌≤◌, ◌+◌, ◌-◌, ◌*◌, ◌/◌, ℕ, zero, suc, List, [], ◌∷◌, ◌++◌, length, length-append, append_assoc, take, arith, Some}
+use Rattle.std.specs.Prelude.{flat_map, nat_le, replicate, slice_get, sum_by}
 use Rattle.std.proofs.Math.Nat.{div-add-mod, mod-lt}
 use Rattle.std.proofs.Math.Seq.{take-add}
 use Rattle.std.proofs.lemmas.Bool.{cases_Bool}
@@ -18,7 +18,7 @@ use Rattle.dk_profile.specs.Faults.{body}
 use Rattle.dk_profile.specs.declared.steps.Step.{Step}
 use Rattle.dk_profile.specs.declared.steps.Step.TheVariants as kind
 use Rattle.dk_profile.specs.Steps.{step_ticks}
-use Rattle.dk_replay_run.specs.Profiles.{IsGrantedIn, call_entries, first_window, job_entries, job_in_turn, job_ticks, part_of, parts_up_to, step_entries, whole_job, windows_of, work_entries}
+use Rattle.dk_replay_run.specs.Profiles.{IsGrantedIn, call_entries, job_entries, job_in_turn, job_ticks, part_of, parts_up_to, step_entries, whole_job, windows_of, work_entries}
 use Rattle.dk_replay_run.specs.Laws.{LocksInTheirTicks, PartsAreWhole, WindowsAreParts}
 use Rattle.dk_replay_run.proofs.InTurn.{steps-long}
 use Rattle.dk_replay_run.proofs.Moves.{last_tick}

@@ -1,5 +1,5 @@
 -- What the ticks of a program's steps come to, one by one, where each call is granted.
-use Rattle.std.proofs.Common.{◌≡◌, ◌∙◌, refl, ap, sym, subst, inl, inr, ◌<◌, ◌+◌, ◌-◌, ◌^◌, ℕ, zero, suc, Bool, true, false, List, [], ◌∷◌, ◌++◌, length, append_assoc, arith, Option, Some, None}
+use Rattle.std.proofs.Common.{◌≡◌, ◌∙◌, refl, ap, sym, subst, inl, inr, ◌<◌, ◌+◌, ◌-◌, ◌^◌, ℕ, zero, suc, Bool, true, false, List, [], ◌∷◌, ◌++◌, length, arith, Some, None}
 use Rattle.std.specs.Prelude.{◌⊎◌, ◌==◌, if◌then◌else◌, replicate}
 use Rattle.std.proofs.lemmas.Bool.Decides.{nat_tests}
 use Rattle.std.proofs.lemmas.List.{length-set}
@@ -8,7 +8,7 @@ use Rattle.dk_cpu.specs.declared.Context.{Context}
 use Rattle.dk_cpu.specs.declared.Outcome.{Outcome}
 use Rattle.dk_cpu.specs.declared.kernel_call.KernelCall.{KernelCall}
 use Rattle.dk_cpu.specs.declared.kernel_call.KernelCall.TheVariants as call
-use Rattle.dk_cpu.specs.Machine.{Tick, body_tick, call_of, ran, reg, set}
+use Rattle.dk_cpu.specs.Machine.{body_tick, call_of, ran, reg, set}
 use Rattle.dk_cpu.specs.State.{RunsFor, replied}
 use Rattle.dk_trace.specs.declared.Label.{Label}
 use Rattle.dk_trace.specs.declared.Event.{Event}
@@ -17,9 +17,9 @@ use Rattle.dk_trace.specs.Entries.{quiet}
 use Rattle.dk_trace.proofs.Mains.{main_id}
 use Rattle.dk_profile.specs.declared.steps.Step.{Step}
 use Rattle.dk_profile.specs.declared.steps.Step.TheVariants as kind
-use Rattle.dk_profile.specs.Steps.{step_size, work_size}
-use Rattle.dk_replay.specs.Code.{call_code, step_code, work_code}
-use Rattle.dk_replay.specs.Laws.{HasCode, IsAt, Runs, StandsAt, left_behind, standing}
+use Rattle.dk_profile.specs.Steps.{step_size}
+use Rattle.dk_replay.specs.Code.{call_code, step_code}
+use Rattle.dk_replay.specs.Laws.{HasCode, IsAt, StandsAt, left_behind, standing}
 use Rattle.dk_replay.proofs.Calls.{call_takes}
 use Rattle.dk_replay.proofs.Work.{fetched, loaded, work_takes}
 use Rattle.dk_replay_run.specs.Profiles.{call_entries, step_entries, work_entries}

@@ -1,5 +1,5 @@
 -- The windows of a job: those that it fills, where it is longer than the body, and its last.
-use Rattle.dk_alone.proofs.Names.{ℕ, zero, suc, ◌≡◌, ◌+◌, ◌-◌, ◌*◌, ◌%◌, ◌<◌, ◌≤◌, inl, inr, Bool, true, false, ltb, List, [], ◌∷◌, ◌++◌, length, Option, Some, None, refl, sym, ap, ◌∙◌, subst, arith, nat_tests, reverse, replicate, Configuration, IsChecked, period, main_level, budget, Phase, Choice, Label, Event, Entry, phase, rem, the_job, main_id, Context, Outcome, KernelCall, body_tick, World, quiet_entry, alone, choice_alone, longest_hold}
+use Rattle.dk_alone.proofs.Names.{ℕ, zero, suc, ◌≡◌, ◌+◌, ◌-◌, ◌*◌, ◌%◌, ◌<◌, ◌≤◌, inl, inr, true, false, ltb, List, [], ◌∷◌, ◌++◌, length, Option, Some, None, refl, sym, ap, ◌∙◌, subst, arith, nat_tests, reverse, replicate, Configuration, IsChecked, period, main_level, budget, Phase, Choice, Label, Event, Entry, phase, rem, the_job, main_id, Context, Outcome, KernelCall, body_tick, World, quiet_entry, alone, choice_alone}
 use Rattle.std.proofs.Common.{append_assoc, append-nil}
 use Rattle.std.proofs.lemmas.Grind.{reverse_onto}
 use Rattle.dk_cpu.specs.State.{replied}

@@ -1,5 +1,5 @@
 -- What the steps of a profile are, as a text or a table says them: work of some ticks, and locks of mutexes that the process may use.
-use Rattle.std.proofs.Common.{◌≡◌, refl, sym, subst, ◌<◌, ◌≤◌, ◌+◌, ◌-◌, ◌^◌, ℕ, Bool, true, false, List, [], ◌∷◌, ◌++◌, length, arith, Option, Some, None}
+use Rattle.std.proofs.Common.{◌≡◌, refl, sym, subst, ◌<◌, ◌≤◌, ◌+◌, ◌-◌, ℕ, Bool, true, false, List, [], ◌∷◌, ◌++◌, length, arith, Option, Some, None}
 use Rattle.std.specs.Prelude.{◌==◌, ◌&&◌, nat_le, nat_lt, if◌then◌else◌, codes, flat_map, Result, Ok, Err}
 use Rattle.std.specs.List.{AllByRecursion}
 use Rattle.std.specs.Str.{bytes_eq}
@@ -13,7 +13,7 @@ use Rattle.dk_profile.specs.declared.steps.Reading.{Reading}
 use Rattle.dk_profile.specs.declared.steps.Reading.TheVariants as reading
 use Rattle.dk_profile.specs.declared.steps.Placed.{Placed}
 use Rattle.dk_profile.specs.declared.steps.ProfileFault.{ProfileFault}
-use Rattle.dk_profile.specs.Reading.{alone, amount, in_range, mutex_named, number_of, of_user, placed, read_line, reading_of, readings_of, said, step_on, used_mutex}
+use Rattle.dk_profile.specs.Reading.{amount, in_range, mutex_named, number_of, of_user, placed, read_line, reading_of, readings_of, said, step_on, used_mutex}
 use Rattle.dk_profile.specs.Words.{LineWords, line_words}
 use Rattle.dk_profile.specs.Steps.{steps_of}
 use Rattle.dk_times.specs.declared.form.Form.{Form}

@@ -1,5 +1,5 @@
 -- What is counted in the window of a whole job: the ticks of the main's budget, and that it waits.
-use Rattle.dk_alone.proofs.Names.{ℕ, zero, suc, ◌≡◌, ◌+◌, ◌-◌, ◌*◌, ◌<◌, Bool, true, false, cond, ◌||◌, List, [], ◌∷◌, ◌++◌, length, refl, sym, ap, ◌∙◌, subst, arith, count_by, flat_map, list_any, replicate, reverse, count_by-cons, Configuration, Label, Event, Entry, is_budget_of, does, is_wait, main_id, budget-not, quiet_entry, entries_of}
+use Rattle.dk_alone.proofs.Names.{ℕ, zero, suc, ◌≡◌, ◌+◌, ◌-◌, ◌*◌, ◌<◌, Bool, true, false, cond, ◌||◌, List, [], ◌∷◌, ◌++◌, length, refl, sym, ap, ◌∙◌, arith, count_by, flat_map, list_any, replicate, reverse, count_by-cons, Configuration, Label, Event, Entry, is_budget_of, does, is_wait, main_id, budget-not, quiet_entry, entries_of}
 use Rattle.std.proofs.Common.{append_assoc, append-nil, length-append}
 use Rattle.std.proofs.lemmas.Grind.{flat_map-append}
 use Rattle.std.proofs.lemmas.List.{length-replicate}

@@ -1,15 +1,16 @@
 -- The premises of the laws of jobs with any steps can be met all at once: a process with a wait alone as its first job, one with a
 -- put under a mutex that another process uses too, and one that is longer than the body. Four of its windows, computed.
-use Rattle.dk_alone.proofs.Names.{ℕ, ◌≡◌, ◌+◌, ◌*◌, ◌<◌, false, List, [], ◌∷◌, ◌++◌, None, refl, arith, replicate, reverse, slice_index_or, Configuration, IsChecked, IsAccepted, first_broken, checked, ThreadId, Label, Event, Entry, trace, accepted, alone, entries_of, own_window}
-use Rattle.std.specs.Prelude.{Option, Some}
+use Rattle.dk_alone.proofs.Names.{ℕ, ◌≡◌, ◌+◌, ◌*◌, ◌<◌, false, List, [], ◌∷◌, ◌++◌, None, refl, arith, replicate, reverse, slice_index_or, Configuration, IsChecked, IsAccepted, first_broken, checked, ThreadId, Label, Event, Entry, trace, accepted, alone, entries_of, own_window, window_from}
+use Rattle.std.specs.Prelude.{Some, codes, true}
 use Rattle.dk_config.specs.Checked.{IsWithinLimits}
 use Rattle.dk_config.specs.Rules.{all_tests, version_tests, count_tests, range_tests, period_tests, name_tests, again_tests, level_tests, budget_tests, user_tests, slowest_tests}
 use Rattle.dk_config.proofs.CheckedConfig.{within_limits}
-use Rattle.dk_profile.specs.declared.jobs.HeldMutex.{HeldMutex}
 use Rattle.dk_profile.specs.declared.steps.Step.{Step}
 use Rattle.dk_replay.specs.Code.{program_of}
-use Rattle.dk_replay_run.specs.Profiles.{FitsFrom, JobsFit, first_window, job_entries, job_in_turn, part_of, profile_steps, whole_window, windows_of}
-use Rattle.dk_replay_run.specs.Laws.{AreWithinBody, ReplaysJobs, ReplaysParts}
+use Rattle.dk_replay_run.specs.Profiles.{FitsFrom, JobsFit, first_window, job_entries, job_in_turn, job_ticks, part_of, profile_steps, whole_window, windows_of}
+use Rattle.dk_times.specs.declared.form.Form.{Form}
+use Rattle.dk_replay.specs.Pages.{is_made, program_for}
+use Rattle.dk_replay_run.specs.Laws.{AreWithinBody, HasUsed, ReplaysJobs, ReplaysParts, ReplaysProfiles, UsesWholeJobs, profile_jobs}
 
 abbrev sharing : Configuration
 sharing = record {
@@ -85,9 +86,9 @@ worked =
     ∷ quiet (Label.Run beta) ∷ quiet (Label.Call beta) ∷ last (Event.Unlock 0)
     ∷ quiet (Label.Call beta) ∷ last Event.Wait ∷ quiet (Label.Out beta)
     ∷ quiet (Label.In beta) ∷ (replicate 16 (quiet (Label.Run beta)) ++ (
-        quiet (Label.Out beta)
-        ∷ quiet (Label.In beta) ∷ (replicate 4 (quiet (Label.Run beta)) ++ (
-            quiet (Label.Call beta) ∷ last Event.Wait ∷ quiet (Label.Out beta) ∷ []))))
+    quiet (Label.Out beta)
+    ∷ quiet (Label.In beta) ∷ (replicate 4 (quiet (Label.Run beta)) ++ (
+    quiet (Label.Call beta) ∷ last Event.Wait ∷ quiet (Label.Out beta) ∷ []))))
 
 worked-alone : reverse (entries_of 1 (alone sharing 1 worker 240).past) ≡ worked
 worked-alone = refl
@@ -108,6 +109,22 @@ worker-replays : ReplaysParts → (others : List (List ℕ)) (k j : ℕ) → j <
 worker-replays law others k j few is =
     law sharing others 1 k j jobs sharing-limits sharing-checked sharing-accepted (omega arith) refl refl refl jobs-fit few is
 
+-- the same as a text says it
+abbrev profile : List ℕ
+profile = codes "wait\nwork 2\nlock m\nput 7\nunlock m\nwait\nwork 20\nwait\n"
+
+profile-made : is_made sharing Form.Text 1 (98 ∷ []) profile ≡ true
+profile-made = refl
+
+profile-says : profile_jobs sharing Form.Text 1 (98 ∷ []) profile ≡ jobs
+profile-says = refl
+
+profile-replays : ReplaysProfiles → (others : List (List ℕ)) (k j : ℕ) → j < windows_of sharing 1 (job_in_turn jobs k)
+    → slice_index_or others 1 [] ≡ program_for sharing Form.Text 1 (98 ∷ []) profile
+    → own_window sharing others 1 ((first_window sharing 1 jobs k + j) * 60) ≡ reverse (whole_window sharing 1 (part_of sharing 1 (job_in_turn jobs k) j))
+profile-replays law others k j few is =
+    law sharing others Form.Text 1 k j (98 ∷ []) profile sharing-limits sharing-checked sharing-accepted (omega arith) refl refl profile-made few is
+
 -- and without the longer job a window has the whole of each
 abbrev short : List (List Step)
 short = [] ∷ putting ∷ []
@@ -118,4 +135,9 @@ short-within = (omega arith, (omega arith, tt))
 short-replays : ReplaysJobs → (others : List (List ℕ)) (k : ℕ) → slice_index_or others 1 [] ≡ program_of (profile_steps short)
     → own_window sharing others 1 (k * 60) ≡ reverse (whole_window sharing 1 (job_entries sharing 1 (job_in_turn short k)))
 short-replays law others k is =
+    law sharing others 1 k short sharing-limits sharing-checked sharing-accepted (omega arith) refl refl refl (tt, (putting-fits, tt)) short-within is
+
+short-uses : UsesWholeJobs → (others : List (List ℕ)) (k : ℕ) → slice_index_or others 1 [] ≡ program_of (profile_steps short)
+    → HasUsed 1 (job_ticks sharing (job_in_turn short k) + 2) (window_from sharing others 1 (k * 60))
+short-uses law others k is =
     law sharing others 1 k short sharing-limits sharing-checked sharing-accepted (omega arith) refl refl refl (tt, (putting-fits, tt)) short-within is

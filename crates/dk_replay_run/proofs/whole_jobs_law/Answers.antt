@@ -1,5 +1,5 @@
-use Rattle.dk_alone.proofs.Names.{ℕ, ◌≡◌, ◌<◌, ◌+◌, ◌∙◌, ap, sym, subst, reverse, own_window}
-use Rattle.dk_replay_run.specs.Profiles.{first_window, job_in_turn, part_of, whole_window, windows_of}
+use Rattle.dk_alone.proofs.Names.{◌≡◌, ◌<◌, ◌+◌, ◌∙◌, ap, sym, reverse, own_window}
+use Rattle.dk_replay_run.specs.Profiles.{first_window, job_in_turn, whole_window, windows_of}
 use Rattle.dk_replay_run.specs.Laws.{window_tick}
 use Rattle.dk_replay_run.proofs.Whole.{all-of-it, each-within, one-each, one-window}
 use Rattle.dk_replay_run.proofs.whole_jobs_law.Goals as goal
