@@ -17,5 +17,6 @@ pub mod Faultless
 pub mod Said
 pub mod Joined
 pub mod UsedJobs
+pub mod Timed
 mod Witness
 mod WitnessJobs

@@ -23,7 +23,7 @@ pub onto-both : (a b es : List Entry) → onto (a ++ b) es ≡ onto b (onto a es
 onto-both [] b es = refl
 onto-both (e ∷ a) b es = onto-both a b (e ∷ es)
 
-onto-same : (e : Entry) (n : ℕ) (es : List Entry) → onto (replicate n e) es ≡ replicate n e ++ es
+pub onto-same : (e : Entry) (n : ℕ) (es : List Entry) → onto (replicate n e) es ≡ replicate n e ++ es
 onto-same e zero es = refl
 onto-same e (suc n) es = onto-same e n (e ∷ es) ∙ replicate-on e n es
 

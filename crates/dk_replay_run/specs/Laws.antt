@@ -17,7 +17,7 @@ use Rattle.dk_times.specs.Whole.{readings_in}
 use Rattle.dk_replay.specs.Pages.{is_made, program_for}
 use Rattle.dk_times.specs.Table.{job_of, table_readings, times_of}
 use Rattle.dk_replay.specs.Code.{program_of}
-use Rattle.dk_replay_run.specs.Jobs.{BeginsWithWork, FitWindows, HaveRoom, StandsReady, job_place, job_time, job_window, steps_of_jobs, work_times}
+use Rattle.dk_replay_run.specs.Jobs.{BeginsWithWork, FitWindows, HaveRoom, HaveSomeWork, StandsReady, job_place, job_time, job_window, steps_of_jobs, work_times}
 use Rattle.dk_replay_run.specs.Profiles.{IsGrantedIn, JobsFit, first_window, job_entries, job_in_turn, job_ticks, jobs_in, part_of, parts_up_to, profile_steps, whole_window, windows_of}
 
 -- the program of a profile never reads the tick
@@ -50,7 +50,7 @@ JobsAlone =
 abbrev pub Replays : Type 0
 Replays =
     (c : Configuration) (programs : List (List ℕ)) (p k : ℕ) (times : List ℕ) → IsWithinLimits c → IsChecked c → IsAccepted c
-    → p < length c.processes → slots c p ≡ 0 → may_ask c p ≡ false → BeginsWithWork times → HaveRoom c p times
+    → p < length c.processes → slots c p ≡ 0 → may_ask c p ≡ false → HaveSomeWork times → HaveRoom c p times
     → slice_index_or programs p [] ≡ program_of (steps_of_jobs times)
     → own_window c programs p (window_tick c p k) ≡ job_window c p (job_time times k)
 
@@ -63,7 +63,7 @@ pub record HasUsed (p ticks : ℕ) (window : List Entry) : Type 0 where
 abbrev pub UsesItsJobs : Type 0
 UsesItsJobs =
     (c : Configuration) (programs : List (List ℕ)) (p k : ℕ) (times : List ℕ) → IsWithinLimits c → IsChecked c → IsAccepted c
-    → p < length c.processes → slots c p ≡ 0 → may_ask c p ≡ false → BeginsWithWork times → HaveRoom c p times
+    → p < length c.processes → slots c p ≡ 0 → may_ask c p ≡ false → HaveSomeWork times → HaveRoom c p times
     → slice_index_or programs p [] ≡ program_of (steps_of_jobs times)
     → HasUsed p (job_time times k + c.costs.call + 2 * c.costs.switch) (window_from c programs p (window_tick c p k))
 
@@ -72,7 +72,7 @@ UsesItsJobs =
 abbrev pub UsesItsTimes : Type 0
 UsesItsTimes =
     (c : Configuration) (programs : List (List ℕ)) (p k : ℕ) (times : List ℕ) → IsWithinLimits c → IsChecked c → IsAccepted c
-    → p < length c.processes → slots c p ≡ 0 → may_ask c p ≡ false → BeginsWithWork (work_times c.costs.call times) → FitWindows c p times
+    → p < length c.processes → slots c p ≡ 0 → may_ask c p ≡ false → HaveSomeWork (work_times c.costs.call times) → FitWindows c p times
     → slice_index_or programs p [] ≡ program_of (flat_map (job_of c.costs.call) times)
     → HasUsed p (slice_index_or times (k % length times) 0 + 2 * c.costs.switch) (window_from c programs p (window_tick c p k))
 
@@ -81,7 +81,7 @@ abbrev pub UsesItsTable : Type 0
 UsesItsTable =
     (c : Configuration) (programs : List (List ℕ)) (p k : ℕ) (name table : List ℕ) → IsWithinLimits c → IsChecked c → IsAccepted c
     → p < length c.processes → slots c p ≡ 0 → may_ask c p ≡ false
-    → BeginsWithWork (work_times c.costs.call (times_of c.costs.call name table)) → FitWindows c p (times_of c.costs.call name table)
+    → HaveSomeWork (work_times c.costs.call (times_of c.costs.call name table)) → FitWindows c p (times_of c.costs.call name table)
     → slice_index_or programs p [] ≡ program_of (steps_of (table_readings c.costs.call name table))
     → HasUsed p (slice_index_or (times_of c.costs.call name table) (k % length (times_of c.costs.call name table)) 0 + 2 * c.costs.switch)
     (window_from c programs p (window_tick c p k))

@@ -24,36 +24,6 @@ pub fn jobs_law()
     ensures { JobsAlone }
 {}
 
-/// So in every run: in window k it has the switch in, the work of job k, its wait and the switch out, and nothing else.
-pub fn replays_law()
-    ensures { Replays }
-{
-    clock_law();
-    jobs_law();
-    windows_law();
-}
-
-/// So in window k it uses of its budget exactly the ticks of job k and both switches, and it waits.
-pub fn uses_law()
-    ensures { UsesItsJobs }
-{
-    replays_law();
-}
-
-/// So of a table of times: in window k it uses exactly the time of row k and both switches, and it waits.
-pub fn times_law()
-    ensures { UsesItsTimes }
-{
-    uses_law();
-}
-
-/// And so of the bytes of a table, in which the column of a name tells these times: with the program of this table.
-pub fn tables_law()
-    ensures { UsesItsTable }
-{
-    times_law();
-}
-
 /// With the processor to itself a process whose jobs may work, put, lock and unlock has in each window of a job the part of it
 /// that comes next.
 pub fn parts_law()
@@ -96,4 +66,33 @@ pub fn used_jobs_law()
     ensures { UsesWholeJobs }
 {
     whole_jobs_law();
+}
+
+/// So where each job is some ticks of work and a wait, or a wait alone, window k has the switch in, the work of job k, its wait and
+/// the switch out, and nothing else.
+pub fn replays_law()
+    ensures { Replays }
+{
+    whole_jobs_law();
+}
+
+/// So in window k it uses of its budget exactly the ticks of job k and both switches, and it waits.
+pub fn uses_law()
+    ensures { UsesItsJobs }
+{
+    replays_law();
+}
+
+/// So of a table of times: in window k it uses exactly the time of row k and both switches, and it waits.
+pub fn times_law()
+    ensures { UsesItsTimes }
+{
+    uses_law();
+}
+
+/// And so of the bytes of a table, in which the column of a name tells these times: with the program of this table.
+pub fn tables_law()
+    ensures { UsesItsTable }
+{
+    times_law();
 }
