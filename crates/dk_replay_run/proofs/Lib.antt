@@ -9,7 +9,6 @@ pub mod Rounds
 pub mod Room
 pub mod Clock
 pub mod Windows
-pub mod Counted
 pub mod Times
 pub mod InTurn
 pub mod Whole
