@@ -17,5 +17,6 @@ pub mod Said
 pub mod Joined
 pub mod UsedJobs
 pub mod Timed
+pub mod TimedTurns
 mod Witness
 mod WitnessJobs

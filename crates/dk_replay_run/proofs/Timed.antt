@@ -58,7 +58,7 @@ at-place [] i = refl
 at-place (n ∷ times) zero = refl
 at-place (n ∷ times) (suc i) = at-place times i
 
-as-long : (times : List ℕ) → length (timed_jobs times) ≡ length times
+pub as-long : (times : List ℕ) → length (timed_jobs times) ≡ length times
 as-long [] = refl
 as-long (n ∷ times) = ap suc (as-long times)
 
