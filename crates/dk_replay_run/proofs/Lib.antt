@@ -5,10 +5,8 @@ pub mod Laps
 pub mod Fitting
 pub mod Phases
 pub mod Parts
-pub mod Rounds
 pub mod Room
 pub mod Clock
-pub mod Windows
 pub mod Times
 pub mod InTurn
 pub mod Whole

@@ -1,5 +1,5 @@
 -- Jobs by their ticks of work, with the processor to themselves: where each begins, and the window that has it.
-use Rattle.dk_alone.proofs.Names.{ℕ, zero, suc, ◌≡◌, ◌+◌, ◌*◌, ◌%◌, ◌<◌, ◌≤◌, inl, inr, false, List, [], ◌∷◌, length, map, refl, sym, ap, ◌∙◌, subst, arith, take, reverse, sum_by, Configuration, IsChecked, IsAccepted, period, main_level, alone, entries_of}
+use Rattle.dk_alone.proofs.Names.{ℕ, zero, suc, ◌≡◌, ◌+◌, ◌*◌, ◌%◌, ◌<◌, ◌≤◌, inl, inr, List, [], ◌∷◌, length, refl, sym, ap, ◌∙◌, subst, arith, take, reverse, sum_by, Configuration, IsChecked, IsAccepted, period, main_level, alone, entries_of}
 use Rattle.dk_config.specs.Checked.{IsWithinLimits}
 use Rattle.dk_cpu.specs.declared.Context.{Context}
 use Rattle.dk_profile.specs.Faults.{body}
