@@ -159,9 +159,6 @@ module _ (c : Configuration) (p : ℕ) (limits : IsWithinLimits c) (checked : Is
   counted : (s : JobState) (step : Step) (used : ℕ) → s.used ≡ min used 4000000 → used_after c s step ≡ min (used + step_ticks K step) 4000000
   counted s step used is = ap (λ x. min (x + step_ticks K step) 4000000) is ∙ capped 4000000 used (step_ticks K step)
 
-  abbrev Rest : List Step → Type 0
-  Rest steps = (s : JobState) (used : ℕ) (held : Option HeldMutex) → Counts s used held → Splits c p s.begun used held steps
-
   from-start : Counts first_state 0 None
   from-start = record { count = refl; mutex = refl; early = tt; fresh = λ e. (refl, refl) }
 

@@ -22,10 +22,9 @@ use Rattle.dk_replay_run.proofs.Turns.{At, going, own_from}
 use Rattle.dk_replay_run.proofs.Moves.{Moves, last_tick}
 use Rattle.dk_replay_run.proofs.Doing.{Goes, onto}
 use Rattle.dk_replay_run.proofs.Fitting.{fits-at, plain-job, steps-go, up_to_wait}
-use Rattle.dk_replay_run.proofs.Laps.{Ready, ReadyFor, job-on}
+use Rattle.dk_replay_run.proofs.Laps.{ReadyAt, job-on}
 use Rattle.dk_replay_run.proofs.Parts.{full, last, onto-is}
 use Rattle.dk_replay_run.proofs.Room.{budget-fits}
-use Rattle.dk_replay_run.proofs.Windows.{split}
 
 -- a step has as many entries as it takes ticks
 call-long : (cost p : ℕ) (event : Event) → 0 < cost → length (call_entries cost p event) ≡ cost
@@ -54,6 +53,13 @@ next-of j n = grind arith
 
 no-times : (n : ℕ) → 0 * n ≡ 0
 no-times n = omega arith
+
+-- the entries of the last ticks stand before those of an earlier tick
+split : (f : ℕ → List Entry) → ((n : ℕ) → (e : Entry) × (f (suc n) ≡ e ∷ f n)) → (d t : ℕ) → f (on d t) ≡ take d (f (on d t)) ++ f t
+split f grows zero t = refl
+split f grows (suc d) t =
+    let grown = grows (on d t) in
+    subst (λ (es : List Entry). es ≡ take (suc d) es ++ f t) (sym grown.1) (ap (λ (es : List Entry). grown.0 ∷ es) (split f grows d t))
 
 module _ (c : Configuration) (p : ℕ) (jobs : List (List Step)) (limits : IsWithinLimits c) (checked : IsChecked c) (accepted : IsAccepted c)
     (known : p < length c.processes) (works : list_any is_work (profile_steps jobs) ≡ true) (room : JobsFit c p jobs) where
@@ -119,13 +125,13 @@ module _ (c : Configuration) (p : ℕ) (jobs : List (List Step)) (limits : IsWit
 
   -- where job k begins
   abbrev Starts : ℕ → ℕ → List Entry → Type 0
-  Starts k s es = (x : Context) × Begun s es x words × ReadyFor jobs k x
+  Starts k s es = (x : Context) × Begun s es x words × ReadyAt jobs k x
 
   -- a window in which job k goes on behind j others
   abbrev GoesOn : ℕ → ℕ → ℕ → List Entry → Type 0
   GoesOn k j s es =
       (x : Context) × (l : List ℕ) × (z : Context) × Begun s es x l × Moves K code p (drop (j * C) (R k) ++ wait ∷ []) x l z words
-      × Goes c p (j * C) None (drop (j * C) (R k)) × ReadyFor jobs (suc k) z
+      × Goes c p (j * C) None (drop (j * C) (R k)) × ReadyAt jobs (suc k) z
 
   -- the entries of its window j in front of those before
   abbrev Grown : ℕ → ℕ → List Entry → List Entry
@@ -134,8 +140,7 @@ module _ (c : Configuration) (p : ℕ) (jobs : List (List Step)) (limits : IsWit
   first : Starts 0 0 []
   first =
       let zeros : 0 % span ≡ 0 = mod-eq_of_lt whole in
-      let start : window_start c (main_level c p) 0 ≡ 0 = omega arith in
-      let none : 0 % length jobs ≡ 0 = mod-eq_of_lt long in (
+      let start : window_start c (main_level c p) 0 ≡ 0 = omega arith in (
         zero_context,
         record {
           low = omega arith;
@@ -145,7 +150,7 @@ module _ (c : Configuration) (p : ℕ) (jobs : List (List Step)) (limits : IsWit
           memory = refl;
           code = refl;
         },
-        subst (λ i. Ready (profile_steps jobs) (profile_steps (take i jobs)) zero_context) (sym none) (inl (record { place = refl; registers = refl; left = refl })),
+        record { place = refl; registers = refl; left = refl },
       )
 
   enter : (k s : ℕ) (es : List Entry) → Starts k s es → GoesOn k 0 s es
@@ -252,7 +257,7 @@ module _ (c : Configuration) (p : ℕ) (jobs : List (List Step)) (limits : IsWit
         | inr not ↦ grind (arith, nat_tests)
       ]
 
-  start-of : (k : ℕ) → (es : List Entry) × Starts k (tick (first_window c p jobs k)) es
+  pub start-of : (k : ℕ) → (es : List Entry) × Starts k (tick (first_window c p jobs k)) es
   start-of zero = ([], subst (λ t. Starts 0 t []) (sym (no-times span)) first)
   start-of (suc k) =
       let j : ℕ = (job_ticks c (job k) - 1) / C in

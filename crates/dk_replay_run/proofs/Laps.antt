@@ -2,7 +2,7 @@
 use Rattle.std.proofs.Common.{◌≡◌, ◌∙◌, refl, ap, sym, subst, inl, inr, ◌<◌, ◌+◌, ◌-◌, ◌*◌, ◌%◌, ◌^◌, ℕ, zero, suc, true, false, List, [], ◌∷◌, ◌++◌, length, length-append, take, append_assoc, append-nil, arith}
 use Rattle.std.specs.Prelude.{◌⊎◌, drop, flat_map, slice_index_or, sum_by}
 use Rattle.std.specs.List.{list_any}
-use Rattle.std.proofs.Math.Nat.{mod-lt}
+use Rattle.std.proofs.Math.Nat.{mod-eq_of_lt, mod-lt}
 use Rattle.std.proofs.lemmas.List.Sums.{sum_by-cons, sum_by_push}
 use Rattle.dk_isa.specs.declared.Instr.{Instr}
 use Rattle.dk_cpu.specs.declared.Context.{Context}
@@ -217,15 +217,31 @@ take-whole : (jobs : List (List Step)) → take (length jobs) jobs ≡ jobs
 take-whole [] = refl
 take-whole (job ∷ jobs) = ap (λ (rest : List (List Step)). job ∷ rest) (take-whole jobs)
 
--- the context stands at job k
-abbrev pub ReadyFor : List (List Step) → ℕ → Context → Type 0
-ReadyFor jobs k x = Ready (profile_steps jobs) (profile_steps (take (k % length jobs) jobs)) x
+-- The context stands at job k: at the first instruction, and then behind the steps of the round up to those of the job before it.
+abbrev pub ReadyAt : List (List Step) → ℕ → Context → Type 0
+ReadyAt jobs zero x = StandsAt 0 x
+ReadyAt jobs (suc k) x = Ready (profile_steps jobs) (profile_steps (take (suc (k % length jobs)) jobs)) x
+
+-- so it does in its round
+in-round : (jobs : List (List Step)) (k : ℕ) (x : Context) → 0 < length jobs → list_any is_work (profile_steps jobs) ≡ true → ReadyAt jobs k x
+    → Ready (profile_steps jobs) (profile_steps (take (k % length jobs) jobs)) x
+in-round jobs zero x long works ready =
+    let first : 0 % length jobs ≡ 0 = mod-eq_of_lt long in
+    subst (λ i. Ready (profile_steps jobs) (profile_steps (take i jobs)) x) (sym first) (inl ready)
+in-round jobs (suc k) x long works ready =
+    elim (mod-next k (length jobs) long) [
+      | inl end ↦
+          let whole : take (suc (k % length jobs)) jobs ≡ jobs = ap (λ i. take i jobs) end.1 ∙ take-whole jobs in
+          subst (λ i. Ready (profile_steps jobs) (profile_steps (take i jobs)) x) (sym end.0)
+          (wrap (profile_steps jobs) x works (subst (λ (l : List (List Step)). Ready (profile_steps jobs) (profile_steps l) x) whole ready))
+      | inr on ↦ subst (λ i. Ready (profile_steps jobs) (profile_steps (take i jobs)) x) (sym on) ready
+    ]
 
 -- job k leads to the next
 pub job-on : (cost p : ℕ) (m : List ℕ) (jobs : List (List Step)) (k : ℕ) (x : Context) → 0 < cost → 0 < length jobs → list_any is_work (profile_steps jobs) ≡ true
-    → ArePlain (whole_job (job_in_turn jobs k)) → ReadyFor jobs k x
+    → ArePlain (whole_job (job_in_turn jobs k)) → ReadyAt jobs k x
     → (y : Context) × Moves cost (program_of (profile_steps jobs)) p (flat_map (step_entries cost p) (whole_job (job_in_turn jobs k))) x m y m
-    × ReadyFor jobs (suc k) y
+    × ReadyAt jobs (suc k) y
 job-on cost p m jobs k x some long works plain ready =
     let i : ℕ = k % length jobs in
     let within : i < length jobs = mod-lt k long in
@@ -233,19 +249,9 @@ job-on cost p m jobs k x some long works plain ready =
     let front : List Step = profile_steps (take i jobs) in
     let job : List Step = whole_job (job_in_turn jobs k) in
     let back : List Step = profile_steps (drop (suc i) jobs) in
-    let done = steps-on cost p some m front job back x plain (subst (λ (l : List Step). Ready l front x) (sym (cut jobs i within)) ready) in
+    let done = steps-on cost p some m front job back x plain (subst (λ (l : List Step). Ready l front x) (sym (cut jobs i within)) (in-round jobs k x long works ready)) in
     let moves : Moves cost (program_of steps) p (flat_map (step_entries cost p) job) x m done.0 m =
     subst (λ (l : List Step). Moves cost (program_of l) p (flat_map (step_entries cost p) job) x m done.0 m) (cut jobs i within) done.1 in
     let behind : Ready steps (profile_steps (take (suc i) jobs)) done.0 =
     subst (λ (l : List Step). Ready steps l done.0) (one-more jobs i within) (subst (λ (l : List Step). Ready l (front ++ job) done.0) (cut jobs i within) done.2) in
-    (done.0, moves, next done.0 behind)
-  where
-    next : (y : Context) → Ready (profile_steps jobs) (profile_steps (take (suc (k % length jobs)) jobs)) y → ReadyFor jobs (suc k) y
-    next y behind =
-        elim (mod-next k (length jobs) long) [
-          | inl end ↦
-              let whole : take (suc (k % length jobs)) jobs ≡ jobs = ap (λ i. take i jobs) end.1 ∙ take-whole jobs in
-              subst (λ i. Ready (profile_steps jobs) (profile_steps (take i jobs)) y) (sym end.0)
-              (wrap (profile_steps jobs) y works (subst (λ (l : List (List Step)). Ready (profile_steps jobs) (profile_steps l) y) whole behind))
-          | inr on ↦ subst (λ i. Ready (profile_steps jobs) (profile_steps (take i jobs)) y) (sym on) behind
-        ]
+    (done.0, moves, behind)

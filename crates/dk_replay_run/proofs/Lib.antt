@@ -5,11 +5,8 @@ pub mod Laps
 pub mod Fitting
 pub mod Phases
 pub mod Parts
-pub mod Rounds
 pub mod Room
 pub mod Clock
-pub mod Windows
-pub mod Counted
 pub mod Times
 pub mod InTurn
 pub mod Whole
@@ -18,5 +15,6 @@ pub mod Said
 pub mod Joined
 pub mod UsedJobs
 pub mod Timed
+pub mod TimedTurns
 mod Witness
 mod WitnessJobs

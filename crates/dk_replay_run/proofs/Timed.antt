@@ -1,14 +1,15 @@
 -- Jobs by their ticks of work as jobs of steps.
-use Rattle.dk_alone.proofs.Names.{ℕ, zero, suc, ◌≡◌, ◌-◌, ◌%◌, inl, inr, Bool, true, false, ◌||◌, List, [], ◌∷◌, ◌++◌, length, map, refl, sym, ap, ◌∙◌, arith, replicate, reverse, slice_index_or, Configuration, Label, Event, Entry, main_id, quiet_entry}
+use Rattle.dk_alone.proofs.Names.{ℕ, zero, suc, ◌≡◌, ◌+◌, ◌*◌, ◌-◌, ◌%◌, inl, inr, Bool, true, false, ◌||◌, List, [], ◌∷◌, ◌++◌, length, map, refl, sym, ap, ◌∙◌, arith, replicate, reverse, slice_index_or, Configuration, Label, Event, Entry, main_id, quiet_entry}
 use Rattle.std.proofs.Common.{append-nil}
 use Rattle.std.specs.List.{list_any}
+use Rattle.std.proofs.lemmas.List.Sums.{sum_by-cons}
 use Rattle.dk_config.specs.Checked.{IsWithinLimits}
 use Rattle.dk_profile.specs.declared.steps.Step.{Step}
 use Rattle.dk_profile.specs.declared.steps.Step.TheVariants as kind
-use Rattle.dk_profile.specs.Steps.{is_work}
+use Rattle.dk_profile.specs.Steps.{is_work, step_ticks}
 use Rattle.dk_replay_run.specs.Jobs.{HaveRoom, HaveSomeWork, job_time, job_window, steps_of_jobs}
 use Rattle.dk_replay_run.specs.Laws.{AreWithinBody}
-use Rattle.dk_replay_run.specs.Profiles.{JobsFit, call_entries, job_entries, job_in_turn, profile_steps, whole_window, work_entries}
+use Rattle.dk_replay_run.specs.Profiles.{JobsFit, call_entries, job_entries, job_in_turn, job_ticks, profile_steps, whole_window, work_entries}
 use Rattle.dk_replay_run.proofs.Doing.{onto}
 use Rattle.dk_replay_run.proofs.Moves.{last_tick}
 use Rattle.dk_replay_run.proofs.Parts.{onto-both, onto-is, onto-same, window-onto}
@@ -57,7 +58,7 @@ at-place [] i = refl
 at-place (n ∷ times) zero = refl
 at-place (n ∷ times) (suc i) = at-place times i
 
-as-long : (times : List ℕ) → length (timed_jobs times) ≡ length times
+pub as-long : (times : List ℕ) → length (timed_jobs times) ≡ length times
 as-long [] = refl
 as-long (n ∷ times) = ap suc (as-long times)
 
@@ -90,3 +91,12 @@ same-window c p n =
     ∙ window-onto c p (job_entries c p (timed n)) []
     ∙ ap (λ (t : List Entry). O ++ onto t (I ++ [])) (timed-entries c p n)
     ∙ ap (λ (t : List Entry). O ++ t) works
+
+ticks-of : (c : Configuration) (n : ℕ) → job_ticks c (timed n) ≡ n + c.costs.call
+ticks-of c zero = omega (arith, sum_by-cons (step_ticks c.costs.call) kind.Wait [])
+ticks-of c (suc n) =
+    omega (arith, sum_by-cons (step_ticks c.costs.call) (kind.Work (suc n)) (kind.Wait ∷ []), sum_by-cons (step_ticks c.costs.call) kind.Wait [])
+
+pub timed-ticks : (c : Configuration) (times : List ℕ) (k : ℕ)
+    → job_ticks c (job_in_turn (timed_jobs times) k) + 2 * c.costs.switch ≡ job_time times k + c.costs.call + 2 * c.costs.switch
+timed-ticks c times k = ap (λ n. n + 2 * c.costs.switch) (ap (job_ticks c) (timed-turn times k) ∙ ticks-of c (job_time times k))

@@ -2,7 +2,6 @@
 use Rattle.dk_alone.proofs.Names.{ℕ, suc, ◌≡◌, ◌+◌, ◌-◌, ◌/◌, ◌%◌, ◌<◌, ◌≤◌, inl, inr, Bool, true, false, eqb, List, [], ◌∷◌, length, Option, Some, None, refl, sym, ap, ◌∙◌, subst, arith, add-mod-mod, cases_Bool, nat_tests, is_some, Configuration, period, main_level, window_start, Phase, Choice, Label, Event, Entry, Hold, held_by, phase, rem, label_of, same-job, the_job, job_at, main_id, main_row, main_stop, Context, Tick, Outcome, KernelCall, FaultKind, body_tick, Effect, effect, or_refused, done, held-quiet, Image, Turn, World, quiet_entry, step_of, thread_turn, breaks_hold, image_after, with_reply, work_done, tick_in, update-same, alone, choice_alone, is_of_process, entries_of}
 use Rattle.std.specs.Prelude.{if◌then◌else◌}
 use Rattle.std.proofs.Math.Nat.{mod-eq_of_lt}
-use Rattle.dk_cpu.specs.Machine.{ran}
 use Rattle.dk_cpu.specs.State.{replied}
 use Rattle.dk_world.specs.Calls.{Reply}
 use Rattle.dk_world.specs.Run.{turned, thread_at}
@@ -23,20 +22,6 @@ pub after-in : (p share used outs : ℕ) (shut : Bool) (es : List Entry)
     → after p (quiet_entry (Label.In (main_id p))) (going es share used outs shut)
     ≡ going (quiet_entry (Label.In (main_id p)) ∷ es) share (suc used) outs shut
 after-in p share used outs shut es =
-    let self = same-self p in
-    rw self (same-own _ _ _ _ _ _ _ _ refl (same-job _ _ _ _ _ _ _ _ refl (omega arith) (omega arith) refl) refl refl)
-
-pub after-run : (p share used outs : ℕ) (shut : Bool) (es : List Entry)
-    → after p (quiet_entry (Label.Run (main_id p))) (going es share used outs shut)
-    ≡ going (quiet_entry (Label.Run (main_id p)) ∷ es) share (suc used) outs shut
-after-run p share used outs shut es =
-    let self = same-self p in
-    rw self (same-own _ _ _ _ _ _ _ _ refl (same-job _ _ _ _ _ _ _ _ refl (omega arith) (omega arith) refl) refl refl)
-
-pub after-call : (p share used outs : ℕ) (shut : Bool) (es : List Entry)
-    → after p (quiet_entry (Label.Call (main_id p))) (going es share used outs shut)
-    ≡ going (quiet_entry (Label.Call (main_id p)) ∷ es) share (suc used) outs shut
-after-call p share used outs shut es =
     let self = same-self p in
     rw self (same-own _ _ _ _ _ _ _ _ refl (same-job _ _ _ _ _ _ _ _ refl (omega arith) (omega arith) refl) refl refl)
 
@@ -196,20 +181,6 @@ module _ (c : Configuration) (p : ℕ) (program : List ℕ) (positive : 0 < peri
       (ap (λ (i : Image). i.contexts 0) there)
       (ap (λ (i : Image). i.memory) there)
       (ap (λ (i : Image). i.code) there ∙ a.code)
-
-  -- a tick that is no call's
-  pub run-tick : (t : ℕ) (o : Own) (x y : Context) (m l : List ℕ) → At c p program s t o x m → t < s + P
-      → 0 < rem W o.job → phase W o.job ≡ Phase.Body → o.held ≡ [] → body_tick c.costs.call program x m ≡ ran y l
-      → At c p program s (suc t) (after p (quiet_entry (Label.Run (main_id p))) o) y l
-  run-tick t o x y m l a early some in-body empty is = body t o x m (ran y l) None None a early some in-body (ap (λ (hs : List Hold). breaks_hold c hs x Outcome.Ran) empty) is refl tt
-
-  -- a tick of a call that isn't its last
-  pub call-tick : (t : ℕ) (o : Own) (x y : Context) (m l : List ℕ) → At c p program s t o x m → t < s + P
-      → 0 < rem W o.job → phase W o.job ≡ Phase.Body → o.held ≡ []
-      → body_tick c.costs.call program x m ≡ record { outcome = Outcome.InCall; context = y; memory = l }
-      → At c p program s (suc t) (after p (quiet_entry (Label.Call (main_id p))) o) y l
-  call-tick t o x y m l a early some in-body empty is =
-      body t o x m (record { outcome = Outcome.InCall; context = y; memory = l }) None None a early some in-body (ap (λ (hs : List Hold). breaks_hold c hs x Outcome.InCall) empty) is refl tt
 
   -- the last of a wait, which is granted since the main holds nothing
   pub wait-tick : (t : ℕ) (o : Own) (x y : Context) (m l : List ℕ) → At c p program s t o x m → t < s + P

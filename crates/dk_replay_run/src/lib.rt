@@ -76,11 +76,11 @@ pub fn replays_law()
     whole_jobs_law();
 }
 
-/// So in window k it uses of its budget exactly the ticks of job k and both switches, and it waits.
+/// And in window k it uses of its budget exactly the ticks of job k and both switches, and it waits.
 pub fn uses_law()
     ensures { UsesItsJobs }
 {
-    replays_law();
+    used_jobs_law();
 }
 
 /// So of a table of times: in window k it uses exactly the time of row k and both switches, and it waits.
