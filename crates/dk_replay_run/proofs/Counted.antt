@@ -1,5 +1,5 @@
 -- What is counted in the window of a job: the ticks of the main's budget, and that it waits.
-use Rattle.dk_alone.proofs.Names.{ℕ, zero, suc, ◌≡◌, ◌+◌, ◌-◌, ◌*◌, ◌<◌, inl, inr, Bool, true, false, cond, ◌||◌, List, [], ◌∷◌, ◌++◌, refl, sym, ap, ◌∙◌, arith, count_by, list_any, replicate, cases_Bool, count_by-cons, Configuration, Label, Entry, is_budget_of, does, is_wait, main_id, budget-not, quiet_entry, is_of_process, entries_of}
+use Rattle.dk_alone.proofs.Names.{ℕ, zero, suc, ◌≡◌, ◌+◌, ◌-◌, ◌*◌, ◌<◌, Bool, true, false, cond, ◌||◌, List, [], ◌∷◌, ◌++◌, refl, sym, ap, ◌∙◌, arith, count_by, list_any, replicate, count_by-cons, Configuration, Label, Entry, is_budget_of, does, is_wait, main_id, budget-not, quiet_entry, entries_of}
 use Rattle.std.proofs.Common.{append-nil}
 use Rattle.dk_alone.proofs.Own.{other-main}
 use Rattle.dk_alone.proofs.Overruns.{any-own, count-own}

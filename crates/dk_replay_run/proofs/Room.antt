@@ -11,7 +11,7 @@ use Rattle.dk_config.specs.Checked.{IsAccepted, IsChecked, IsWithinLimits}
 use Rattle.dk_config.specs.Certification.{budgets_at, level_blocking, level_demand}
 use Rattle.dk_config.specs.Windows.{budget, main_level, period, release}
 use Rattle.dk_config.proofs.Sums.{sum_from-term}
-use Rattle.dk_replay_run.specs.Jobs.{BeginsWithWork, HaveRoom}
+use Rattle.dk_replay_run.specs.Jobs.{BeginsWithWork, HaveRoom, HaveSomeWork}
 
 -- the budgets of a row's level have its own
 row-counted : (rows : List ProcessRow) (p j : ℕ) → option_map_or (λ (row : ProcessRow). row.level) (slice_get rows p) 0 ≡ j
@@ -59,3 +59,7 @@ fit c p times limits room i within =
 pub some-job : (times : List ℕ) → BeginsWithWork times → 0 < length times
 some-job [] works = absurd works
 some-job (n ∷ times) works = omega arith
+
+pub some-timed : (times : List ℕ) → HaveSomeWork times → 0 < length times
+some-timed [] works = absurd works
+some-timed (n ∷ times) works = omega arith

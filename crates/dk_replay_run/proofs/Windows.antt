@@ -88,7 +88,7 @@ module _ (c : Configuration) (p : ℕ) (program : List ℕ) (positive : 0 < peri
       (z, subst (λ (es' : List Entry). At c p program (s + P) (s + P) (going es' B 0 0 false) z m) (sym (joined O C R I es (waits p))) a7, answered at y.regs stands.registers)
 
 -- the entries of the last ticks stand before those of an earlier tick
-split : (f : ℕ → List Entry) → ((n : ℕ) → (e : Entry) × (f (suc n) ≡ e ∷ f n)) → (d t : ℕ) → f (on d t) ≡ take d (f (on d t)) ++ f t
+pub split : (f : ℕ → List Entry) → ((n : ℕ) → (e : Entry) × (f (suc n) ≡ e ∷ f n)) → (d t : ℕ) → f (on d t) ≡ take d (f (on d t)) ++ f t
 split f grows zero t = refl
 split f grows (suc d) t =
     let grown = grows (on d t) in
