@@ -1,17 +1,7 @@
 -- What is told of a line isn't what is wanted there.
-use Rattle.std.proofs.Common.{◌≡◌, ◌∙◌, sym, ap, refl, ◌<◌, ◌≤◌, ◌-◌, ℕ, zero, suc, Bool, true, false, cond, List, [], ◌∷◌, ◌++◌, length, get_or, take, drop, drop-cons, arith, Option, Some, None, IfSome}
-use Rattle.std.specs.Prelude.{◌==◌, nat_le, replicate, codes}
-use Rattle.std.specs.List.{list_all, before_first}
-use Rattle.std.specs.Option.{option_and_then}
-use Rattle.std.specs.Str.{bytes_eq}
-use Rattle.dk_asm.specs.declared.kind.Kind.{Kind}
+use Rattle.dk_asm.proofs.Imports.{◌≡◌, ◌∙◌, sym, ap, refl, ◌<◌, ◌≤◌, ◌-◌, ℕ, zero, suc, Bool, true, false, cond, List, [], ◌∷◌, ◌++◌, length, get_or, take, drop, drop-cons, arith, Option, Some, None, IfSome, ◌==◌, nat_le, replicate, codes, list_all, before_first, option_and_then, bytes_eq, Kind, Mnemonic, Operand, IsOperand, is_solid, skipped, only_word, read_operand, read_piece, pieces_of, behind_word, mnemonic_named, begins_lower, split_label, Reason, reason, without_end, trimmed, is_wrong, wrong_end, wrong_operand, wrong_instruction, wrong_rest, wrong_behind, IsAmiss, is_blank, AreBlanks, nat_tests}
 use Rattle.dk_asm.specs.declared.reasons.Wanted.TheVariants as wanted
-use Rattle.dk_asm.specs.declared.table.Mnemonic.{Mnemonic}
-use Rattle.dk_asm.specs.Operands.{Operand, IsOperand}
-use Rattle.dk_asm.specs.Reading.{is_solid, skipped, only_word, read_operand, read_piece, pieces_of, behind_word, mnemonic_named, begins_lower, split_label}
-use Rattle.dk_asm.specs.Reasons.{Reason, reason, without_end, trimmed, is_wrong, wrong_end, wrong_operand, wrong_instruction, wrong_statement, wrong_rest, wrong_behind, wrong_label, wrong_in, IsAmiss}
-use Rattle.dk_asm.specs.Table.{row_of}
-use Rattle.dk_asm.specs.Words.{is_blank, AreBlanks}
+use Rattle.dk_asm.specs.Reasons.{wrong_statement, wrong_label, wrong_in}
 use Rattle.dk_asm.proofs.Booleans.{each_place, both}
 use Rattle.dk_asm.proofs.Cuts.{all_blank, cut_clean, cut_whole, only_word_is}
 use Rattle.dk_asm.proofs.Names.{name_is}
@@ -41,9 +31,7 @@ ends (b ∷ bytes) (suc e) within blank solid =
     ∙ sym (ap (λ t. cond t [] (b ∷ without_end bytes)) (not_all (b ∷ bytes) e (omega arith) (solid e refl)))
 
 pub last_solid : (bytes : List ℕ) (end k : ℕ) → is_blank (get_or bytes (end - 1) 0) ≡ false → end ≡ suc k → is_blank (get_or bytes k 0) ≡ false
-last_solid bytes end k solid is =
-    let same : end - 1 ≡ k = omega (arith, is) in
-    ap (λ i. is_blank (get_or bytes i 0)) (sym same) ∙ solid
+last_solid bytes end k solid is = grind (arith, nat_tests)
 
 -- blanks behind
 record IsBack (bytes : List ℕ) : Type 0 where
@@ -95,8 +83,7 @@ module _ (ranges : Bool) where
       go false wrong rest = rest
 
   in_instruction : (name : List ℕ) (pieces : List (List ℕ)) (found : Option Mnemonic) → mnemonic_named name ≡ found → Amiss (wrong_instruction ranges name pieces found)
-  in_instruction name pieces None is = λ m same. let named = ap mnemonic_named same ∙ name_is m in let both_of : None ≡ Some m = sym is ∙ named in absurd (cc)
-  in_instruction name pieces (Some m) is = each 0 1 (row_of m).kinds pieces
+  in_instruction name pieces found is = grind (arith, nat_tests, name_is, each)
 
   in_statement : (text : List ℕ) → Amiss (wrong_statement ranges text)
   unfolding wrong_statement
@@ -108,12 +95,10 @@ module _ (ranges : Bool) where
       go false = in_instruction (before_first is_blank text) (pieces_of (behind_word text)) (mnemonic_named (before_first is_blank text)) refl
 
   in_rest : (text : List ℕ) → Amiss (wrong_rest ranges text)
-  in_rest [] = tt
-  in_rest (b ∷ bytes) = in_statement (b ∷ bytes)
+  in_rest text = grind (arith, nat_tests, in_statement)
 
   behind_label : (text : List ℕ) (cut : Option (List ℕ × List ℕ)) → Amiss (wrong_behind ranges text cut)
-  behind_label text None = tt
-  behind_label text (Some cut) = in_rest (skipped cut.1)
+  behind_label text cut = grind (arith, nat_tests, in_rest)
 
   in_label : (text : List ℕ) → Amiss (wrong_label ranges text)
   unfolding wrong_label

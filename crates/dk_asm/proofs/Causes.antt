@@ -1,17 +1,5 @@
 -- The cause that is told from the places of the labels is the line's.
-use Rattle.std.proofs.Common.{◌≡◌, ◌∙◌, sym, ap, refl, ◌<◌, ◌≤◌, ◌+◌, ℕ, zero, suc, Bool, true, false, cond, List, [], ◌∷◌, ◌++◌, length, take, drop, map, get_or, arith, Option, Some, None, BTreeMap}
-use Rattle.std.specs.Prelude.{◌&&◌, ◌||◌, ◌==◌, nat_lt, slice_get, is_some, is_none}
-use Rattle.std.specs.Borrow.{Bor}
-use Rattle.std.specs.List.{list_any}
-use Rattle.std.specs.Option.{option_map, option_map_or, option_and_then}
-use Rattle.std.proofs.lemmas.Bool.Decides.{nat_tests}
-use Rattle.dk_asm.specs.declared.TheConstants.{MAX_INSTRUCTIONS}
-use Rattle.dk_asm.specs.declared.labels.Place.{Place}
-use Rattle.dk_asm.specs.declared.fault.LineFault.{LineFault}
-use Rattle.dk_asm.specs.Operands.{Operand}
-use Rattle.dk_asm.specs.Grammar.{Statement}
-use Rattle.dk_asm.specs.Source.{Line, label_on, statement_on, has_label, has_instruction, instructions, label_value, operands_on, is_unknown, is_form, is_range, is_twice, has_unknown, is_part, has_part, is_short, cause_of, cause_at}
-use Rattle.dk_asm.specs.Places.{place, place_of, place_in, ArePlaces, is_unplaced, stands_before, cause_by}
+use Rattle.dk_asm.proofs.Imports.{◌≡◌, ◌∙◌, sym, ap, refl, ◌<◌, ◌≤◌, ◌+◌, ℕ, zero, suc, Bool, true, false, cond, List, [], ◌∷◌, ◌++◌, length, take, drop, map, get_or, arith, Option, Some, None, BTreeMap, ◌&&◌, ◌||◌, ◌==◌, nat_lt, slice_get, is_some, is_none, Bor, list_any, option_map, option_map_or, option_and_then, nat_tests, MAX_INSTRUCTIONS, Place, LineFault, Operand, Statement, Line, label_on, statement_on, has_label, has_instruction, instructions, label_value, operands_on, is_unknown, is_form, is_range, is_twice, has_unknown, is_part, has_part, is_short, cause_of, cause_at, place, place_of, place_in, ArePlaces, is_unplaced, stands_before, cause_by}
 use Rattle.dk_asm.proofs.Places.{moved}
 
 -- a list round one of its places
@@ -84,14 +72,11 @@ before_is (l ∷ ls) (suc i) name = go (has_label name l) (before_is ls i name)
     go false rest = rest ∙ further (place_of ls name)
 
 none_mapped : (o : Option Place) → is_none o ≡ is_none (option_map (λ p. p.value) o)
-none_mapped None = refl
-none_mapped (Some p) = refl
+none_mapped o = grind (arith, nat_tests)
 
 module _ (places : BTreeMap (Bor (List ℕ)) Place) (source : List Line) (are : ArePlaces places source) where
   unplaced_is : (o : Operand) → is_unplaced places o ≡ is_unknown source o
-  unplaced_is (Operand.value n) = refl
-  unplaced_is Operand.outside = refl
-  unplaced_is (Operand.label name) = ap is_none (are name) ∙ none_mapped (place_of source name) ∙ ap is_none (sym (value_is source name))
+  unplaced_is o = grind (arith, nat_tests, none_mapped, value_is)
 
   any_unplaced : (os : List Operand) → list_any (is_unplaced places) os ≡ list_any (is_unknown source) os
   any_unplaced [] = refl
@@ -105,12 +90,10 @@ module _ (places : BTreeMap (Bor (List ℕ)) Place) (source : List Line) (are : 
       go (Some name) = ap (λ o. option_map_or (λ p. nat_lt p.line i) o false) (are name) ∙ sym (before_is source i name)
 
 part_is_instruction : (s : Option Statement) → option_map_or is_part s false ≡ true → is_some s ≡ true
-part_is_instruction None h = h
-part_is_instruction (Some s) h = refl
+part_is_instruction s h = grind (arith, nat_tests)
 
 one_above : (a r : ℕ) → nat_lt (a + 1) (a + (1 + r)) ≡ nat_lt 0 r
-one_above a zero = grind (arith, nat_tests)
-one_above a (suc r) = grind (arith, nat_tests)
+one_above a r = grind (arith, nat_tests)
 
 short_is : (source : List Line) (i : ℕ) (line : Line) (total before : ℕ) → slice_get source i ≡ Some line → total ≡ instructions source → before ≡ instructions (take i source)
     → (has_part line && nat_lt (before + 1) total) ≡ is_short line (drop (suc i) source)
@@ -120,10 +103,7 @@ short_is source i line total before at count front = go (has_part line) refl
     go false is = refl
     go true is =
         let some : has_instruction line ≡ true = part_is_instruction (statement_on line) is in
-        let all : total ≡ before + (1 + instructions (drop (suc i) source)) =
-        count ∙ total_at source i line at
-        ∙ ap (λ t. instructions (take i source) + (cond t 1 0 + instructions (drop (suc i) source))) some
-        ∙ ap (λ n. n + (1 + instructions (drop (suc i) source))) (sym front) in
+        let all : total ≡ before + (1 + instructions (drop (suc i) source)) = grind (arith, nat_tests, total_at) in
         ap (nat_lt (before + 1)) all ∙ one_above before (instructions (drop (suc i) source))
 
 abbrev pub first_of : Bool → Bool → Bool → Bool → Bool → Bool → Option LineFault

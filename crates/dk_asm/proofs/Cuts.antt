@@ -1,12 +1,6 @@
 -- A list of bytes, cut before the first that passes a test.
-use Rattle.std.proofs.Common.{◌≡◌, ◌≢◌, ◌∙◌, sym, ap, refl, subst, ◌<◌, ◌≤◌, ◌+◌, ℕ, suc, Bool, true, false, cond, List, [], ◌∷◌, ◌++◌, length, take, drop, arith, Option, Some, None, append-nil, add-one, All, get_or}
-use Rattle.std.specs.Prelude.{not, nat_lt, position, is_some, ◌==◌}
-use Rattle.std.specs.Option.{option_map}
-use Rattle.std.proofs.lemmas.Bool.{ltb-true, ltb-false}
-use Rattle.std.specs.List.{list_all, position_or_len, before_first}
-use Rattle.std.proofs.lemmas.List.{take_at, drop_at, take_all, take-append-drop}
-use Rattle.dk_asm.specs.Words.{is_blank, AreBlanks}
-use Rattle.dk_asm.specs.Reading.{cut_at, is_solid, skipped, behind_word, only_word}
+use Rattle.dk_asm.proofs.Imports.{◌≡◌, ◌≢◌, ◌∙◌, sym, ap, refl, subst, ◌<◌, ◌≤◌, ◌+◌, ℕ, suc, Bool, true, false, cond, List, [], ◌∷◌, ◌++◌, length, take, drop, arith, Option, Some, None, append-nil, add-one, All, get_or, not, nat_lt, position, is_some, ◌==◌, option_map, ltb-true, ltb-false, list_all, position_or_len, before_first, take_at, drop_at, take_all, take-append-drop, is_blank, AreBlanks, cut_at, is_solid, skipped, behind_word, nat_tests}
+use Rattle.dk_asm.specs.Reading.{only_word}
 use Rattle.dk_asm.proofs.Booleans.{both_left, both_right, both, each_place}
 
 -- none of the bytes passes
@@ -24,10 +18,8 @@ from_first p bytes = drop (position_or_len p bytes) bytes
 module _ (p : ℕ → Bool) where
   pub cut_place : (xs ys : List ℕ) → Clean p xs → Starts p ys → position_or_len p (xs ++ ys) ≡ length xs
   cut_place [] [] clean starts = refl
-  cut_place [] (y ∷ ys) clean starts = ap (λ b. cond (not b) (1 + position_or_len p ys) 0) starts
-  cut_place (x ∷ xs) ys clean starts =
-      let rest = cut_place xs ys (both_right (not (p x)) (list_all (λ b. not (p b)) xs) clean) starts in
-      ap (λ b. cond b (1 + position_or_len p (xs ++ ys)) 0) (both_left (not (p x)) (list_all (λ b. not (p b)) xs) clean) ∙ omega (arith, rest)
+  cut_place [] (y ∷ ys) clean starts = grind (arith, nat_tests, both_right, both_left)
+  cut_place (x ∷ xs) ys clean starts = grind (arith, nat_tests, both_right, both_left, cut_place xs)
 
   pub before_cut : (xs ys : List ℕ) → Clean p xs → Starts p ys → before_first p (xs ++ ys) ≡ xs
   before_cut xs ys clean starts = ap (λ n. take n (xs ++ ys)) (cut_place xs ys clean starts) ∙ take_at xs ys (length xs) refl
@@ -105,16 +97,13 @@ all_more p q more [] h = refl
 all_more p q more (b ∷ bytes) h = both (q b) (list_all q bytes) (more b (both_left (p b) (list_all p bytes) h)) (all_more p q more bytes (both_right (p b) (list_all p bytes) h))
 
 pub not_not : (b : Bool) → b ≡ true → not (not b) ≡ true
-not_not true h = refl
-not_not false h = h
+not_not b h = grind (arith, nat_tests)
 
 pub twice_not : (b : Bool) → not (not b) ≡ true → b ≡ true
-twice_not true h = refl
-twice_not false h = h
+twice_not b h = grind (arith, nat_tests)
 
 opposite : (b : Bool) → not b ≡ true → b ≡ false
-opposite true h = absurd (cc)
-opposite false h = refl
+opposite b h = grind (arith, nat_tests)
 
 -- the same place by place
 pub clean_all : (p : ℕ → Bool) (bytes : List ℕ) → Clean p bytes → All (λ b. p b ≡ false) bytes
@@ -174,8 +163,7 @@ cut_none byte text h = go (position (λ b. b == byte) text) h
     go (Some end) h = absurd (cc)
 
 pub blanks_start : (bytes : List ℕ) → AreBlanks bytes → Starts is_blank bytes
-blanks_start [] h = tt
-blanks_start (b ∷ bytes) h = both_left (is_blank b) (list_all is_blank bytes) h
+blanks_start bytes h = grind (arith, nat_tests, both_left)
 
 -- blanks in front are skipped, and no more
 pub skips : (blanks rest : List ℕ) → AreBlanks blanks → Starts is_solid rest → skipped (blanks ++ rest) ≡ rest
@@ -195,11 +183,7 @@ word_starts (b ∷ word) rest w = both_left (is_solid b) (list_all is_solid word
 
 pub only_word_is : (before word after : List ℕ) → AreBlanks before → IsWord word → AreBlanks after → only_word (before ++ (word ++ after)) ≡ Some word
 unfolding only_word
-only_word_is before word after front w back =
-    let rest = skips before (word ++ after) front (word_starts word after w) in
-    let tail = ap behind_word rest ∙ after_cut is_blank word after w.solid (blanks_start after back) in
-    let head = ap (before_first is_blank) rest ∙ before_cut is_blank word after w.solid (blanks_start after back) in
-    rw (tail, back, head) refl
+only_word_is before word after front w back = grind (arith, nat_tests, skips, word_starts, after_cut, blanks_start, before_cut)
 
 pub record IsAround (bytes word : List ℕ) : Type 0 where
   pub before : List ℕ

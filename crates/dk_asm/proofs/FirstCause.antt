@@ -1,11 +1,5 @@
 -- The first line with a cause is the one that the outcome tells.
-use Rattle.std.proofs.Common.{◌≡◌, ◌∙◌, sym, ap, refl, subst, ◌<◌, ◌≤◌, ◌+◌, ℕ, zero, suc, List, [], ◌∷◌, ◌++◌, length, map, drop, arith, Option, Some, None, ⊎_elim, append_assoc}
-use Rattle.std.specs.Prelude.{slice_get}
-use Rattle.std.proofs.lemmas.Bool.{cases_lt}
-use Rattle.dk_asm.specs.declared.fault.LineFault.{LineFault}
-use Rattle.dk_asm.specs.Causes.{causes_from, causes_of, first_cause, fault_of}
-use Rattle.dk_asm.specs.Reading.{read_line}
-use Rattle.dk_asm.specs.Source.{Line, lines_of, cause_at, Outcome, IsOutcome, Assembled}
+use Rattle.dk_asm.proofs.Imports.{◌≡◌, ◌∙◌, sym, ap, refl, ◌<◌, ◌≤◌, ◌+◌, ℕ, zero, suc, List, [], ◌∷◌, ◌++◌, length, drop, arith, Option, Some, None, ⊎_elim, append_assoc, slice_get, cases_lt, LineFault, causes_from, causes_of, first_cause, fault_of, Line, cause_at, Outcome, IsOutcome, Assembled, nat_tests}
 use Rattle.dk_asm.proofs.Causes.{none_past}
 use Rattle.dk_asm.proofs.Outcomes.{were_read}
 
@@ -58,6 +52,4 @@ told_is source (Outcome.fault n cause) is = ⊎_elim (λ within. found within) (
     outside past = let both : None ≡ Some cause = sym (none_past source is.0 past) ∙ is.2 in absurd (cc)
 
 pub tells : (text : List ℕ) (outcome : Outcome) → Assembled text outcome → first_cause 1 (causes_of text) ≡ fault_of outcome
-tells text outcome is =
-    let same : is.source ≡ map read_line (lines_of text) = were_read (lines_of text) is.source is.read in
-    told_is (map read_line (lines_of text)) outcome (subst (λ s. IsOutcome s outcome) same is.gives)
+tells text outcome is = grind (arith, nat_tests, were_read, told_is)

@@ -1,18 +1,5 @@
 -- A listing is assembled to the code that it lists.
-use Rattle.std.proofs.Common.{◌≡◌, ◌∙◌, sym, ap, refl, subst, ◌<◌, ◌≤◌, ◌+◌, ◌*◌, ℕ, zero, suc, Bool, true, false, List, [], ◌∷◌, ◌++◌, length, get_or, map, take, drop, arith, inl, inr, Option, Some, None}
-use Rattle.std.specs.Prelude.{◌&&◌, ◌==◌, ◌⊎◌, nat_lt, slice_get, flat_map}
-use Rattle.std.specs.List.{list_all, list_any, AllByRecursion}
-use Rattle.std.specs.Option.{option_map, option_and_then}
-use Rattle.std.proofs.lemmas.Bool.Decides.{nat_tests}
-use Rattle.std.proofs.lemmas.List.{length-map}
-use Rattle.dk_config.specs.declared.TheConstants.{MAX_PROGRAM_BYTES}
-use Rattle.dk_asm.specs.declared.TheConstants.{MAX_INSTRUCTIONS}
-use Rattle.dk_isa.specs.declared.Instr.{Instr}
-use Rattle.dk_isa.specs.Table.{instruction_of}
-use Rattle.dk_asm.specs.Table.{written, with_values}
-use Rattle.dk_asm.specs.Operands.{Operand}
-use Rattle.dk_asm.specs.Source.{Line, AreRead, instructions, is_unknown, is_outside, is_part, cause_of, cause_at, value_of, IsStatementCode, IsCode, Outcome, Assembled, operands_of}
-use Rattle.dk_asm.specs.Listing.{groups, group_text, listing}
+use Rattle.dk_asm.proofs.Imports.{◌≡◌, ◌∙◌, sym, ap, refl, subst, ◌<◌, ◌≤◌, ◌+◌, ◌*◌, ℕ, zero, suc, Bool, true, false, List, [], ◌∷◌, ◌++◌, length, get_or, map, take, drop, arith, inl, inr, Option, Some, None, ◌&&◌, ◌==◌, ◌⊎◌, nat_lt, slice_get, flat_map, list_all, list_any, AllByRecursion, option_map, option_and_then, nat_tests, length-map, MAX_PROGRAM_BYTES, MAX_INSTRUCTIONS, Instr, instruction_of, written, Operand, Line, AreRead, instructions, is_unknown, is_outside, is_part, cause_of, cause_at, value_of, IsStatementCode, IsCode, Outcome, Assembled, operands_of, groups, group_text, listing}
 use Rattle.dk_asm.proofs.TextLines.{is_no_feed, joined_lines}
 use Rattle.dk_asm.proofs.ListedLines.{AreBytes, IsSome4, said, parts_of, is_group, says, group_no_feed}
 
@@ -23,17 +10,14 @@ AreGroups (g ∷ []) = IsSome4 g
 AreGroups (g ∷ h ∷ gs) = IsSome4 g × (length g ≡ 4) × AreGroups (h ∷ gs)
 
 before_groups : (g : List ℕ) (gs : List (List ℕ)) → IsSome4 g → length g ≡ 4 → AreGroups gs → AreGroups (g ∷ gs)
-before_groups g [] is four rest = is
-before_groups g (h ∷ gs) is four rest = (is, four, rest)
+before_groups g gs is four rest = grind (arith, nat_tests)
 
 pub are_groups : (code : List ℕ) → AreBytes code → AreGroups (groups code)
 are_groups [] bytes = tt
-are_groups (x ∷ []) bytes = record { some = omega arith; few = omega arith; bytes = bytes }
-are_groups (x ∷ y ∷ []) bytes = record { some = omega arith; few = omega arith; bytes = bytes }
-are_groups (x ∷ y ∷ z ∷ []) bytes = record { some = omega arith; few = omega arith; bytes = bytes }
-are_groups (x ∷ y ∷ z ∷ w ∷ code) bytes =
-    before_groups (x ∷ y ∷ z ∷ w ∷ []) (groups code)
-    (record { some = omega arith; few = omega arith; bytes = (bytes.0, (bytes.1.0, (bytes.1.1.0, (bytes.1.1.1.0, tt)))) }) refl (are_groups code bytes.1.1.1.1)
+are_groups (x ∷ []) bytes = grind (arith, nat_tests, before_groups)
+are_groups (x ∷ y ∷ []) bytes = grind (arith, nat_tests, before_groups)
+are_groups (x ∷ y ∷ z ∷ []) bytes = grind (arith, nat_tests, before_groups)
+are_groups (x ∷ y ∷ z ∷ w ∷ code) bytes = grind (arith, nat_tests, before_groups, are_groups code)
 
 pub each_group : (gs : List (List ℕ)) → AreGroups gs → AllByRecursion IsSome4 gs
 each_group [] are = tt
@@ -76,16 +60,14 @@ none_unknown source [] = refl
 none_unknown source (n ∷ ns) = none_unknown source ns
 
 within_ranges : (o : Option Instr) (g : List ℕ) → list_any is_outside (operands_of (said o g)) ≡ false
-within_ranges None g = none_outside g
-within_ranges (Some i) g = none_outside (written i).values
+within_ranges o g = grind (arith, nat_tests, none_outside)
 
 all_known : (source : List Line) (o : Option Instr) (g : List ℕ) → list_any (is_unknown source) (operands_of (said o g)) ≡ false
 all_known source None g = none_unknown source g
 all_known source (Some i) g = none_unknown source (written i).values
 
 no_part : (o : Option Instr) (g : List ℕ) → length g ≡ 4 → is_part (said o g) ≡ false
-no_part None g four = let count : length (map Operand.value g) ≡ 4 = length-map g Operand.value ∙ four in grind (arith, nat_tests)
-no_part (Some i) g four = refl
+no_part o g four = grind (arith, nat_tests, length-map)
 
 few_instructions : (gs : List (List ℕ)) → instructions (map line_of gs) ≡ length gs
 few_instructions [] = refl
@@ -167,8 +149,7 @@ values_back source [] = refl
 values_back source (n ∷ ns) = ap (λ ms. n ∷ ms) (values_back source ns)
 
 is_code_of : (source : List Line) (o : Option Instr) (g : List ℕ) → IsSome4 g → instruction_of g ≡ o → IsStatementCode (value_of source) (said o g) g
-is_code_of source None g is at = sym (values_back source g)
-is_code_of source (Some i) g is at = (i, ap (with_values (written i).mnemonic) (sym (values_back source (written i).values)), sym (is_group g i is.bytes at).back)
+is_code_of source o g is at = grind (arith, nat_tests, values_back, is_group)
 
 is_code : (source : List Line) (gs : List (List ℕ)) → AllByRecursion IsSome4 gs → IsCode (value_of source) (map line_of gs) (flat_map (λ g. g) gs)
 is_code source [] each = refl

@@ -1,3 +1,4 @@
+pub mod Imports
 pub mod Booleans
 pub mod Listings
 pub mod Numbers

@@ -1,15 +1,6 @@
 -- A line is read as the grammar says.
-use Rattle.std.proofs.Common.{◌≡◌, ◌≢◌, ◌∙◌, sym, ap, refl, subst, ◌<◌, ◌+◌, ℕ, Bool, true, false, cond, List, [], ◌∷◌, ◌++◌, length, take, drop, arith, Option, Some, None, append_assoc, length-append}
-use Rattle.std.specs.Prelude.{◌==◌, not, nat_lt, position}
-use Rattle.std.specs.List.{list_all, before_first}
-use Rattle.std.specs.Option.{option_map, option_and_then}
-use Rattle.std.proofs.lemmas.Bool.{lt-ltb}
-use Rattle.std.proofs.lemmas.Bool.Decides.{nat_tests}
-use Rattle.std.proofs.lemmas.List.{take_at, drop_at}
-use Rattle.dk_config.specs.Rules.{is_name, is_lower, is_word}
-use Rattle.dk_asm.specs.Words.{is_blank, AreBlanks}
-use Rattle.dk_asm.specs.Grammar.{Statement, Parts, IsStatement, IsLabelPart, IsStatementPart, IsComment, IsLine}
-use Rattle.dk_asm.specs.Reading.{is_solid, skipped, read_statement, parts, read_rest, begins_lower, split_label, read_parts, read_label, read_line}
+use Rattle.dk_asm.proofs.Imports.{◌≡◌, ◌≢◌, ◌∙◌, sym, ap, refl, subst, ◌<◌, ◌+◌, ℕ, Bool, true, false, cond, List, [], ◌∷◌, ◌++◌, length, take, drop, arith, Option, Some, None, append_assoc, length-append, ◌==◌, not, nat_lt, position, list_all, before_first, option_map, option_and_then, lt-ltb, nat_tests, take_at, drop_at, is_name, is_lower, is_word, is_blank, AreBlanks, Statement, Parts, IsStatement, IsLabelPart, IsStatementPart, IsComment, IsLine, is_solid, skipped, read_statement, parts, read_rest, begins_lower, split_label, read_parts}
+use Rattle.dk_asm.specs.Reading.{read_label, read_line}
 use Rattle.dk_asm.proofs.Booleans.{both_right}
 use Rattle.dk_asm.proofs.Cuts.{Clean, Starts, from_first, cut_place, before_cut, at_place, cut_whole, cut_clean, cut_starts, all_both, all_more, all_blank, skips, skips_all, word_starts}
 use Rattle.dk_asm.proofs.OperandReading.{plain_hashes, name_plain, name_first}
@@ -18,8 +9,7 @@ use Rattle.dk_asm.proofs.StatementReading.{statement_is, statement_was, statemen
 
 -- what stands behind the label
 rest_some : (label : Option (List ℕ)) (text : List ℕ) → text ≢ [] → read_rest label text ≡ option_map (λ s. parts label (Some s)) (read_statement text)
-rest_some label [] some = absurd (some refl)
-rest_some label (b ∷ text) some = refl
+rest_some label text some = grind (arith, nat_tests)
 
 not_empty : (name rest : List ℕ) → name ≢ [] → name ++ rest ≢ []
 not_empty [] rest some = absurd (some refl)
@@ -27,10 +17,7 @@ not_empty (b ∷ name) rest some = λ e. absurd (cc)
 
 -- blanks before an instruction are skipped
 skips_to : (between statement behind : List ℕ) (s : Statement) → AreBlanks between → IsStatement statement s → skipped (between ++ (statement ++ behind)) ≡ statement ++ behind
-skips_to between statement behind s h is =
-    let begins = statement_begins statement s is in
-    skips between (statement ++ behind) h
-    (subst (λ t. Starts is_solid (t ++ behind)) (sym begins.whole) (subst (Starts is_solid) (sym (append_assoc begins.name begins.rest behind)) (word_starts begins.name (begins.rest ++ behind) begins.word)))
+skips_to between statement behind s h is = grind (arith, nat_tests, statement_begins, skips, Starts, word_starts)
 
 starts_name : (statement behind : List ℕ) (s : Statement) → IsStatement statement s → (more : List ℕ) × (begins_lower (statement ++ behind) ≡ false) × (statement ++ behind ≢ [])
 starts_name statement behind s is =
@@ -43,15 +30,10 @@ module _ (between statement behind : List ℕ) (front : AreBlanks between) (back
   all_blanks none = ap (λ t. skipped (between ++ (t ++ behind))) none ∙ skips_all (between ++ behind) (all_both is_blank between behind front back)
 
   rest_is : (label : Option (List ℕ)) (s : Option Statement) → IsStatementPart statement s → read_rest label (skipped (between ++ (statement ++ behind))) ≡ Some (parts label s)
-  rest_is label None is = ap (read_rest label) (all_blanks is)
-  rest_is label (Some s) is =
-      ap (read_rest label) (skips_to between statement behind s front is)
-      ∙ rest_some label (statement ++ behind) (starts_name statement behind s is).2
-      ∙ ap (option_map (λ t. parts label (Some t))) (statement_is statement behind s is back)
+  rest_is label s is = grind (arith, nat_tests, all_blanks, skips_to, rest_some, starts_name, statement_is)
 
   no_label : (s : Option Statement) → IsStatementPart statement s → begins_lower (skipped (between ++ (statement ++ behind))) ≡ false
-  no_label None is = ap begins_lower (all_blanks is)
-  no_label (Some s) is = ap begins_lower (skips_to between statement behind s front is) ∙ (starts_name statement behind s is).1
+  no_label s is = grind (arith, nat_tests, all_blanks, skips_to, starts_name)
 
 -- blanks in front don't matter
 skips_more : (blanks rest : List ℕ) → AreBlanks blanks → skipped (blanks ++ rest) ≡ skipped rest
@@ -88,25 +70,16 @@ one_more name rest =
     ap (drop (length name + 1)) whole ∙ drop_at (name ++ 58 ∷ []) rest (length name + 1) (length-append name (58 ∷ []))
 
 split_is : (name rest : List ℕ) → is_name name ≡ true → split_label (name ++ 58 ∷ rest) ≡ Some (name, rest)
-split_is name rest h =
-    let text = name ++ 58 ∷ rest in
-    let front : take (length name) (name ++ 58 ∷ rest) ≡ name = take_at name (58 ∷ rest) (length name) refl in
-    ap (option_and_then (λ end. cond (is_name (take end (name ++ 58 ∷ rest))) (Some (take end (name ++ 58 ∷ rest), drop (end + 1) (name ++ 58 ∷ rest))) None)) (colon_at name rest h)
-    ∙ ap (λ n. cond (is_name n) (Some (n, drop (length name + 1) (name ++ 58 ∷ rest))) None) front
-    ∙ ap (λ t. cond t (Some (name, drop (length name + 1) (name ++ 58 ∷ rest))) None) h
-    ∙ ap (λ r. Some (name, r)) (one_more name rest)
+split_is name rest h = grind (arith, nat_tests, take_at, colon_at, one_more)
 
 comment_starts : (comment : List ℕ) → IsComment comment → Starts (λ b. b == 35) comment
-comment_starts [] is = tt
-comment_starts (b ∷ rest) is = ap (λ c. c == 35) is
+comment_starts comment is = grind (arith, nat_tests)
 
 label_no_hash : (text : List ℕ) (label : Option (List ℕ)) → IsLabelPart text label → Clean (λ b. b == 35) text
-label_no_hash text None is = subst (Clean (λ b. b == 35)) (sym is) refl
-label_no_hash text (Some name) is = subst (Clean (λ b. b == 35)) (sym is.0) (all_both (λ b. not (b == 35)) name (58 ∷ []) (plain_hashes name (name_plain name is.1)) refl)
+label_no_hash text label is = grind (arith, nat_tests, Clean, all_both, plain_hashes, name_plain)
 
 statement_part_no_hash : (text : List ℕ) (s : Option Statement) → IsStatementPart text s → Clean (λ b. b == 35) text
-statement_part_no_hash text None is = subst (Clean (λ b. b == 35)) (sym is) refl
-statement_part_no_hash text (Some s) is = statement_no_hash text s is
+statement_part_no_hash text s is = grind (arith, nat_tests, Clean, statement_no_hash)
 
 -- what stands before the comment
 label_is : (before label between statement behind : List ℕ) (p : Parts) → AreBlanks before → IsLabelPart label p.label → AreBlanks between → IsStatementPart statement p.statement → AreBlanks behind
@@ -169,17 +142,14 @@ hash : (b : ℕ) → (b == 35) ≡ true → b ≡ 35
 hash b h = grind (arith, nat_tests)
 
 comment_was : (comment : List ℕ) → Starts (λ b. b == 35) comment → IsComment comment
-comment_was [] starts = tt
-comment_was (b ∷ rest) starts = hash b starts
+comment_was comment starts = grind (arith, nat_tests, hash)
 
 colon : (b : ℕ) → (b == 58) ≡ true → b ≡ 58
 colon b h = grind (arith, nat_tests)
 
 -- a text with a colon
 at_colon : (text : List ℕ) (end : ℕ) → position (λ b. b == 58) text ≡ Some end → text ≡ take end text ++ 58 ∷ drop (end + 1) text
-at_colon text end h =
-    let found = at_place (λ b. b == 58) text end h in
-    found.2 ∙ ap (λ b. take end text ++ b ∷ drop (end + 1) text) (colon found.0 found.1)
+at_colon text end h = grind (arith, nat_tests, at_place, colon)
 
 split_was : (text : List ℕ) (cut : List ℕ × List ℕ) → split_label text ≡ Some cut → (text ≡ cut.0 ++ 58 ∷ cut.1) × (is_name cut.0 ≡ true)
 split_was text cut h = go (position (λ b. b == 58) text) refl h
@@ -236,8 +206,7 @@ line_was bytes p h =
     let comment = from_first (λ b. b == 35) bytes in
     let before = before_first is_solid text in
     let says = label_was (skipped (before_first (λ b. b == 35) bytes)) p h in
-    let whole : bytes ≡ (before_first is_solid (before_first (λ b. b == 35) bytes) ++ (says.0 ++ (says.1 ++ (says.2 ++ says.3)))) ++ from_first (λ b. b == 35) bytes =
-    cut_whole (λ b. b == 35) bytes ∙ ap (λ t. t ++ from_first (λ b. b == 35) bytes) (cut_whole is_solid (before_first (λ b. b == 35) bytes) ∙ ap (λ t. before_first is_solid (before_first (λ b. b == 35) bytes) ++ t) says.4) in
+    let whole : bytes ≡ (before_first is_solid (before_first (λ b. b == 35) bytes) ++ (says.0 ++ (says.1 ++ (says.2 ++ says.3)))) ++ from_first (λ b. b == 35) bytes = grind (arith, nat_tests, cut_whole, from_first) in
     record {
       before = before_first is_solid (before_first (λ b. b == 35) bytes);
       label = says.0;

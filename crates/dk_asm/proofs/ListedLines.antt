@@ -1,19 +1,6 @@
 -- The line that is listed for a group says that group.
-use Rattle.std.proofs.Common.{◌≡◌, sym, ap, refl, ◌<◌, ◌≤◌, ℕ, true, cond, List, [], ◌∷◌, length, map, arith, append-nil, inl, Option, Some, None, replicate}
-use Rattle.std.specs.Prelude.{decimal, codes}
-use Rattle.std.specs.List.{join_with_byte, list_all, AllByRecursion}
-use Rattle.std.specs.Char.{is_ascii_digit}
-use Rattle.std.proofs.lemmas.Bool.{le-leb}
-use Rattle.std.proofs.lemmas.Bool.Decides.{nat_tests}
-use Rattle.dk_isa.specs.declared.Instr.{Instr}
-use Rattle.dk_isa.specs.Table.{instruction_of}
-use Rattle.dk_asm.specs.declared.kind.Kind.{Kind}
-use Rattle.dk_asm.specs.declared.table.Mnemonic.{Mnemonic}
-use Rattle.dk_asm.specs.Table.{row_of, written}
-use Rattle.dk_asm.specs.Ranges.{FitsPlace, FitPlaces}
-use Rattle.dk_asm.specs.Operands.{Operand, up_to, IsOperand, IsNumberUpTo}
-use Rattle.dk_asm.specs.Grammar.{Statement, Parts, IsPiece, AreOperands, IsNamed, IsStatement, IsLine}
-use Rattle.dk_asm.specs.Listing.{operand_text, operand_texts, named, bytes_text, text_of, group_text}
+use Rattle.dk_asm.proofs.Imports.{◌≡◌, sym, ap, refl, ◌<◌, ◌≤◌, ℕ, true, cond, List, [], ◌∷◌, length, map, arith, append-nil, inl, Option, Some, None, decimal, codes, join_with_byte, list_all, AllByRecursion, is_ascii_digit, le-leb, nat_tests, Instr, instruction_of, Kind, Mnemonic, row_of, written, FitsPlace, FitPlaces, Operand, up_to, IsOperand, IsNumberUpTo, Statement, Parts, IsPiece, AreOperands, IsNamed, IsStatement, IsLine, operand_text, operand_texts, named, bytes_text, text_of, group_text}
+use Rattle.std.proofs.Common.{replicate}
 use Rattle.dk_asm.proofs.Booleans.{both, both_left, both_right}
 use Rattle.dk_asm.proofs.Numbers.{decimal_digits, decimal_is_number}
 use Rattle.dk_asm.proofs.Cuts.{all_both}
@@ -49,15 +36,10 @@ are_operands : (kind : Kind) (n : ℕ) (kinds : List Kind) (ns : List ℕ) → F
 are_operands kind n [] [] fit = is_piece kind n fit.0
 are_operands kind n [] (m ∷ ns) fit = absurd fit.1
 are_operands kind n (next ∷ kinds) [] fit = absurd fit.1
-are_operands kind n (next ∷ kinds) (m ∷ ns) fit =
-    (operand_text kind n, join_with_byte 44 (operand_texts (next ∷ kinds) (m ∷ ns)), refl, is_piece kind n fit.0, are_operands next m kinds ns fit.1)
+are_operands kind n (next ∷ kinds) (m ∷ ns) fit = grind (arith, nat_tests, is_piece, are_operands next m kinds ns)
 
 is_named : (name : List ℕ) (kinds : List Kind) (ns : List ℕ) → FitPlaces kinds ns → IsNamed (named name (operand_texts kinds ns)) name kinds (map Operand.value ns)
-is_named name [] [] fit = (refl, refl)
-is_named name [] (n ∷ ns) fit = absurd fit
-is_named name (kind ∷ kinds) [] fit = absurd fit
-is_named name (kind ∷ kinds) (n ∷ ns) fit =
-    (32, join_with_byte 44 (operand_texts (kind ∷ kinds) (n ∷ ns)), refl, refl, are_operands kind n kinds ns fit)
+is_named name kinds ns fit = grind (arith, nat_tests, are_operands)
 
 abbrev pub AreBytes : List ℕ → Type 0
 AreBytes bs = AllByRecursion (λ b. b < 256) bs
@@ -125,8 +107,7 @@ digit_no_feed b h = grind (arith, nat_tests)
 
 digits_no_feed : (ds : List ℕ) → list_all is_ascii_digit ds ≡ true → list_all is_no_feed ds ≡ true
 digits_no_feed [] h = refl
-digits_no_feed (d ∷ ds) h =
-    both (is_no_feed d) (list_all is_no_feed ds) (digit_no_feed d (both_left (is_ascii_digit d) (list_all is_ascii_digit ds) h)) (digits_no_feed ds (both_right (is_ascii_digit d) (list_all is_ascii_digit ds) h))
+digits_no_feed (d ∷ ds) h = grind (arith, nat_tests, both, is_no_feed, digit_no_feed, both_left, both_right, digits_no_feed ds)
 
 abbrev NoFeeds : List (List ℕ) → Type 0
 NoFeeds ts = AllByRecursion (λ t. list_all is_no_feed t ≡ true) ts
@@ -135,11 +116,7 @@ decimal_no_feed : (n : ℕ) → n < 65536 → list_all is_no_feed (decimal n) �
 decimal_no_feed n small = digits_no_feed (decimal n) (decimal_digits n (omega arith))
 
 operand_no_feed : (kind : Kind) (n : ℕ) → FitsPlace kind n → list_all is_no_feed (operand_text kind n) ≡ true
-operand_no_feed Kind.Register n fits = decimal_no_feed n (omega arith)
-operand_no_feed Kind.Byte n fits = decimal_no_feed n (omega arith)
-operand_no_feed Kind.Word n fits = decimal_no_feed n fits
-operand_no_feed Kind.Value n fits = decimal_no_feed n fits
-operand_no_feed Kind.Signed n fits = decimal_no_feed n fits
+operand_no_feed kind n fits = grind (arith, nat_tests, decimal_no_feed)
 
 operands_no_feed : (kinds : List Kind) (ns : List ℕ) → FitPlaces kinds ns → NoFeeds (operand_texts kinds ns)
 operands_no_feed [] ns fit = tt
@@ -156,33 +133,10 @@ joined_no_feed (t ∷ []) clean = clean.0
 joined_no_feed (t ∷ u ∷ ts) clean = all_both is_no_feed t (44 ∷ join_with_byte 44 (u ∷ ts)) clean.0 (joined_no_feed (u ∷ ts) clean.1)
 
 named_no_feed : (name : List ℕ) (ts : List (List ℕ)) → list_all is_no_feed name ≡ true → NoFeeds ts → list_all is_no_feed (named name ts) ≡ true
-named_no_feed name [] h clean = h
-named_no_feed name (t ∷ ts) h clean = all_both is_no_feed name (32 ∷ join_with_byte 44 (t ∷ ts)) h (joined_no_feed (t ∷ ts) clean)
+named_no_feed name ts h clean = grind (arith, nat_tests, all_both, is_no_feed, joined_no_feed)
 
 name_no_feed : (m : Mnemonic) → list_all is_no_feed (row_of m).name ≡ true
-name_no_feed Mnemonic.Nop = refl
-name_no_feed Mnemonic.Li = refl
-name_no_feed Mnemonic.Lih = refl
-name_no_feed Mnemonic.Mov = refl
-name_no_feed Mnemonic.Add = refl
-name_no_feed Mnemonic.Sub = refl
-name_no_feed Mnemonic.Mul = refl
-name_no_feed Mnemonic.Div = refl
-name_no_feed Mnemonic.Rem = refl
-name_no_feed Mnemonic.And = refl
-name_no_feed Mnemonic.Or = refl
-name_no_feed Mnemonic.Xor = refl
-name_no_feed Mnemonic.Shl = refl
-name_no_feed Mnemonic.Shr = refl
-name_no_feed Mnemonic.Addi = refl
-name_no_feed Mnemonic.Ld = refl
-name_no_feed Mnemonic.St = refl
-name_no_feed Mnemonic.Jmp = refl
-name_no_feed Mnemonic.Jz = refl
-name_no_feed Mnemonic.Jnz = refl
-name_no_feed Mnemonic.Slt = refl
-name_no_feed Mnemonic.Jr = refl
-name_no_feed Mnemonic.Trap = refl
+name_no_feed m = grind (arith, nat_tests)
 
 text_no_feed : (o : Option Instr) (group : List ℕ) → IsSome4 group → instruction_of group ≡ o → list_all is_no_feed (text_of o group) ≡ true
 text_no_feed None group g is = named_no_feed (codes "BYTES") (map decimal group) refl (numbers_no_feed group g.bytes)

@@ -1,14 +1,5 @@
 -- The texts of a listing, piece by piece.
-use Rattle.std.proofs.Common.{◌≡◌, ◌∙◌, sym, ap, refl, ◌<◌, ℕ, suc, false, None, min, arith, drop, List, [], ◌∷◌, ◌++◌, length, take, append_assoc, append-nil}
-use Rattle.std.specs.Prelude.{◌==◌}
-use Rattle.std.proofs.lemmas.Bool.Decides.{nat_tests}
-use Rattle.std.specs.List.{join_with_byte}
-use Rattle.dk_isa.specs.Table.{instruction_of}
-use Rattle.dk_asm.specs.declared.kind.Kind.{Kind}
-use Rattle.dk_asm.specs.declared.table.Mnemonic.{Mnemonic}
-use Rattle.dk_asm.specs.Table.{row_of, Written}
-use Rattle.dk_asm.specs.Listing.{named, operand_text, operand_texts, group_text, listing}
-use Rattle.dk_asm.specs.Writing.{behind}
+use Rattle.dk_asm.proofs.Imports.{◌≡◌, ◌∙◌, sym, ap, refl, ◌<◌, ℕ, suc, false, None, min, arith, drop, List, [], ◌∷◌, ◌++◌, length, take, append_assoc, append-nil, ◌==◌, nat_tests, join_with_byte, instruction_of, Kind, Mnemonic, row_of, Written, named, operand_text, operand_texts, group_text, listing, behind}
 
 joined : (c : ℕ) (t : List ℕ) (ts : List (List ℕ)) → join_with_byte 44 (t ∷ ts) ≡ t ++ behind 44 ts
 joined c t [] = sym (append-nil t)
@@ -31,22 +22,14 @@ within_kinds (kind ∷ kinds) (n ∷ ns) = ap (λ ts. operand_text kind n ∷ ts
 
 pub same_operands : (kinds : List Kind) (m : Mnemonic) (values : List ℕ) (w : Written) → kinds ≡ (row_of m).kinds → m ≡ w.mnemonic → take (length (row_of w.mnemonic).kinds) values ≡ w.values
     → operand_texts kinds values ≡ operand_texts (row_of w.mnemonic).kinds w.values
-same_operands kinds m values w is same taken =
-    ap (λ k. operand_texts k values) (is ∙ ap (λ n. (row_of n).kinds) same)
-    ∙ sym (within_kinds (row_of w.mnemonic).kinds values)
-    ∙ ap (operand_texts (row_of w.mnemonic).kinds) taken
+same_operands kinds m values w is same taken = grind (arith, nat_tests, within_kinds)
 
 four_of : (n : ℕ) → min (suc (suc (suc (suc n)))) 4 ≡ 4
 four_of n = omega arith
 
 -- the first line of a listing
 pub first_listed : (code : List ℕ) → 0 < length code → listing code ≡ (group_text (take (min (length code) 4) code) ++ 10 ∷ []) ++ listing (drop (min (length code) 4) code)
-first_listed [] l = absurd (omega arith)
-first_listed (x ∷ []) l = refl
-first_listed (x ∷ y ∷ []) l = refl
-first_listed (x ∷ y ∷ z ∷ []) l = refl
-first_listed (x ∷ y ∷ z ∷ w ∷ code) l =
-    sym (ap (λ n. (group_text (take n (x ∷ y ∷ z ∷ w ∷ code)) ++ 10 ∷ []) ++ listing (drop n (x ∷ y ∷ z ∷ w ∷ code))) (four_of (length code)))
+first_listed code l = grind (arith, nat_tests, four_of)
 
 -- a line more of a listing
 pub one_more_listed : (old new rest group behind all : List ℕ) → 0 < length rest → group ≡ take (min (length rest) 4) rest → behind ≡ drop (min (length rest) 4) rest
@@ -62,8 +45,4 @@ some_by_test n h = grind (arith, nat_tests)
 
 -- fewer than four bytes are no instruction
 pub none_below : (group : List ℕ) → length group < 4 → None ≡ instruction_of group
-none_below [] l = refl
-none_below (x ∷ []) l = refl
-none_below (x ∷ y ∷ []) l = refl
-none_below (x ∷ y ∷ z ∷ []) l = refl
-none_below (x ∷ y ∷ z ∷ w ∷ group) l = absurd (omega arith)
+none_below group l = grind (arith, nat_tests)

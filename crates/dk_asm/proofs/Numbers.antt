@@ -1,14 +1,7 @@
 -- The decimal spelling of a number is its spelling in a source.
-use Rattle.std.proofs.Common.{◌≡◌, ap, ◌<◌, ◌+◌, ◌-◌, ◌*◌, ◌^◌, min, take, ℕ, zero, suc, Bool, true, false, List, length, get_or, arith, refl, rules}
-use Rattle.std.specs.Prelude.{◌==◌, ◌&&◌, ◌||◌, nat_lt, not, decimal}
-use Rattle.std.specs.List.{list_all}
-use Rattle.std.specs.Char.{is_ascii_digit, digit_value}
+use Rattle.dk_asm.proofs.Imports.{◌≡◌, ◌<◌, ◌+◌, ◌-◌, ◌*◌, ◌^◌, min, take, ℕ, Bool, true, false, List, length, get_or, arith, refl, rules, ◌==◌, ◌||◌, not, decimal, list_all, is_ascii_digit, digit_value, digits_value, nat_tests, digits_decimal, digits_value-decimal, decimal_nonempty, first_decimal, decimal_digit, is_numeral, IsNumber}
 use Rattle.std.proofs.lemmas.Int.Digits.{digits_value_more}
-use Rattle.std.specs.Str.Parse.{digits_value}
-use Rattle.std.proofs.lemmas.Bool.Decides.{nat_tests}
-use Rattle.std.proofs.lemmas.Fmt.{digits_decimal, digits_value-decimal, decimal_nonempty, first_decimal, decimal_digit}
 use Rattle.std.proofs.lemmas.Str.Parse.{IsNumeralModel, numerals_by_value, IsDigitsTest}
-use Rattle.dk_asm.specs.Words.{is_numeral, IsNumber}
 use Rattle.dk_asm.proofs.Booleans.{both, each_place}
 
 tells : IsDigitsTest (λ ds. list_all is_ascii_digit ds ≡ true)
@@ -30,23 +23,16 @@ led n d some first = go (n == 1) refl
 
 -- digits that aren't empty and begin with no 0, or are one digit
 numeral : (ds : List ℕ) → list_all is_ascii_digit ds ≡ true → 0 < length ds → (1 < length ds → 48 < get_or ds 0 0) → is_numeral ds ≡ true
-numeral ds all some first =
-    let long : nat_lt 0 (length ds) ≡ true = grind (arith, nat_tests) in
-    both (nat_lt 0 (length ds) && list_all is_ascii_digit ds) _ (both (nat_lt 0 (length ds)) (list_all is_ascii_digit ds) long all)
-    (led (length ds) (get_or ds 0 0) some first)
+numeral ds all some first = grind (arith, nat_tests, both, led)
 
 first_digit : (n : ℕ) → n < 2 ^ 64 → 1 < length (decimal n) → 48 < get_or (decimal n) 0 0
-first_digit zero small long = absurd (omega (arith, ap length (decimal_digit 0 (omega arith))))
-first_digit (suc n) small long = first_decimal (suc n) (omega arith) small
+first_digit n small long = grind (arith, nat_tests, decimal_digit, first_decimal)
 
 pub decimal_digits : (n : ℕ) → n < 2 ^ 64 → list_all is_ascii_digit (decimal n) ≡ true
 decimal_digits n small = digits_decimal own n small
 
 pub decimal_is_number : (n : ℕ) → n < 2 ^ 64 → IsNumber (decimal n) n
-decimal_is_number n small = record {
-  spelling = numeral (decimal n) (decimal_digits n small) (decimal_nonempty n small) (first_digit n small);
-  value = digits_value-decimal own n small;
-}
+decimal_is_number n small = grind (arith, nat_tests, numeral, decimal_digits, decimal_nonempty, first_digit, digits_value-decimal, own)
 
 digit_is : (d : ℕ) → is_ascii_digit d ≡ true → digit_value d ≡ d - 48
 digit_is d h = grind (arith, nat_tests)
@@ -54,7 +40,4 @@ digit_is d h = grind (arith, nat_tests)
 -- one digit more, where numbers from 65,536 on are all the same
 pub capped_more : (ds : List ℕ) (i : ℕ) → list_all is_ascii_digit ds ≡ true → i < length ds
     → min (min (digits_value 10 (take i ds)) 65536 * 10 + (get_or ds i 0 - 48)) 65536 ≡ min (digits_value 10 (take (i + 1) ds)) 65536
-capped_more ds i all l =
-    let digit = digit_is (get_or ds i 0) (each_place is_ascii_digit ds all i 0 l) in
-    let more = digits_value_more 10 ds i l in
-    omega (arith, digit, more)
+capped_more ds i all l = grind (arith, nat_tests, digit_is, each_place, digits_value_more)

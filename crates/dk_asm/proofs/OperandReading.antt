@@ -1,18 +1,7 @@
 -- The reader of an operand answers what the grammar says.
-use Rattle.std.proofs.Common.{◌≡◌, ◌≢◌, ◌∙◌, sym, ap, refl, subst, ◌<◌, ◌≤◌, ◌+◌, ◌-◌, ℕ, Bool, true, false, cond, List, [], ◌∷◌, length, arith, Option, Some, None, inl, inr}
-use Rattle.std.specs.Prelude.{◌&&◌, ◌||◌, ◌==◌, ◌⊎◌, not, nat_le, nat_lt, slice_index}
-use Rattle.std.specs.List.{list_all}
-use Rattle.std.specs.Option.{option_map}
-use Rattle.std.specs.Char.{is_ascii_digit}
-use Rattle.std.specs.Str.Parse.{digits_value}
-use Rattle.std.proofs.lemmas.Bool.Decides.{nat_tests}
-use Rattle.std.proofs.lemmas.Fmt.{decimal_digit}
+use Rattle.dk_asm.proofs.Imports.{◌≡◌, ◌≢◌, ◌∙◌, sym, ap, refl, ◌<◌, ◌+◌, ◌-◌, ℕ, Bool, true, false, cond, List, [], ◌∷◌, arith, Option, Some, None, inl, inr, ◌&&◌, ◌==◌, ◌⊎◌, not, nat_le, list_all, option_map, is_ascii_digit, digits_value, nat_tests, decimal_digit, is_name, is_lower, is_word, Kind, is_blank, is_numeral, IsNumber, Operand, up_to, negative, register, IsOperand, IsNumberUpTo, IsLabel, IsNegative, read_number, read_value, read_register, read_signed}
 use Rattle.std.proofs.Math.Bool.{and-false}
-use Rattle.dk_config.specs.Rules.{is_name, is_lower, is_word}
-use Rattle.dk_asm.specs.declared.kind.Kind.{Kind}
-use Rattle.dk_asm.specs.Words.{is_blank, is_numeral, IsNumber}
-use Rattle.dk_asm.specs.Operands.{Operand, up_to, negative, register, IsOperand, IsNumberUpTo, IsLabel, IsNegative}
-use Rattle.dk_asm.specs.Reading.{number_of, read_number, read_value, read_register, read_signed, read_operand}
+use Rattle.dk_asm.specs.Reading.{number_of, read_operand}
 use Rattle.dk_asm.proofs.Booleans.{both_left, both_right, both}
 use Rattle.dk_asm.proofs.Cuts.{Clean, IsWord, all_more}
 
@@ -58,9 +47,7 @@ lower_no_minus : (b : ℕ) → is_lower b ≡ true → (b == 45) ≡ false
 lower_no_minus b h = grind (arith, nat_tests)
 
 numeral_digits : (word : List ℕ) → is_numeral word ≡ true → list_all is_ascii_digit word ≡ true
-numeral_digits word h =
-    both_right (nat_lt 0 (length word)) (list_all is_ascii_digit word)
-    (both_left (nat_lt 0 (length word) && list_all is_ascii_digit word) (length word == 1 || not (slice_index word 0 == 48)) h)
+numeral_digits word h = grind (arith, nat_tests, both_right, both_left)
 
 numeral_some : (word : List ℕ) → is_numeral word ≡ true → word ≢ []
 numeral_some [] h e = absurd (cc)
@@ -80,14 +67,10 @@ pub name_plain : (word : List ℕ) → is_name word ≡ true → IsPlain word
 name_plain word h = record { plain = all_more is_word is_plain word_plain word (name_words word h); some = name_some word h }
 
 pub name_first : (b : ℕ) (bytes : List ℕ) → is_name (b ∷ bytes) ≡ true → is_lower b ≡ true
-name_first b bytes h =
-    let counts = nat_lt 0 (length (b ∷ bytes)) && nat_le (length (b ∷ bytes)) 16 in
-    both_right counts (is_lower b) (both_left (counts && is_lower b) (list_all is_word (b ∷ bytes)) h)
+name_first b bytes h = grind (arith, nat_tests, both_right, both_left)
 
 not_name : (b : ℕ) (bytes : List ℕ) → is_lower b ≡ false → is_name (b ∷ bytes) ≡ false
-not_name b bytes h =
-    let counts = nat_lt 0 (length (b ∷ bytes)) && nat_le (length (b ∷ bytes)) 16 in
-    ap (λ t. (counts && t) && list_all is_word (b ∷ bytes)) h ∙ ap (λ t. t && list_all is_word (b ∷ bytes)) (and-false counts)
+not_name b bytes h = grind (arith, nat_tests, and-false)
 
 numeral_first : (d : ℕ) (ds : List ℕ) → is_numeral (d ∷ ds) ≡ true → is_ascii_digit d ≡ true
 numeral_first d ds h = both_left (is_ascii_digit d) (list_all is_ascii_digit ds) (numeral_digits (d ∷ ds) h)
@@ -141,9 +124,7 @@ signed_number (d ∷ ds) o is =
     ap (λ t. cond t (option_map negative (number_of ds)) (read_value (d ∷ ds))) (digit_no_minus d (numeral_first d ds is.1.spelling)) ∙ value_number (d ∷ ds) o is
 
 signed_label : (word : List ℕ) (o : Operand) → IsLabel word o → read_signed word ≡ Some o
-signed_label [] o is = absurd (name_some [] is.0 refl)
-signed_label (b ∷ bytes) o is =
-    ap (λ t. cond t (option_map negative (number_of bytes)) (read_value (b ∷ bytes))) (lower_no_minus b (name_first b bytes is.0)) ∙ value_label (b ∷ bytes) o is
+signed_label word o is = grind (arith, nat_tests, name_some, lower_no_minus, name_first, value_label)
 
 signed_negative : (word : List ℕ) (o : Operand) → IsNegative word o → read_signed word ≡ Some o
 signed_negative word o is = ap read_signed is.2 ∙ ap (option_map negative) (number_is is.0 is.1 is.3) ∙ ap Some (sym is.4)
@@ -170,24 +151,16 @@ register_bytes : (r : ℕ) → r < 8 → register r ≡ 114 ∷ (48 + r) ∷ []
 register_bytes r low = ap (λ ds. 114 ∷ ds) (decimal_digit r (omega arith))
 
 read_digit : (r : ℕ) → r < 8 → read_register (114 ∷ (48 + r) ∷ []) ≡ Some (Operand.value r)
-read_digit r low =
-    let first : nat_le 48 (48 + r) ≡ true = grind (arith, nat_tests) in
-    let last : nat_le (48 + r) 55 ≡ true = grind (arith, nat_tests) in
-    let back : (48 + r) - 48 ≡ r = omega arith in
-    rw (first, last, back) refl
+read_digit r low = grind (arith, nat_tests)
 
 register_is : (r : ℕ) → r < 8 → read_register (register r) ≡ Some (Operand.value r)
-register_is r low =
-    ap read_register (register_bytes r low) ∙ read_digit r low
+register_is r low = grind (arith, nat_tests, register_bytes, read_digit)
 
 letter : (b : ℕ) → (b == 114) ≡ true → b ≡ 114
 letter b h = grind (arith, nat_tests)
 
 digit_range : (d : ℕ) → (nat_le 48 d && nat_le d 55) ≡ true → (d - 48 < 8) × (d ≡ 48 + (d - 48))
-digit_range d h =
-    let first : 48 ≤ d = grind (arith, nat_tests) in
-    let last : d ≤ 55 = grind (arith, nat_tests) in
-    (omega arith, omega arith)
+digit_range d h = grind (arith, nat_tests)
 
 register_was : (word : List ℕ) (o : Operand) → read_register word ≡ Some o → (r : ℕ) × (r < 8) × (word ≡ register r) × (o ≡ Operand.value r)
 register_was [] o h = absurd (cc)
@@ -224,8 +197,7 @@ operand_was Kind.Signed word o h = signed_was word o h
 
 -- the bytes of an operand
 value_plain : (word : List ℕ) (o : Operand) → IsNumberUpTo 65535 word o ⊎ IsLabel word o → IsPlain word
-value_plain word o (inl is) = numeral_plain word is.1.spelling
-value_plain word o (inr is) = name_plain word is.0
+value_plain word o is = grind (arith, nat_tests, numeral_plain, name_plain)
 
 negative_plain : (digits : List ℕ) → is_numeral digits ≡ true → IsPlain (45 ∷ digits)
 negative_plain digits h = record { plain = (numeral_plain digits h).plain; some = λ e. absurd (cc) }
@@ -234,11 +206,4 @@ digit_of_register : (r : ℕ) → is_plain (48 + r) ≡ true
 digit_of_register r = grind (arith, nat_tests)
 
 pub operand_plain : (kind : Kind) (word : List ℕ) (o : Operand) → IsOperand kind word o → IsPlain word
-operand_plain Kind.Register word o is =
-    subst IsPlain (sym (is.2 ∙ register_bytes is.0 is.1)) (record { plain = both (is_plain (48 + is.0)) true (digit_of_register is.0) refl; some = λ e. absurd (cc) })
-operand_plain Kind.Byte word o is = numeral_plain word is.1.spelling
-operand_plain Kind.Word word o is = numeral_plain word is.1.spelling
-operand_plain Kind.Value word o is = value_plain word o is
-operand_plain Kind.Signed word o (inl is) = numeral_plain word is.1.spelling
-operand_plain Kind.Signed word o (inr (inl is)) = name_plain word is.0
-operand_plain Kind.Signed word o (inr (inr is)) = subst IsPlain (sym is.2) (negative_plain is.0 is.3.spelling)
+operand_plain kind word o is = grind (arith, nat_tests, register_bytes, both, digit_of_register, numeral_plain, value_plain, name_plain, negative_plain)

@@ -1,14 +1,5 @@
 -- What is read, found and encoded is what the definition gives.
-use Rattle.std.proofs.Common.{◌≡◌, ◌∙◌, sym, ap, refl, subst, ◌+◌, ℕ, List, [], ◌∷◌, ◌++◌, map, arith, Option, Some, None, ⊎_elim}
-use Rattle.std.proofs.lemmas.Bool.{cases_lt}
-use Rattle.dk_isa.specs.declared.Instr.{Instr}
-use Rattle.dk_isa.specs.Table.{bytes_of}
-use Rattle.dk_asm.specs.declared.table.Mnemonic.{Mnemonic}
-use Rattle.dk_asm.specs.Table.{written}
-use Rattle.dk_asm.specs.Operands.{Operand}
-use Rattle.dk_asm.specs.Grammar.{Statement, Parts}
-use Rattle.dk_asm.specs.Reading.{read_line}
-use Rattle.dk_asm.specs.Source.{Line, lines_of, IsRead, AreRead, statement_on, cause_at, value_of, IsStatementCode, IsLineCode, IsCode, Outcome, IsOutcome, Assembled}
+use Rattle.dk_asm.proofs.Imports.{◌≡◌, ◌∙◌, sym, ap, refl, ◌+◌, ℕ, List, [], ◌∷◌, map, arith, Option, Some, None, ⊎_elim, cases_lt, Instr, Mnemonic, written, Operand, Statement, Parts, read_line, Line, IsRead, AreRead, cause_at, value_of, IsStatementCode, IsLineCode, IsCode, Outcome, IsOutcome, Assembled, nat_tests}
 use Rattle.dk_asm.proofs.LineReading.{line_is, line_was}
 
 -- the lines are read as the grammar says, and in no other way
@@ -62,52 +53,22 @@ built Mnemonic.Trap (n ∷ []) = Some (Instr.Trap n)
 built m ns = None
 
 built_back : (i : Instr) → built (written i).mnemonic (written i).values ≡ Some i
-built_back Instr.Nop = refl
-built_back (Instr.Li a v) = refl
-built_back (Instr.Lih a v) = refl
-built_back (Instr.Mov a b) = refl
-built_back (Instr.Add a b c) = refl
-built_back (Instr.Sub a b c) = refl
-built_back (Instr.Mul a b c) = refl
-built_back (Instr.Div a b c) = refl
-built_back (Instr.Rem a b c) = refl
-built_back (Instr.And a b c) = refl
-built_back (Instr.Or a b c) = refl
-built_back (Instr.Xor a b c) = refl
-built_back (Instr.Shl a b c) = refl
-built_back (Instr.Shr a b c) = refl
-built_back (Instr.Addi a v) = refl
-built_back (Instr.Ld a b n) = refl
-built_back (Instr.St a b n) = refl
-built_back (Instr.Jmp v) = refl
-built_back (Instr.Jz a v) = refl
-built_back (Instr.Jnz a v) = refl
-built_back (Instr.Slt a b c) = refl
-built_back (Instr.Jr a) = refl
-built_back (Instr.Trap n) = refl
+built_back i = grind (arith, nat_tests)
 
 one_instruction : (i j : Instr) → written i ≡ written j → i ≡ j
-one_instruction i j same =
-    let both : Some i ≡ Some j = sym (built_back i) ∙ ap (λ w. built w.mnemonic w.values) same ∙ built_back j in
-    cc
+one_instruction i j same = grind (arith, nat_tests, built_back)
 
 -- lines have one code
 module _ (value : Operand → ℕ) where
   one_statement : (s : Statement) (a b : List ℕ) → IsStatementCode value s a → IsStatementCode value s b → a ≡ b
-  one_statement (Statement.instruction m os) a b is has = is.2 ∙ ap bytes_of (one_instruction is.0 has.0 (is.1 ∙ sym has.1)) ∙ sym has.2
-  one_statement (Statement.bytes os) a b is has = is ∙ sym has
+  one_statement s a b is has = grind (arith, nat_tests, one_instruction)
 
   one_line : (s : Option Statement) (a b : List ℕ) → IsLineCode value s a → IsLineCode value s b → a ≡ b
-  one_line None a b is has = is ∙ sym has
-  one_line (Some s) a b is has = one_statement s a b is has
+  one_line s a b is has = grind (arith, nat_tests, one_statement)
 
   one_code : (lines : List Line) (a b : List ℕ) → IsCode value lines a → IsCode value lines b → a ≡ b
   one_code [] a b is has = is ∙ sym has
-  one_code (line ∷ lines) a b is has =
-      is.2
-      ∙ ap (λ f. f ++ is.1) (one_line (statement_on line) is.0 has.0 is.3 has.3)
-      ∙ ap (λ r. has.0 ++ r) (one_code lines is.1 has.1 is.4 has.4)
-      ∙ sym has.2
+  one_code (line ∷ lines) a b is has = grind (arith, nat_tests, one_line, one_code lines)
 
 none_and_some : {A : Type 0} (o : Option A) (x : A) → o ≡ None → o ≡ Some x → ⊥
 none_and_some o x none some = let both : None ≡ Some x = sym none ∙ some in cc
@@ -130,6 +91,4 @@ one_of_source source (Outcome.fault m cause) (Outcome.fault n other) is has =
         ap (λ k. Outcome.fault k cause) numbers ∙ ap (Outcome.fault n) causes
 
 pub one_outcome : (text : List ℕ) (a b : Outcome) → Assembled text a → Assembled text b → a ≡ b
-one_outcome text a b is has =
-    let same : has.source ≡ is.source = were_read (lines_of text) has.source has.read ∙ sym (were_read (lines_of text) is.source is.read) in
-    one_of_source is.source a b is.gives (subst (λ s. IsOutcome s b) same has.gives)
+one_outcome text a b is has = grind (arith, nat_tests, were_read, one_of_source)

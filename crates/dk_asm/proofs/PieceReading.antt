@@ -1,23 +1,10 @@
 -- The pieces between commas are read as the operands that the grammar says.
-use Rattle.std.proofs.Common.{◌≡◌, ◌∙◌, sym, ap, refl, subst, ℕ, true, List, [], ◌∷◌, ◌++◌, arith, Option, Some, None, inl, inr, append-nil}
-use Rattle.std.specs.Prelude.{◌==◌, ◌⊎◌, not}
-use Rattle.std.specs.List.{slice_split, before_first}
-use Rattle.std.specs.Option.{option_and_then}
-use Rattle.std.proofs.lemmas.Bool.Decides.{nat_tests}
-use Rattle.std.proofs.lemmas.List.Splits.{slice_split_at, slice_split_none}
-use Rattle.dk_asm.specs.declared.kind.Kind.{Kind}
-use Rattle.dk_asm.specs.Words.{is_blank, AreBlanks}
-use Rattle.dk_asm.specs.Operands.{Operand}
-use Rattle.dk_asm.specs.Grammar.{IsPiece, AreOperands}
-use Rattle.dk_asm.specs.Reading.{only_word, read_operand, read_piece, in_front, read_pieces}
+use Rattle.dk_asm.proofs.Imports.{◌≡◌, ◌∙◌, sym, ap, refl, subst, ℕ, true, List, [], ◌∷◌, ◌++◌, arith, Option, Some, None, inl, inr, append-nil, ◌==◌, ◌⊎◌, not, slice_split, before_first, option_and_then, nat_tests, slice_split_at, slice_split_none, Kind, is_blank, AreBlanks, Operand, IsPiece, AreOperands, only_word, read_operand, read_piece, in_front, read_pieces}
 use Rattle.dk_asm.proofs.Cuts.{Clean, Starts, from_first, cut_whole, cut_clean, cut_starts, clean_all, all_both, all_more, only_word_is, only_word_was}
 use Rattle.dk_asm.proofs.OperandReading.{plain_word, plain_commas, plain_hashes, operand_is, operand_was, operand_plain}
 
 piece_is : (text : List ℕ) (kind : Kind) (o : Operand) → IsPiece text kind o → read_piece kind text ≡ Some o
-piece_is text kind o is =
-    ap (λ t. option_and_then (read_operand kind) (only_word t)) is.whole
-    ∙ ap (option_and_then (read_operand kind)) (only_word_is is.before is.word is.after is.blank_before (plain_word is.word (operand_plain kind is.word o is.operand)) is.blank_after)
-    ∙ operand_is kind is.word o is.operand
+piece_is text kind o is = grind (arith, nat_tests, only_word_is, plain_word, operand_plain, operand_is)
 
 piece_was : (text : List ℕ) (kind : Kind) (o : Operand) → read_piece kind text ≡ Some o → IsPiece text kind o
 piece_was text kind o h = go (only_word text) refl h
@@ -49,16 +36,10 @@ blanks_no_comma : (bytes : List ℕ) → AreBlanks bytes → Clean (λ b. b == 4
 blanks_no_comma bytes h = all_more is_blank (λ b. not (b == 44)) blank_no_comma bytes h
 
 piece_commas : (text : List ℕ) (kind : Kind) (o : Operand) → IsPiece text kind o → Clean (λ b. b == 44) text
-piece_commas text kind o is =
-    subst (Clean (λ b. b == 44)) (sym is.whole)
-    (all_both (λ b. not (b == 44)) is.before (is.word ++ is.after) (blanks_no_comma is.before is.blank_before)
-    (all_both (λ b. not (b == 44)) is.word is.after (plain_commas is.word (operand_plain kind is.word o is.operand)) (blanks_no_comma is.after is.blank_after)))
+piece_commas text kind o is = grind (arith, nat_tests, Clean, all_both, blanks_no_comma, plain_commas, operand_plain)
 
 piece_hashes : (text : List ℕ) (kind : Kind) (o : Operand) → IsPiece text kind o → Clean (λ b. b == 35) text
-piece_hashes text kind o is =
-    subst (Clean (λ b. b == 35)) (sym is.whole)
-    (all_both (λ b. not (b == 35)) is.before (is.word ++ is.after) (blanks_no_hash is.before is.blank_before)
-    (all_both (λ b. not (b == 35)) is.word is.after (plain_hashes is.word (operand_plain kind is.word o is.operand)) (blanks_no_hash is.after is.blank_after)))
+piece_hashes text kind o is = grind (arith, nat_tests, Clean, all_both, blanks_no_hash, plain_hashes, operand_plain)
 
 pub operands_no_hash : (text : List ℕ) (kind : Kind) (kinds : List Kind) (os : List Operand) → AreOperands text (kind ∷ kinds) os → Clean (λ b. b == 35) text
 operands_no_hash text kind [] [] are = absurd are
@@ -129,11 +110,7 @@ some_pieces text = go (comma_or_none text)
     go (inr none) = (text, [], none)
 
 last_was : (kind : Kind) (text : List ℕ) (os : List Operand) → read_pieces (kind ∷ []) (text ∷ []) ≡ Some os → AreOperands text (kind ∷ []) os
-last_was kind text os h =
-    let front = front_was (read_piece kind text) (Some []) os h in
-    let none : front.1 ≡ [] = cc in
-    let all : os ≡ front.0 ∷ [] = front.4 ∙ ap (λ ps. front.0 ∷ ps) none in
-    subst (AreOperands text (kind ∷ [])) (sym all) (piece_was text kind front.0 front.2)
+last_was kind text os h = grind (arith, nat_tests, front_was, piece_was)
 
 pub operands_were : (text : List ℕ) (kind : Kind) (kinds : List Kind) (os : List Operand) → read_pieces (kind ∷ kinds) (commas text) ≡ Some os → AreOperands text (kind ∷ kinds) os
 operands_were text kind [] os h = go (comma_or_none text)

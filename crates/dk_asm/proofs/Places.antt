@@ -1,13 +1,5 @@
 -- The places of labels, line by line.
-use Rattle.std.proofs.Common.{◌≡◌, ◌∙◌, sym, ap, refl, ◌<◌, ◌≤◌, ◌+◌, ℕ, suc, Bool, true, false, cond, List, [], ◌∷◌, ◌++◌, length, take, map, get_or, arith, Option, Some, None}
-use Rattle.std.specs.Prelude.{is_some}
-use Rattle.std.specs.Option.{option_map, option_or}
-use Rattle.std.specs.Str.{bytes_eq}
-use Rattle.std.proofs.lemmas.List.{take_more, length-take-le, take-map, length-map}
-use Rattle.std.proofs.lemmas.Slice.Eq.{bytes_eq-Decides}
-use Rattle.dk_asm.specs.declared.labels.Place.{Place}
-use Rattle.dk_asm.specs.Source.{Line, has_label, has_instruction, instructions}
-use Rattle.dk_asm.specs.Places.{place, place_of, place_on}
+use Rattle.dk_asm.proofs.Imports.{◌≡◌, ◌∙◌, sym, ap, refl, ◌<◌, ◌≤◌, ◌+◌, ℕ, suc, Bool, true, false, cond, List, [], ◌∷◌, ◌++◌, length, take, map, get_or, arith, Option, Some, None, is_some, option_map, option_or, bytes_eq, take_more, length-take-le, take-map, length-map, bytes_eq-Decides, Place, Line, has_label, has_instruction, instructions, place, place_of, place_on, nat_tests}
 
 -- a new place under a name that has none
 pub placed : (f : List ℕ → Option Place) (name other : List ℕ) (place : Place) → is_some (f name) ≡ false
@@ -74,16 +66,9 @@ module _ {A : Type 0} (f : A → Line) where
   length_taken xs i l = length-take-le i (map f xs) (omega (arith, length-map xs f))
 
 pub at_most_one : (b : Bool) → cond b 1 0 ≤ 1
-at_most_one true = omega arith
-at_most_one false = omega arith
+at_most_one b = grind (arith, nat_tests)
 
 -- the places after one line more
 pub places_more : (lines front : List Line) (i count : ℕ) (line : Line) → length front ≡ i → count ≡ instructions front → lines ≡ front ++ line ∷ [] → (old new : List ℕ → Option Place)
     → ((name : List ℕ) → old name ≡ place_of front name) → ((name : List ℕ) → new name ≡ option_or (old name) (place_on line (place i count) name)) → (name : List ℕ) → new name ≡ place_of lines name
-places_more lines front i count line counts is whole old new before after name =
-    after name
-    ∙ ap (λ o. option_or o (place_on line (place i count) name)) (before name)
-    ∙ ap (λ n. option_or (place_of front name) (place_on line (place n count) name)) (sym counts)
-    ∙ ap (λ n. option_or (place_of front name) (place_on line (place (length front) n) name)) is
-    ∙ sym (place_push front line name)
-    ∙ ap (λ ls. place_of ls name) (sym whole)
+places_more lines front i count line counts is whole old new before after name = grind (arith, nat_tests, place_push)

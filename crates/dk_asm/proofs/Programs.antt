@@ -1,24 +1,6 @@
 -- In a source without a fault every value fits its place.
-use Rattle.std.proofs.Common.{◌≡◌, ◌∙◌, sym, ap, refl, subst, ◌<◌, ◌≤◌, ◌+◌, ◌-◌, ℕ, zero, suc, Bool, true, false, cond, List, [], ◌∷◌, ◌++◌, length, take, drop, map, arith, Option, Some, None, replicate, inl, inr, ⊎_elim, BTreeMap}
-use Rattle.std.specs.Prelude.{◌&&◌, ◌||◌, ◌==◌, nat_le, slice_get, unwrap_or, codes}
-use Rattle.std.specs.Borrow.{Bor}
-use Rattle.std.specs.List.{list_any, AllByRecursion, slice_split}
-use Rattle.std.specs.Option.{option_map, option_map_or, option_and_then}
-use Rattle.std.proofs.lemmas.Bool.{leb-true, cases_lt}
-use Rattle.std.proofs.lemmas.List.{length-map}
-use Rattle.std.proofs.lemmas.List.Splits.{length-slice_split}
+use Rattle.dk_asm.proofs.Imports.{◌≡◌, ◌∙◌, sym, ap, refl, subst, ◌<◌, ◌≤◌, ◌+◌, ◌-◌, ℕ, zero, suc, Bool, true, false, cond, List, [], ◌∷◌, ◌++◌, length, take, drop, map, arith, Option, Some, None, ⊎_elim, BTreeMap, ◌&&◌, ◌||◌, ◌==◌, nat_le, slice_get, unwrap_or, Bor, list_any, AllByRecursion, option_map, option_map_or, option_and_then, leb-true, cases_lt, length-map, length-slice_split, MAX_INSTRUCTIONS, MAX_SOURCE_BYTES, Kind, Place, LineFault, Operand, up_to, negative, IsOperand, IsLabel, Statement, AreOperands, IsNamed, IsStatement, IsStatementPart, read_line, Line, lines_of, without_empty_end, AreRead, label_value, has_label, has_instruction, instructions, is_outside, is_form, is_range, is_twice, has_unknown, is_short, is_one_too_many, statement_on, operands_of, cause_of, value_of, IsStatementCode, IsLineCode, IsCode, Outcome, Assembled, ArePlaces, IsFirstFault, HasNoFault, FitsPlace, FitPlaces, FitsStatement, FitsPart, FitsLine, value_by, nat_tests}
 use Rattle.std.proofs.lemmas.List.Sums.{count_by-le-length}
-use Rattle.dk_asm.specs.declared.TheConstants.{MAX_INSTRUCTIONS, MAX_SOURCE_BYTES}
-use Rattle.dk_asm.specs.declared.kind.Kind.{Kind}
-use Rattle.dk_asm.specs.declared.labels.Place.{Place}
-use Rattle.dk_asm.specs.declared.fault.LineFault.{LineFault}
-use Rattle.dk_asm.specs.Table.{row_of, with_values}
-use Rattle.dk_asm.specs.Operands.{Operand, up_to, negative, IsOperand, IsLabel}
-use Rattle.dk_asm.specs.Grammar.{Statement, AreOperands, IsNamed, IsStatement, IsStatementPart}
-use Rattle.dk_asm.specs.Reading.{read_line}
-use Rattle.dk_asm.specs.Source.{Line, lines_of, without_empty_end, AreRead, label_value, has_label, has_instruction, instructions, is_outside, is_form, is_range, is_twice, has_unknown, is_short, is_one_too_many, statement_on, operands_of, cause_of, value_of, IsStatementCode, IsLineCode, IsCode, Outcome, Assembled}
-use Rattle.dk_asm.specs.Places.{place_of, ArePlaces, IsFirstFault, HasNoFault}
-use Rattle.dk_asm.specs.Ranges.{FitsPlace, FitPlaces, FitsStatement, FitsPart, FitsLine, value_by}
 use Rattle.dk_asm.proofs.Booleans.{both_left}
 use Rattle.dk_asm.proofs.LineReading.{line_was}
 use Rattle.dk_asm.proofs.Causes.{value_is, first_of}
@@ -43,17 +25,10 @@ number_at (line ∷ lines) n l = go (has_instruction line) refl n l (number_at l
         (suc rest.0, rest.1, rest.2, rest.3, ap (λ t. cond t 1 0 + instructions (take rest.0 lines)) is ∙ omega (arith, rest.4))
 
 first_some : (form range twice unknown short : Bool) → first_of form range twice unknown short true ≡ None → ⊥
-first_some true range twice unknown short h = cc
-first_some false true twice unknown short h = cc
-first_some false false true unknown short h = cc
-first_some false false false true short h = cc
-first_some false false false false true h = cc
-first_some false false false false false h = cc
+first_some form range twice unknown short h = grind (arith, nat_tests)
 
 no_form : (form range twice unknown short many : Bool) → first_of form range twice unknown short many ≡ None → (form ≡ false) × (range ≡ false)
-no_form true range twice unknown short many h = absurd (cc)
-no_form false true twice unknown short many h = absurd (cc)
-no_form false false twice unknown short many h = (refl, refl)
+no_form form range twice unknown short many h = grind (arith, nat_tests)
 
 cause_here : (source : List Line) (i : ℕ) (line : Line) → slice_get source i ≡ Some line → HasNoFault source → cause_of (take i source) line (drop (suc i) source) ≡ None
 cause_here source i line at none = ap (option_and_then (λ l. cause_of (take i source) l (drop (suc i) source))) (sym at) ∙ none i
@@ -108,39 +83,26 @@ module _ (source : List Line) (within : instructions source ≤ MAX_INSTRUCTIONS
       go false le is = let outside : true ≡ false = ap is_outside (sym is) ∙ inside in absurd (cc)
 
   operand_fits : (kind : Kind) (word : List ℕ) (o : Operand) → IsOperand kind word o → is_outside o ≡ false → FitsPlace kind (value_of source o)
-  operand_fits Kind.Register word o is inside = subst (λ p. value_of source p < 8) (sym is.3) is.1
-  operand_fits Kind.Byte word o is inside = let fits = up_to_fits 255 is.0 o is.2 inside in omega (arith, fits)
-  operand_fits Kind.Word word o is inside = let fits = up_to_fits 65535 is.0 o is.2 inside in omega (arith, fits)
-  operand_fits Kind.Value word o (inl is) inside = let fits = up_to_fits 65535 is.0 o is.2 inside in omega (arith, fits)
-  operand_fits Kind.Value word o (inr is) inside = label_fits word o is
-  operand_fits Kind.Signed word o (inl is) inside = let fits = up_to_fits 65535 is.0 o is.2 inside in omega (arith, fits)
-  operand_fits Kind.Signed word o (inr (inl is)) inside = label_fits word o is
-  operand_fits Kind.Signed word o (inr (inr is)) inside = negative_fits is.1 o is.4 inside
+  operand_fits kind word o is inside = grind (arith, nat_tests, up_to_fits, label_fits, negative_fits)
 
   neither : (a b : Bool) → (a || b) ≡ false → (a ≡ false) × (b ≡ false)
-  neither true b h = absurd (cc)
-  neither false b h = (refl, h)
+  neither a b h = grind (arith, nat_tests)
 
   operands_fit : (text : List ℕ) (kind : Kind) (kinds : List Kind) (os : List Operand) → AreOperands text (kind ∷ kinds) os → list_any is_outside os ≡ false → FitPlaces (kind ∷ kinds) (map (value_of source) os)
   operands_fit text kind [] [] are inside = absurd are
-  operands_fit text kind [] (o ∷ []) are inside = (operand_fits kind are.word o are.operand (neither (is_outside o) false inside).0, tt)
+  operands_fit text kind [] (o ∷ []) are inside = grind (arith, nat_tests, operand_fits, neither)
   operands_fit text kind [] (o ∷ p ∷ os) are inside = absurd are
   operands_fit text kind (next ∷ kinds) [] are inside = absurd are
-  operands_fit text kind (next ∷ kinds) (o ∷ os) are inside =
-      let both = neither (is_outside o) (list_any is_outside os) inside in
-      (operand_fits kind are.3.word o are.3.operand both.0, operands_fit are.1 next kinds os are.4 both.1)
+  operands_fit text kind (next ∷ kinds) (o ∷ os) are inside = grind (arith, nat_tests, operand_fits, neither, operands_fit are.1 next kinds os)
 
   named_fits : (text name : List ℕ) (kinds : List Kind) (os : List Operand) → IsNamed text name kinds os → list_any is_outside os ≡ false → FitPlaces kinds (map (value_of source) os)
-  named_fits text name [] os is inside = subst (λ ps. FitPlaces [] (map (value_of source) ps)) (sym is.1) tt
-  named_fits text name (kind ∷ kinds) os is inside = operands_fit is.1 kind kinds os is.4 inside
+  named_fits text name kinds os is inside = grind (arith, nat_tests, operands_fit)
 
   statement_fits : (text : List ℕ) (s : Statement) → IsStatement text s → list_any is_outside (operands_of s) ≡ false → FitsStatement (value_of source) s
-  statement_fits text (Statement.instruction m os) is inside = named_fits text (row_of m).name (row_of m).kinds os is inside
-  statement_fits text (Statement.bytes os) is inside = named_fits text (codes "BYTES") (replicate (length os) Kind.Byte) os is.2 inside
+  statement_fits text s is inside = grind (arith, nat_tests, named_fits)
 
   part_fits : (text : List ℕ) (s : Option Statement) → IsStatementPart text s → list_any is_outside (option_map_or operands_of s []) ≡ false → FitsPart (value_of source) s
-  part_fits text None is inside = tt
-  part_fits text (Some s) is inside = statement_fits text s is inside
+  part_fits text s is inside = grind (arith, nat_tests, statement_fits)
 
   line_fits : (bytes : List ℕ) (line : Line) → read_line bytes ≡ line → is_range line ≡ false → FitsLine (value_of source) line
   line_fits bytes None read inside = tt
@@ -172,38 +134,30 @@ lines_fit lines none = all_from (FitsLine (value_of (map read_line lines))) (map
 -- the values that are told from the places
 module _ (places : BTreeMap (Bor (List ℕ)) Place) (source : List Line) (are : ArePlaces places source) where
   mapped : (o : Option Place) → option_map_or (λ p. p.value) o 0 ≡ unwrap_or (option_map (λ p. p.value) o) 0
-  mapped None = refl
-  mapped (Some p) = refl
+  mapped o = grind (arith, nat_tests)
 
   same_value : (o : Operand) → value_by places o ≡ value_of source o
-  same_value (Operand.value n) = refl
-  same_value Operand.outside = refl
-  same_value (Operand.label name) =
-      ap (λ o. option_map_or (λ p. p.value) o 0) (are name) ∙ mapped (place_of source name) ∙ ap (λ o. unwrap_or o 0) (sym (value_is source name))
+  same_value o = grind (arith, nat_tests, mapped, value_is)
 
   same_values : (os : List Operand) → map (value_by places) os ≡ map (value_of source) os
   same_values [] = refl
   same_values (o ∷ os) = ap (λ n. n ∷ map (value_by places) os) (same_value o) ∙ ap (λ ns. value_of source o ∷ ns) (same_values os)
 
   same_statement : (s : Statement) (code : List ℕ) → IsStatementCode (value_by places) s code → IsStatementCode (value_of source) s code
-  same_statement (Statement.instruction m os) code is = (is.0, is.1 ∙ ap (with_values m) (same_values os), is.2)
-  same_statement (Statement.bytes os) code is = is ∙ same_values os
+  same_statement s code is = grind (arith, nat_tests, same_values)
 
   same_line : (s : Option Statement) (code : List ℕ) → IsLineCode (value_by places) s code → IsLineCode (value_of source) s code
-  same_line None code is = is
-  same_line (Some s) code is = same_statement s code is
+  same_line s code is = grind (arith, nat_tests, same_statement)
 
   pub same_code : (lines : List Line) (code : List ℕ) → IsCode (value_by places) lines code → IsCode (value_of source) lines code
   same_code [] code is = is
   same_code (line ∷ lines) code is = (is.0, is.1, is.2, same_line (statement_on line) is.0 is.3, same_code lines is.1 is.4)
 
   same_fit : (s : Statement) → FitsStatement (value_of source) s → FitsStatement (value_by places) s
-  same_fit (Statement.instruction m os) fits = subst (FitPlaces (row_of m).kinds) (sym (same_values os)) fits
-  same_fit (Statement.bytes os) fits = subst (FitPlaces (replicate (length os) Kind.Byte)) (sym (same_values os)) fits
+  same_fit s fits = grind (arith, nat_tests, same_values)
 
   same_part : (s : Option Statement) → FitsPart (value_of source) s → FitsPart (value_by places) s
-  same_part None fits = tt
-  same_part (Some s) fits = same_fit s fits
+  same_part s fits = grind (arith, nat_tests, same_fit)
 
   same_fits : (lines : List Line) → AllByRecursion (FitsLine (value_of source)) lines → AllByRecursion (FitsLine (value_by places)) lines
   same_fits [] fits = tt
@@ -225,11 +179,7 @@ shorter (line ∷ []) = go (length line == 0)
 shorter (line ∷ next ∷ lines) = let rest = shorter (next ∷ lines) in omega (arith, rest)
 
 pub count_lines : (text : List ℕ) → length (lines_of text) ≤ length text + 1
-count_lines text =
-    let parts = shorter (slice_split (λ b. b == 10) text) in
-    let count = length-slice_split (λ b. b == 10) text in
-    let feeds = count_by-le-length (λ b. b == 10) text in
-    omega (arith, parts, count, feeds)
+count_lines text = grind (arith, nat_tests, shorter, length-slice_split, count_by-le-length)
 
 -- a source that was read gives its code, or its first fault
 pub gives_program : (text : List ℕ) (places : BTreeMap (Bor (List ℕ)) Place) (source : List Line) (code : List ℕ) → source ≡ map read_line (lines_of text) → ArePlaces places source → HasNoFault source
@@ -241,14 +191,7 @@ gives_program text places source code is are none has = record {
 }
 
 pub gives_fault : (text : List ℕ) (source : List Line) (i : ℕ) (cause : LineFault) → source ≡ map read_line (lines_of text) → IsFirstFault source i cause → Assembled text (Outcome.fault (i + 1) cause)
-gives_fault text source i cause is first = record {
-  source = source;
-  read = subst (AreRead (lines_of text)) (sym is) (are_read (lines_of text));
-  gives = (i, refl, first.here, first.none_before);
-}
+gives_fault text source i cause is first = grind (arith, nat_tests, are_read)
 
 pub count_read : {A : Type 0} (seen : A → Line) (text : List ℕ) (items : List A) → map seen items ≡ map read_line (lines_of text) → length text ≤ MAX_SOURCE_BYTES → length items ≤ MAX_SOURCE_BYTES + 1
-count_read seen text items is short =
-    let lines = count_lines text in
-    let same = sym (length-map items seen) ∙ ap length is ∙ length-map (lines_of text) read_line in
-    omega (arith, lines, same)
+count_read seen text items is short = grind (arith, nat_tests, count_lines, length-map)

@@ -1,25 +1,12 @@
 -- Something is told exactly of a line that is refused.
-use Rattle.std.proofs.Common.{◌≡◌, ◌∙◌, sym, ap, refl, ℕ, suc, Bool, true, false, cond, List, [], ◌∷◌, length, arith, Option, Some, None}
-use Rattle.std.specs.Prelude.{◌&&◌, ◌||◌, ◌==◌, nat_le, replicate, codes, is_some}
-use Rattle.std.specs.List.{list_any, before_first}
-use Rattle.std.specs.Option.{option_map, option_and_then}
-use Rattle.std.specs.Str.{bytes_eq}
-use Rattle.std.proofs.lemmas.Bool.Decides.{nat_tests}
-use Rattle.dk_asm.specs.declared.kind.Kind.{Kind}
+use Rattle.dk_asm.proofs.Imports.{◌≡◌, ◌∙◌, sym, ap, refl, ℕ, suc, Bool, true, false, cond, List, [], ◌∷◌, length, arith, Option, Some, None, ◌&&◌, ◌||◌, ◌==◌, nat_le, replicate, codes, is_some, list_any, before_first, option_map, option_and_then, bytes_eq, nat_tests, Kind, Mnemonic, Operand, Statement, read_piece, in_front, read_some, pieces_of, behind_word, read_bytes, read_instruction, mnemonic_named, parts, read_rest, begins_lower, split_label, read_parts, skipped, Reason, reason, trimmed, is_wrong, wrong_end, wrong_operand, wrong_instruction, wrong_rest, wrong_behind, Line, is_outside, is_form, is_range, operands_of, is_blank}
 use Rattle.dk_asm.specs.declared.reasons.Wanted.TheVariants as wanted
-use Rattle.dk_asm.specs.declared.table.Mnemonic.{Mnemonic}
-use Rattle.dk_asm.specs.Operands.{Operand}
-use Rattle.dk_asm.specs.Grammar.{Statement}
-use Rattle.dk_asm.specs.Reading.{read_piece, in_front, read_some, read_pieces, pieces_of, behind_word, read_bytes, read_instruction, read_statement, mnemonic_named, parts, read_rest, begins_lower, split_label, read_parts, skipped, read_label, read_line}
-use Rattle.dk_asm.specs.Reasons.{Reason, reason, trimmed, is_wrong, wrong_end, wrong_operand, wrong_instruction, wrong_statement, wrong_rest, wrong_behind, wrong_label, wrong_in}
-use Rattle.dk_asm.specs.Source.{Line, is_outside, is_form, is_range, operands_of}
-use Rattle.dk_asm.specs.Table.{row_of}
-use Rattle.dk_asm.specs.Words.{is_blank}
+use Rattle.dk_asm.specs.Reading.{read_statement, read_label, read_line}
+use Rattle.dk_asm.specs.Reasons.{wrong_statement, wrong_label, wrong_in}
 use Rattle.dk_asm.proofs.SomeReading.{all_pieces, one_to_four}
 
 and_false : (b : Bool) → (b && false) ≡ false
-and_false true = refl
-and_false false = refl
+and_false b = grind (arith, nat_tests)
 
 -- nothing was read, or a number out of its range where such are looked for
 abbrev refuses : Bool → Option (List Operand) → Bool
@@ -79,29 +66,19 @@ refuses_line ranges line = is_form line || (ranges && is_range line)
 
 module _ (ranges : Bool) where
   of_bytes : (o : Option (List Operand)) → refuses ranges o ≡ refuses_statement ranges (option_map Statement.bytes o)
-  of_bytes None = refl
-  of_bytes (Some os) = refl
+  of_bytes o = grind (arith, nat_tests)
 
   of_instruction : (m : Mnemonic) (o : Option (List Operand)) → refuses ranges o ≡ refuses_statement ranges (option_map (Statement.instruction m) o)
-  of_instruction m None = refl
-  of_instruction m (Some os) = refl
+  of_instruction m o = grind (arith, nat_tests)
 
   of_line : (label : Option (List ℕ)) (o : Option Statement) → refuses_statement ranges o ≡ refuses_line ranges (option_map (λ s. parts label (Some s)) o)
-  of_line label None = refl
-  of_line label (Some s) = refl
+  of_line label o = grind (arith, nat_tests)
 
   in_bytes : (pieces : List (List ℕ)) → is_some (wrong_operand ranges 3 1 (replicate 4 Kind.Byte) pieces) ≡ refuses_statement ranges (read_bytes pieces)
-  in_bytes pieces =
-      each ranges 3 1 (replicate 4 Kind.Byte) pieces
-      ∙ of_bytes (read_some 3 (replicate 4 Kind.Byte) pieces)
-      ∙ ap (refuses_statement ranges) (one_to_four pieces)
+  in_bytes pieces = grind (arith, nat_tests, each, of_bytes, one_to_four)
 
   in_instruction : (name : List ℕ) (pieces : List (List ℕ)) (m : Option Mnemonic) → is_some (wrong_instruction ranges name pieces m) ≡ refuses_statement ranges (option_and_then (read_instruction pieces) m)
-  in_instruction name pieces None = refl
-  in_instruction name pieces (Some m) =
-      each ranges 0 1 (row_of m).kinds pieces
-      ∙ ap (refuses ranges) (all_pieces (row_of m).kinds pieces)
-      ∙ of_instruction m (read_pieces (row_of m).kinds pieces)
+  in_instruction name pieces m = grind (arith, nat_tests, each, all_pieces, of_instruction)
 
   in_statement : (text : List ℕ) → is_some (wrong_statement ranges text) ≡ refuses_statement ranges (read_statement text)
   unfolding wrong_statement read_statement
@@ -119,12 +96,10 @@ module _ (ranges : Bool) where
       go false = in_instruction name pieces (mnemonic_named name)
 
   in_rest : (label : Option (List ℕ)) (text : List ℕ) → is_some (wrong_rest ranges text) ≡ refuses_line ranges (read_rest label text)
-  in_rest label [] = sym (and_false ranges)
-  in_rest label (b ∷ bytes) = in_statement (b ∷ bytes) ∙ of_line label (read_statement (b ∷ bytes))
+  in_rest label text = grind (arith, nat_tests, and_false, in_statement, of_line)
 
   behind_label : (text : List ℕ) (cut : Option (List ℕ × List ℕ)) → is_some (wrong_behind ranges text cut) ≡ refuses_line ranges (read_parts cut)
-  behind_label text None = refl
-  behind_label text (Some cut) = in_rest (Some cut.0) (skipped cut.1)
+  behind_label text cut = grind (arith, nat_tests, in_rest)
 
   in_label : (text : List ℕ) → is_some (wrong_label ranges text) ≡ refuses_line ranges (read_label text)
   unfolding wrong_label read_label

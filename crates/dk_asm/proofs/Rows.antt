@@ -1,11 +1,5 @@
 -- The table of instructions, row by row: bytes that are an instruction are that instruction's bytes, and its operands are in their ranges.
-use Rattle.std.proofs.Common.{◌≡◌, ◌∙◌, sym, ap, refl, subst, ◌<◌, ◌+◌, ◌*◌, ◌/◌, ◌%◌, ℕ, zero, suc, Bool, true, false, List, [], ◌∷◌, arith, Some}
-use Rattle.std.specs.Prelude.{◌&&◌, ◌==◌, slice_get}
-use Rattle.std.proofs.lemmas.Bool.Decides.{nat_tests}
-use Rattle.dk_isa.specs.declared.Instr.{Instr}
-use Rattle.dk_isa.specs.Table.{Row, table, read_row, read_code, instruction_of, bytes_of, given, is_register}
-use Rattle.dk_asm.specs.Table.{row_of, written}
-use Rattle.dk_asm.specs.Ranges.{FitPlaces}
+use Rattle.dk_asm.proofs.Imports.{◌≡◌, refl, subst, ◌<◌, ◌+◌, ◌*◌, ◌/◌, ◌%◌, ℕ, zero, suc, Bool, true, List, [], ◌∷◌, arith, Some, ◌==◌, slice_get, nat_tests, Instr, Row, table, read_row, read_code, instruction_of, bytes_of, given, is_register, row_of, written, FitPlaces}
 use Rattle.dk_asm.proofs.Booleans.{both_left, both_right}
 
 -- the bytes are the instruction's, and its operands are in their ranges
@@ -14,8 +8,7 @@ pub record IsGroup (group : List ℕ) (i : Instr) : Type 0 where
   pub fits : FitPlaces (row_of (written i).mnemonic).kinds (written i).values
 
 is_given : (b : Bool) (i j : Instr) → given b i ≡ Some j → (b ≡ true) × (i ≡ j)
-is_given true i j h = (refl, cc)
-is_given false i j h = absurd (cc)
+is_given b i j h = grind (arith, nat_tests)
 
 below : (a : ℕ) → is_register a ≡ true → a < 8
 below a h = grind (arith, nat_tests)
@@ -40,75 +33,35 @@ group_is : (i j : Instr) (group : List ℕ) → i ≡ j → Writes i group → I
 group_is i j group same w = subst (λ k. IsGroup group k) same (record { back = w.0; fits = w.1 })
 
 good-fixed : (code : ℕ) (i : Instr) → Writes i (code ∷ 0 ∷ 0 ∷ 0 ∷ []) → IsGood code (Row.fixed i)
-good-fixed code i w x y z j hx hy hz read =
-    let is = is_given ((x == 0) && (y == 0) && (z == 0)) i j read in
-    let front = both_left ((x == 0) && (y == 0)) (z == 0) is.0 in
-    let ex = is_zero x (both_left (x == 0) (y == 0) front) in
-    let ey = is_zero y (both_right (x == 0) (y == 0) front) in
-    let ez = is_zero z (both_right ((x == 0) && (y == 0)) (z == 0) is.0) in
-    let same : code ∷ 0 ∷ 0 ∷ 0 ∷ [] ≡ code ∷ x ∷ y ∷ z ∷ [] = cc in
-    subst (λ g. IsGroup g j) same (group_is i j (code ∷ 0 ∷ 0 ∷ 0 ∷ []) is.1 w)
+good-fixed code i w x y z j hx hy hz read = grind (arith, nat_tests, is_given, both_left, is_zero, both_right, group_is)
 
 good-reg_imm : (code : ℕ) (f : ℕ → ℕ → Instr) → ((a v : ℕ) → bytes_of (f a v) ≡ code ∷ a ∷ (v % 256) ∷ (v / 256) ∷ [])
     → ((a v : ℕ) → a < 8 → v < 65536 → FitPlaces (row_of (written (f a v)).mnemonic).kinds (written (f a v)).values) → IsGood code (Row.reg_imm f)
-good-reg_imm code f back fit x y z j hx hy hz read =
-    let is = is_given (is_register x) (f x (y + 256 * z)) j read in
-    let bytes = back x (y + 256 * z) ∙ ap (λ b. code ∷ x ∷ b ∷ ((y + 256 * z) / 256) ∷ []) (low y z hy hz) ∙ ap (λ b. code ∷ x ∷ y ∷ b ∷ []) (high y z hy hz) in
-    group_is (f x (y + 256 * z)) j (code ∷ x ∷ y ∷ z ∷ []) is.1 (bytes, fit x (y + 256 * z) (below x is.0) (omega arith))
+good-reg_imm code f back fit x y z j hx hy hz read = grind (arith, nat_tests, is_given, low, high, group_is, below)
 
 good-reg_reg : (code : ℕ) (f : ℕ → ℕ → Instr) → ((a b : ℕ) → bytes_of (f a b) ≡ code ∷ a ∷ b ∷ 0 ∷ [])
     → ((a b : ℕ) → a < 8 → b < 8 → FitPlaces (row_of (written (f a b)).mnemonic).kinds (written (f a b)).values) → IsGood code (Row.reg_reg f)
-good-reg_reg code f back fit x y z j hx hy hz read =
-    let is = is_given (is_register x && is_register y && (z == 0)) (f x y) j read in
-    let front = both_left (is_register x && is_register y) (z == 0) is.0 in
-    let last = sym (is_zero z (both_right (is_register x && is_register y) (z == 0) is.0)) in
-    group_is (f x y) j (code ∷ x ∷ y ∷ z ∷ []) is.1
-    (back x y ∙ ap (λ b. code ∷ x ∷ y ∷ b ∷ []) last, fit x y (below x (both_left (is_register x) (is_register y) front)) (below y (both_right (is_register x) (is_register y) front)))
+good-reg_reg code f back fit x y z j hx hy hz read = grind (arith, nat_tests, is_given, both_left, is_zero, both_right, group_is, below)
 
 good-three : (code : ℕ) (f : ℕ → ℕ → ℕ → Instr) → ((a b c : ℕ) → bytes_of (f a b c) ≡ code ∷ a ∷ b ∷ c ∷ [])
     → ((a b c : ℕ) → a < 8 → b < 8 → c < 8 → FitPlaces (row_of (written (f a b c)).mnemonic).kinds (written (f a b c)).values) → IsGood code (Row.reg_reg_reg f)
-good-three code f back fit x y z j hx hy hz read =
-    let is = is_given (is_register x && is_register y && is_register z) (f x y z) j read in
-    let front = both_left (is_register x && is_register y) (is_register z) is.0 in
-    group_is (f x y z) j (code ∷ x ∷ y ∷ z ∷ []) is.1 (
-      back x y z,
-      fit x y z (below x (both_left (is_register x) (is_register y) front)) (below y (both_right (is_register x) (is_register y) front))
-          (below z (both_right (is_register x && is_register y) (is_register z) is.0)),
-    )
+good-three code f back fit x y z j hx hy hz read = grind (arith, nat_tests, is_given, both_left, group_is, below, both_right)
 
 good-reg_reg_byte : (code : ℕ) (f : ℕ → ℕ → ℕ → Instr) → ((a b n : ℕ) → bytes_of (f a b n) ≡ code ∷ a ∷ b ∷ n ∷ [])
     → ((a b n : ℕ) → a < 8 → b < 8 → n < 256 → FitPlaces (row_of (written (f a b n)).mnemonic).kinds (written (f a b n)).values) → IsGood code (Row.reg_reg_byte f)
-good-reg_reg_byte code f back fit x y z j hx hy hz read =
-    let is = is_given (is_register x && is_register y) (f x y z) j read in
-    group_is (f x y z) j (code ∷ x ∷ y ∷ z ∷ []) is.1
-    (back x y z, fit x y z (below x (both_left (is_register x) (is_register y) is.0)) (below y (both_right (is_register x) (is_register y) is.0)) hz)
+good-reg_reg_byte code f back fit x y z j hx hy hz read = grind (arith, nat_tests, is_given, group_is, below, both_left, both_right)
 
 good-jump : (code : ℕ) (f : ℕ → Instr) → ((v : ℕ) → bytes_of (f v) ≡ code ∷ 0 ∷ (v % 256) ∷ (v / 256) ∷ [])
     → ((v : ℕ) → v < 65536 → FitPlaces (row_of (written (f v)).mnemonic).kinds (written (f v)).values) → IsGood code (Row.jump f)
-good-jump code f back fit x y z j hx hy hz read =
-    let is = is_given (x == 0) (f (y + 256 * z)) j read in
-    let bytes = back (y + 256 * z) ∙ ap (λ b. code ∷ b ∷ ((y + 256 * z) % 256) ∷ ((y + 256 * z) / 256) ∷ []) (sym (is_zero x is.0))
-    ∙ ap (λ b. code ∷ x ∷ b ∷ ((y + 256 * z) / 256) ∷ []) (low y z hy hz)
-    ∙ ap (λ b. code ∷ x ∷ y ∷ b ∷ []) (high y z hy hz) in
-    group_is (f (y + 256 * z)) j (code ∷ x ∷ y ∷ z ∷ []) is.1 (bytes, fit (y + 256 * z) (omega arith))
+good-jump code f back fit x y z j hx hy hz read = grind (arith, nat_tests, is_given, is_zero, low, high, group_is)
 
 good-reg : (code : ℕ) (f : ℕ → Instr) → ((a : ℕ) → bytes_of (f a) ≡ code ∷ a ∷ 0 ∷ 0 ∷ [])
     → ((a : ℕ) → a < 8 → FitPlaces (row_of (written (f a)).mnemonic).kinds (written (f a)).values) → IsGood code (Row.reg f)
-good-reg code f back fit x y z j hx hy hz read =
-    let is = is_given (is_register x && (y == 0) && (z == 0)) (f x) j read in
-    let front = both_left (is_register x && (y == 0)) (z == 0) is.0 in
-    let ey = sym (is_zero y (both_right (is_register x) (y == 0) front)) in
-    let ez = sym (is_zero z (both_right (is_register x && (y == 0)) (z == 0) is.0)) in
-    group_is (f x) j (code ∷ x ∷ y ∷ z ∷ []) is.1
-    (back x ∙ ap (λ b. code ∷ x ∷ b ∷ 0 ∷ []) ey ∙ ap (λ b. code ∷ x ∷ y ∷ b ∷ []) ez, fit x (below x (both_left (is_register x) (y == 0) front)))
+good-reg code f back fit x y z j hx hy hz read = grind (arith, nat_tests, is_given, both_left, is_zero, both_right, group_is, below)
 
 good-byte : (code : ℕ) (f : ℕ → Instr) → ((n : ℕ) → bytes_of (f n) ≡ code ∷ n ∷ 0 ∷ 0 ∷ [])
     → ((n : ℕ) → n < 256 → FitPlaces (row_of (written (f n)).mnemonic).kinds (written (f n)).values) → IsGood code (Row.byte f)
-good-byte code f back fit x y z j hx hy hz read =
-    let is = is_given ((y == 0) && (z == 0)) (f x) j read in
-    let ey = sym (is_zero y (both_left (y == 0) (z == 0) is.0)) in
-    let ez = sym (is_zero z (both_right (y == 0) (z == 0) is.0)) in
-    group_is (f x) j (code ∷ x ∷ y ∷ z ∷ []) is.1 (back x ∙ ap (λ b. code ∷ x ∷ b ∷ 0 ∷ []) ey ∙ ap (λ b. code ∷ x ∷ y ∷ b ∷ []) ez, fit x hx)
+good-byte code f back fit x y z j hx hy hz read = grind (arith, nat_tests, is_given, is_zero, both_left, both_right, group_is)
 
 abbrev AllGood : ℕ → List Row → Type 0
 AllGood code [] = Unit {0}

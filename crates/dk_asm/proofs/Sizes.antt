@@ -1,22 +1,5 @@
 -- How long a program and a listing can be.
-use Rattle.std.proofs.Common.{◌≡◌, ◌∙◌, ap, refl, subst, ◌<◌, ◌≤◌, ◌+◌, ◌*◌, ℕ, cond, List, [], ◌∷◌, ◌++◌, length, map, arith, Option, Some, None, length-append}
-use Rattle.std.specs.Prelude.{decimal, codes, flat_map, is_some}
-use Rattle.std.specs.List.{join_with_byte, AllByRecursion}
-use Rattle.std.proofs.lemmas.Fmt.{length-decimal-le}
-use Rattle.std.proofs.lemmas.List.{length-map}
-use Rattle.dk_config.specs.declared.TheConstants.{MAX_PROGRAM_BYTES}
-use Rattle.dk_asm.specs.declared.TheConstants.{MAX_SOURCE_BYTES}
-use Rattle.dk_isa.specs.declared.Instr.{Instr}
-use Rattle.dk_isa.specs.Table.{instruction_of, bytes_of}
-use Rattle.dk_asm.specs.declared.kind.Kind.{Kind}
-use Rattle.dk_asm.specs.declared.table.Mnemonic.{Mnemonic}
-use Rattle.dk_asm.specs.Table.{row_of, written}
-use Rattle.dk_asm.specs.Operands.{Operand}
-use Rattle.dk_asm.specs.Grammar.{Statement, IsStatement, IsStatementPart}
-use Rattle.dk_asm.specs.Reading.{read_line}
-use Rattle.dk_asm.specs.Ranges.{FitsPlace, FitPlaces}
-use Rattle.dk_asm.specs.Source.{Line, lines_of, statement_on, has_instruction, instructions, IsStatementCode, IsLineCode, IsCode, Outcome, Assembled, value_of}
-use Rattle.dk_asm.specs.Listing.{groups, operand_text, operand_texts, named, text_of, group_text, listing}
+use Rattle.dk_asm.proofs.Imports.{◌≡◌, ◌∙◌, ap, refl, ◌<◌, ◌≤◌, ◌+◌, ◌*◌, ℕ, cond, List, [], ◌∷◌, ◌++◌, length, map, arith, Option, Some, None, length-append, decimal, flat_map, is_some, join_with_byte, AllByRecursion, length-decimal-le, length-map, MAX_PROGRAM_BYTES, MAX_SOURCE_BYTES, Instr, instruction_of, bytes_of, Kind, Mnemonic, row_of, written, Operand, Statement, IsStatement, IsStatementPart, read_line, FitsPlace, FitPlaces, Line, statement_on, has_instruction, instructions, IsStatementCode, IsLineCode, IsCode, Outcome, Assembled, operand_text, operand_texts, named, text_of, group_text, listing, nat_tests}
 use Rattle.dk_asm.proofs.LineReading.{line_was}
 use Rattle.dk_asm.proofs.Outcomes.{were_read}
 use Rattle.dk_asm.proofs.Programs.{few}
@@ -24,42 +7,15 @@ use Rattle.dk_asm.proofs.ListedLines.{AreBytes, IsSome4, is_group}
 use Rattle.dk_asm.proofs.Law.{are_groups, each_group, count_groups}
 
 four_bytes : (i : Instr) → length (bytes_of i) ≡ 4
-four_bytes Instr.Nop = refl
-four_bytes (Instr.Li a v) = refl
-four_bytes (Instr.Lih a v) = refl
-four_bytes (Instr.Mov a b) = refl
-four_bytes (Instr.Add a b c) = refl
-four_bytes (Instr.Sub a b c) = refl
-four_bytes (Instr.Mul a b c) = refl
-four_bytes (Instr.Div a b c) = refl
-four_bytes (Instr.Rem a b c) = refl
-four_bytes (Instr.And a b c) = refl
-four_bytes (Instr.Or a b c) = refl
-four_bytes (Instr.Xor a b c) = refl
-four_bytes (Instr.Shl a b c) = refl
-four_bytes (Instr.Shr a b c) = refl
-four_bytes (Instr.Addi a v) = refl
-four_bytes (Instr.Ld a b n) = refl
-four_bytes (Instr.St a b n) = refl
-four_bytes (Instr.Jmp v) = refl
-four_bytes (Instr.Jz a v) = refl
-four_bytes (Instr.Jnz a v) = refl
-four_bytes (Instr.Slt a b c) = refl
-four_bytes (Instr.Jr a) = refl
-four_bytes (Instr.Trap n) = refl
+four_bytes i = grind (arith, nat_tests)
 
 -- a program has at most four bytes for each instruction
 module _ (value : Operand → ℕ) where
   statement_size : (text : List ℕ) (s : Statement) (code : List ℕ) → IsStatement text s → IsStatementCode value s code → length code ≤ 4
-  statement_size text (Statement.instruction m os) code is has = let four = ap length has.2 ∙ four_bytes has.0 in omega (arith, four)
-  statement_size text (Statement.bytes os) code is has =
-      let count = ap length has ∙ length-map os value in
-      let most = is.1 in
-      omega (arith, count, most)
+  statement_size text s code is has = grind (arith, nat_tests, four_bytes, length-map)
 
   part_size : (text : List ℕ) (s : Option Statement) (code : List ℕ) → IsStatementPart text s → IsLineCode value s code → length code ≤ 4 * cond (is_some s) 1 0
-  part_size text None code is has = let none = ap length has in omega (arith, none)
-  part_size text (Some s) code is has = let size = statement_size text s code is has in omega (arith, size)
+  part_size text s code is has = grind (arith, nat_tests, statement_size)
 
   line_size : (bytes : List ℕ) (line : Line) (code : List ℕ) → read_line bytes ≡ line → IsLineCode value (statement_on line) code → length code ≤ 4 * cond (has_instruction line) 1 0
   line_size bytes None code read has = let none = ap length has in omega (arith, none)
@@ -74,12 +30,7 @@ module _ (value : Operand → ℕ) where
       omega (arith, first, rest, both)
 
 pub program_size : (text code : List ℕ) → Assembled text (Outcome.program code) → length code ≤ MAX_PROGRAM_BYTES
-program_size text code is =
-    let read = were_read (lines_of text) is.source is.read in
-    let size = code_size (value_of is.source) (lines_of text) code (subst (λ s. IsCode (value_of is.source) s code) read is.gives.1) in
-    let most = few is.source is.gives.0 in
-    let same = ap instructions read in
-    omega (arith, size, most, same)
+program_size text code is = grind (arith, nat_tests, were_read, code_size, few)
 
 -- a listing has at most 64 bytes for each line
 abbrev Short : ℕ → List (List ℕ) → Type 0
@@ -105,11 +56,7 @@ decimal_size : (n : ℕ) → n < 65536 → length (decimal n) ≤ 5
 decimal_size n small = length-decimal-le 5 n (omega arith) (omega arith) (omega arith)
 
 operand_size : (kind : Kind) (n : ℕ) → FitsPlace kind n → length (operand_text kind n) ≤ 6
-operand_size Kind.Register n fits = let size = decimal_size n (omega arith) in omega (arith, size)
-operand_size Kind.Byte n fits = let size = decimal_size n (omega arith) in omega (arith, size)
-operand_size Kind.Word n fits = let size = decimal_size n fits in omega (arith, size)
-operand_size Kind.Value n fits = let size = decimal_size n fits in omega (arith, size)
-operand_size Kind.Signed n fits = let size = decimal_size n fits in omega (arith, size)
+operand_size kind n fits = grind (arith, nat_tests, decimal_size)
 
 operands_size : (kinds : List Kind) (ns : List ℕ) → FitPlaces kinds ns → Short 6 (operand_texts kinds ns)
 operands_size [] ns fit = tt
@@ -126,36 +73,10 @@ count_texts (kind ∷ kinds) [] = omega arith
 count_texts (kind ∷ kinds) (n ∷ ns) = let rest = count_texts kinds ns in omega (arith, rest)
 
 row_size : (m : Mnemonic) → (length (row_of m).name ≤ 5) × (length (row_of m).kinds ≤ 3)
-row_size Mnemonic.Nop = (omega arith, omega arith)
-row_size Mnemonic.Li = (omega arith, omega arith)
-row_size Mnemonic.Lih = (omega arith, omega arith)
-row_size Mnemonic.Mov = (omega arith, omega arith)
-row_size Mnemonic.Add = (omega arith, omega arith)
-row_size Mnemonic.Sub = (omega arith, omega arith)
-row_size Mnemonic.Mul = (omega arith, omega arith)
-row_size Mnemonic.Div = (omega arith, omega arith)
-row_size Mnemonic.Rem = (omega arith, omega arith)
-row_size Mnemonic.And = (omega arith, omega arith)
-row_size Mnemonic.Or = (omega arith, omega arith)
-row_size Mnemonic.Xor = (omega arith, omega arith)
-row_size Mnemonic.Shl = (omega arith, omega arith)
-row_size Mnemonic.Shr = (omega arith, omega arith)
-row_size Mnemonic.Addi = (omega arith, omega arith)
-row_size Mnemonic.Ld = (omega arith, omega arith)
-row_size Mnemonic.St = (omega arith, omega arith)
-row_size Mnemonic.Jmp = (omega arith, omega arith)
-row_size Mnemonic.Jz = (omega arith, omega arith)
-row_size Mnemonic.Jnz = (omega arith, omega arith)
-row_size Mnemonic.Slt = (omega arith, omega arith)
-row_size Mnemonic.Jr = (omega arith, omega arith)
-row_size Mnemonic.Trap = (omega arith, omega arith)
+row_size m = grind (arith, nat_tests)
 
 text_size : (o : Option Instr) (group : List ℕ) → IsSome4 group → instruction_of group ≡ o → length (text_of o group) ≤ 34
-text_size None group g is =
-    let size = named_size (codes "BYTES") (map decimal group) (omega arith) (numbers_size group g.bytes) in
-    let count = length-map group decimal in
-    let most = g.few in
-    omega (arith, size, count, most)
+text_size None group g is = grind (arith, nat_tests, named_size, numbers_size, length-map, few)
 text_size (Some i) group g is =
     let row = row_size (written i).mnemonic in
     let size =
@@ -175,7 +96,4 @@ lines_size (g ∷ gs) each =
     omega (arith, first, rest, both, line)
 
 pub listing_size : (code : List ℕ) → length code ≤ MAX_PROGRAM_BYTES → AreBytes code → length (listing code) ≤ MAX_SOURCE_BYTES
-listing_size code short bytes =
-    let size = lines_size (groups code) (each_group (groups code) (are_groups code bytes)) in
-    let count = count_groups code in
-    omega (arith, size, count)
+listing_size code short bytes = grind (arith, nat_tests, lines_size, each_group, are_groups, count_groups)

@@ -1,13 +1,5 @@
 -- Operands of kinds of which the last few are optional.
-use Rattle.std.proofs.Common.{◌≡◌, ◌∙◌, sym, ap, refl, ◌<◌, ℕ, suc, false, cond, List, [], ◌∷◌, length, arith, Option, Some, None}
-use Rattle.std.specs.Prelude.{◌&&◌, ◌==◌, nat_le, replicate}
-use Rattle.std.specs.List.{slice_split}
-use Rattle.std.specs.Option.{option_map}
-use Rattle.std.proofs.lemmas.Bool.Decides.{nat_tests}
-use Rattle.dk_asm.specs.declared.kind.Kind.{Kind}
-use Rattle.dk_asm.specs.Operands.{Operand}
-use Rattle.dk_asm.specs.Grammar.{Statement}
-use Rattle.dk_asm.specs.Reading.{read_piece, in_front, read_pieces, read_some, read_bytes, cut_at}
+use Rattle.dk_asm.proofs.Imports.{◌≡◌, ap, refl, ◌<◌, ℕ, suc, false, cond, List, [], ◌∷◌, length, arith, Option, Some, None, ◌&&◌, ◌==◌, nat_le, replicate, slice_split, option_map, nat_tests, Kind, Operand, Statement, read_piece, in_front, read_pieces, read_some, read_bytes, cut_at}
 use Rattle.dk_asm.proofs.TextLines.{piece_at_cut, piece_at_end}
 
 some_left : (n : ℕ) → nat_le (suc n) 0 ≡ false
@@ -21,8 +13,7 @@ all_pieces (kind ∷ kinds) [] = ap (λ t. cond t (Some []) None) (some_left (le
 all_pieces (kind ∷ kinds) (p ∷ pieces) = ap (in_front (read_piece kind p)) (all_pieces kinds pieces)
 
 nothing : (o : Option Operand) → in_front o None ≡ None
-nothing None = refl
-nothing (Some o) = refl
+nothing o = grind (arith, nat_tests)
 
 above_four : (n : ℕ) → (nat_le 1 (suc (suc (suc (suc (suc n))))) && nat_le (suc (suc (suc (suc (suc n))))) 4) ≡ false
 above_four n = grind (arith, nat_tests)
@@ -34,12 +25,7 @@ one_to_four (p ∷ []) = refl
 one_to_four (p ∷ q ∷ []) = refl
 one_to_four (p ∷ q ∷ r ∷ []) = refl
 one_to_four (p ∷ q ∷ r ∷ s ∷ []) = refl
-one_to_four (p ∷ q ∷ r ∷ s ∷ t ∷ pieces) =
-    ap (λ o. option_map Statement.bytes (in_front (read_piece Kind.Byte p) (in_front (read_piece Kind.Byte q) (in_front (read_piece Kind.Byte r) o)))) (nothing (read_piece Kind.Byte s))
-    ∙ ap (λ o. option_map Statement.bytes (in_front (read_piece Kind.Byte p) (in_front (read_piece Kind.Byte q) o))) (nothing (read_piece Kind.Byte r))
-    ∙ ap (λ o. option_map Statement.bytes (in_front (read_piece Kind.Byte p) o)) (nothing (read_piece Kind.Byte q))
-    ∙ ap (option_map Statement.bytes) (nothing (read_piece Kind.Byte p))
-    ∙ sym (ap (λ b. cond b (option_map Statement.bytes (read_pieces (replicate (length (p ∷ q ∷ r ∷ s ∷ t ∷ pieces)) Kind.Byte) (p ∷ q ∷ r ∷ s ∷ t ∷ pieces))) None) (above_four (length pieces)))
+one_to_four (p ∷ q ∷ r ∷ s ∷ t ∷ pieces) = grind (arith, nat_tests, nothing, above_four)
 
 -- a text has at least one piece
 pub no_kind : (optional : ℕ) (kinds : List Kind) (text : List ℕ) → length kinds < 1 → read_some optional kinds (slice_split (λ b. b == 44) text) ≡ None

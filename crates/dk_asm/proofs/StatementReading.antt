@@ -1,18 +1,7 @@
 -- An instruction is read as the grammar says.
-use Rattle.std.proofs.Common.{◌≡◌, ◌∙◌, sym, ap, refl, subst, ◌≤◌, ℕ, suc, Bool, true, false, cond, List, [], ◌∷◌, ◌++◌, length, Option, Some, None, append_assoc, append-nil, replicate}
-use Rattle.std.specs.Prelude.{◌&&◌, ◌==◌, not, nat_le, codes}
-use Rattle.std.specs.List.{list_all, before_first}
-use Rattle.std.specs.Option.{option_map, option_and_then}
-use Rattle.std.specs.Str.{bytes_eq}
-use Rattle.std.proofs.lemmas.Bool.{le-leb, leb-true}
-use Rattle.std.proofs.lemmas.Slice.Eq.{bytes_eq-Decides}
-use Rattle.dk_asm.specs.declared.kind.Kind.{Kind}
-use Rattle.dk_asm.specs.declared.table.Mnemonic.{Mnemonic}
-use Rattle.dk_asm.specs.Table.{row_of}
-use Rattle.dk_asm.specs.Words.{is_blank, AreBlanks}
-use Rattle.dk_asm.specs.Operands.{Operand}
-use Rattle.dk_asm.specs.Grammar.{Statement, IsPiece, AreOperands, IsNamed, IsStatement}
-use Rattle.dk_asm.specs.Reading.{behind_word, read_piece, in_front, read_pieces, pieces_of, mnemonic_named, read_bytes, read_instruction, read_statement, begins_lower}
+use Rattle.dk_asm.proofs.Imports.{◌≡◌, ◌∙◌, sym, ap, refl, subst, ◌≤◌, ℕ, suc, Bool, true, false, cond, List, [], ◌∷◌, ◌++◌, length, Option, Some, None, append_assoc, append-nil, ◌&&◌, ◌==◌, not, nat_le, codes, list_all, before_first, option_map, option_and_then, bytes_eq, le-leb, leb-true, bytes_eq-Decides, Kind, Mnemonic, row_of, is_blank, AreBlanks, Operand, Statement, IsPiece, AreOperands, IsNamed, IsStatement, behind_word, read_piece, in_front, read_pieces, mnemonic_named, read_bytes, read_instruction, begins_lower, nat_tests, arith}
+use Rattle.std.proofs.Common.{replicate}
+use Rattle.dk_asm.specs.Reading.{pieces_of, read_statement}
 use Rattle.dk_asm.proofs.Booleans.{both_left, both_right, both}
 use Rattle.dk_asm.proofs.Cuts.{Clean, Starts, IsWord, before_cut, after_cut, cut_whole, cut_starts, all_both, blanks_start}
 use Rattle.dk_asm.proofs.OperandReading.{plain_word, operand_plain}
@@ -59,8 +48,7 @@ later b text kind (next ∷ kinds) [] are h = absurd are
 later b text kind (next ∷ kinds) (o ∷ os) are h = (b ∷ are.0, are.1, ap (λ t. b ∷ t) are.2, later_piece b are.0 kind o are.3 h, are.4)
 
 not_both : (b : Bool) → b ≡ true → not b ≡ true → ⊥
-not_both true h k = cc
-not_both false h k = cc
+not_both b h k = grind (arith, nat_tests)
 
 -- one blank less
 module _ (b : ℕ) (blank : is_blank b ≡ true) where
@@ -124,8 +112,7 @@ piece_not_blank text more kind o is h =
     go (c ∷ word) w h = not_both (is_blank c) (both_left (is_blank c) (list_all is_blank (word ++ (is.after ++ more))) h) (both_left (not (is_blank c)) (list_all (λ x. not (is_blank x)) word) w.solid)
 
 false_or : (b : Bool) → (b ≡ true → ⊥) → b ≡ false
-false_or true h = absurd (h refl)
-false_or false h = refl
+false_or b h = grind (arith, nat_tests)
 
 operands_not_blank : (text : List ℕ) (kind : Kind) (kinds : List Kind) (os : List Operand) → AreOperands text (kind ∷ kinds) os → list_all is_blank text ≡ false
 operands_not_blank text kind [] [] are = absurd are
@@ -149,16 +136,7 @@ pub record IsCut (text name : List ℕ) (kinds : List Kind) (os : List Operand) 
   pub operands_are : read_pieces kinds (pieces_of (behind_word text)) ≡ Some os
 
 named_is : (text name blanks : List ℕ) (kinds : List Kind) (os : List Operand) → IsNamed text name kinds os → IsWord name → AreBlanks blanks → IsCut (text ++ blanks) name kinds os
-named_is text name blanks [] os is w h =
-    let same = ap (λ t. t ++ blanks) is.0 in
-    let starts = blanks_start blanks h in
-    record {
-      name_is = ap (before_first is_blank) same ∙ before_cut is_blank name blanks w.solid starts;
-      operands_are = ap (λ t. read_pieces [] (pieces_of (behind_word t))) same
-          ∙ ap (λ t. read_pieces [] (pieces_of t)) (after_cut is_blank name blanks w.solid starts)
-          ∙ ap (read_pieces []) (pieces_none blanks h)
-          ∙ ap Some (sym is.1);
-    }
+named_is text name blanks [] os is w h = grind (arith, nat_tests, blanks_start, name_is, before_cut, operands_are, after_cut, pieces_none)
 named_is text name blanks (kind ∷ kinds) os is w h =
     let behind = is.0 ∷ (is.1 ++ blanks) in
     let same : text ++ blanks ≡ name ++ (is.0 ∷ (is.1 ++ blanks)) = ap (λ t. t ++ blanks) is.2 ∙ append_assoc name (is.0 ∷ is.1) blanks in
@@ -320,15 +298,10 @@ module _ (text : List ℕ) where
 
 -- how an instruction begins, and that it has no `#`
 named_no_hash : (text name : List ℕ) (kinds : List Kind) (os : List Operand) → IsNamed text name kinds os → Clean (λ b. b == 35) name → Clean (λ b. b == 35) text
-named_no_hash text name [] os is h = subst (Clean (λ b. b == 35)) (sym is.0) h
-named_no_hash text name (kind ∷ kinds) os is h =
-    subst (Clean (λ b. b == 35)) (sym is.2)
-    (all_both (λ b. not (b == 35)) name (is.0 ∷ is.1) h
-    (both (not (is.0 == 35)) (list_all (λ b. not (b == 35)) is.1) (both_left (not (is.0 == 35)) true (blanks_no_hash (is.0 ∷ []) (both (is_blank is.0) true is.3 refl))) (operands_no_hash is.1 kind kinds os is.4)))
+named_no_hash text name kinds os is h = grind (arith, nat_tests, Clean, all_both, both, both_left, blanks_no_hash, operands_no_hash)
 
 pub statement_no_hash : (text : List ℕ) (s : Statement) → IsStatement text s → Clean (λ b. b == 35) text
-statement_no_hash text (Statement.instruction m os) is = named_no_hash text (row_of m).name (row_of m).kinds os is (name_no_hash m)
-statement_no_hash text (Statement.bytes os) is = named_no_hash text (codes "BYTES") (replicate (length os) Kind.Byte) os is.2 refl
+statement_no_hash text s is = grind (arith, nat_tests, named_no_hash, name_no_hash)
 
 -- the text begins with its name
 named_begins : (text name : List ℕ) (kinds : List Kind) (os : List Operand) → IsNamed text name kinds os → (rest : List ℕ) × (text ≡ name ++ rest)
@@ -343,9 +316,5 @@ pub record BeginsStatement (text : List ℕ) : Type 0 where
   pub not_lower : (more : List ℕ) → begins_lower (name ++ more) ≡ false
 
 pub statement_begins : (text : List ℕ) (s : Statement) → IsStatement text s → BeginsStatement text
-statement_begins text (Statement.instruction m os) is =
-    let begins = named_begins text (row_of m).name (row_of m).kinds os is in
-    record { name = (row_of m).name; rest = begins.0; whole = begins.1; word = name_word m; not_lower = name_not_lower m }
-statement_begins text (Statement.bytes os) is =
-    let begins = named_begins text (codes "BYTES") (replicate (length os) Kind.Byte) os is.2 in
-    record { name = codes "BYTES"; rest = begins.0; whole = begins.1; word = bytes_word; not_lower = λ more. refl }
+statement_begins text (Statement.instruction m os) is = grind (arith, nat_tests, named_begins, name_word, name_not_lower)
+statement_begins text (Statement.bytes os) is = grind (arith, nat_tests, named_begins, bytes_word)

@@ -1,12 +1,6 @@
 -- The lines of a text, one by one.
-use Rattle.std.proofs.Common.{◌≡◌, ◌∙◌, sym, ap, refl, ◌<◌, ◌+◌, ℕ, Bool, true, false, cond, List, [], ◌∷◌, ◌++◌, length, take, drop, arith, append_assoc, All, Some, None}
-use Rattle.std.specs.Prelude.{◌==◌, not, map, flat_map, position}
-use Rattle.std.specs.List.{list_all, slice_split, onto_first, AllByRecursion}
-use Rattle.std.proofs.lemmas.Bool.Decides.{nat_tests}
-use Rattle.std.proofs.lemmas.List.Splits.{slice_split_at, slice_split_none}
-use Rattle.dk_asm.specs.Source.{lines_of, without_empty_end}
-use Rattle.std.proofs.lemmas.List.{length-drop}
-use Rattle.dk_asm.specs.Reading.{cut_at}
+use Rattle.dk_asm.proofs.Imports.{◌≡◌, ◌∙◌, sym, ap, refl, ◌<◌, ◌+◌, ℕ, Bool, true, false, cond, List, [], ◌∷◌, ◌++◌, length, take, drop, arith, append_assoc, All, Some, None, ◌==◌, not, flat_map, position, list_all, slice_split, onto_first, AllByRecursion, nat_tests, slice_split_at, slice_split_none, lines_of, without_empty_end, length-drop, cut_at}
+use Rattle.std.specs.Prelude.{map}
 use Rattle.dk_asm.proofs.Cuts.{cut_was, cut_none, clean_all, at_place, no_place}
 
 abbrev pub is_no_feed : ℕ → Bool
@@ -56,21 +50,13 @@ feed b h = grind (arith, nat_tests)
 
 -- the first line of a text, at its first line feed or up to the end
 pub line_at_feed : (text : List ℕ) (end : ℕ) → position (λ b. b == 10) text ≡ Some end → lines_of text ≡ take end text ∷ lines_of (drop (end + 1) text)
-line_at_feed text end h =
-    let found = at_place (λ b. b == 10) text end h in
-    let whole = found.2 ∙ ap (λ b. take end text ++ b ∷ drop (end + 1) text) (feed found.0 found.1) in
-    ap lines_of whole ∙ first_of_lines (take end text) (drop (end + 1) text) (no_feeds (take end text) found.3)
+line_at_feed text end h = grind (arith, nat_tests, at_place, feed, first_of_lines, no_feeds)
 
 pub line_at_cut : (text line rest : List ℕ) → cut_at 10 text ≡ Some (line, rest) → lines_of text ≡ line ∷ lines_of rest
-line_at_cut text line rest h =
-    let cut = cut_was 10 text line rest h in
-    line_at_feed text cut.end cut.at ∙ ap (λ l. l ∷ lines_of (drop (cut.end + 1) text)) cut.front_is ∙ ap (λ r. line ∷ lines_of r) cut.rest_is
+line_at_cut text line rest h = grind (arith, nat_tests, cut_was, line_at_feed)
 
 pub rest_shorter : (text line rest : List ℕ) → 0 < length text → cut_at 10 text ≡ Some (line, rest) → length rest < length text
-rest_shorter text line rest some h =
-    let cut = cut_was 10 text line rest h in
-    let size = sym (ap length cut.rest_is) ∙ length-drop (cut.end + 1) text in
-    omega (arith, size, some)
+rest_shorter text line rest some h = grind (arith, nat_tests, cut_was, length-drop)
 
 pub line_at_end : (text : List ℕ) → 0 < length text → position (λ b. b == 10) text ≡ None → lines_of text ≡ text ∷ []
 line_at_end [] some h = absurd (omega arith)
@@ -78,13 +64,7 @@ line_at_end (b ∷ text) some h = last_of_lines b text (no_feeds (b ∷ text) (n
 
 -- the pieces that commas part, one by one
 pub piece_at_cut : (text piece rest : List ℕ) → cut_at 44 text ≡ Some (piece, rest) → slice_split (λ b. b == 44) text ≡ piece ∷ slice_split (λ b. b == 44) rest
-piece_at_cut text piece rest h =
-    let cut = cut_was 44 text piece rest h in
-    let found = at_place (λ b. b == 44) text cut.end cut.at in
-    ap (slice_split (λ b. b == 44)) found.2
-    ∙ slice_split_at (λ b. b == 44) (take cut.end text) found.0 (drop (cut.end + 1) text) (clean_all (λ b. b == 44) (take cut.end text) found.3) found.1
-    ∙ ap (λ p. p ∷ slice_split (λ b. b == 44) (drop (cut.end + 1) text)) cut.front_is
-    ∙ ap (λ r. piece ∷ slice_split (λ b. b == 44) r) cut.rest_is
+piece_at_cut text piece rest h = grind (arith, nat_tests, cut_was, at_place, slice_split_at, clean_all)
 
 pub piece_at_end : (text : List ℕ) → cut_at 44 text ≡ None → slice_split (λ b. b == 44) text ≡ text ∷ []
 piece_at_end text h = slice_split_none (λ b. b == 44) text (clean_all (λ b. b == 44) text (no_place (λ b. b == 44) text (cut_none 44 text h)))

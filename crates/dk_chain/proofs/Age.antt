@@ -1,17 +1,8 @@
 -- How old the data is that a job stands on: for each window of the last process there is a chain that comes to it.
-use Rattle.std.proofs.Common.{ℕ, zero, suc, ◌≡◌, ◌+◌, ◌%◌, ◌<◌, ◌≤◌, inl, inr, List, [], ◌∷◌, length, refl, sym, subst, arith}
-use Rattle.std.proofs.lemmas.Bool.{cases_lt}
-use Rattle.std.proofs.lemmas.Nat.Gcd.{dvd_of_mod-eq-zero, mod-eq-zero_of_dvd, dvd-zero}
-use Rattle.dk_config.specs.Configuration.{Configuration}
-use Rattle.dk_config.specs.Checked.{IsChecked}
-use Rattle.dk_trace.specs.declared.Entry.{Entry}
-use Rattle.dk_bound.specs.Laws.{Always}
-use Rattle.dk_chain.specs.Chain.{AreThere, window_length, next_start, free_from, through}
-use Rattle.dk_chain.specs.Age.{last_of, ComesTo, AgesInTime}
+use Rattle.dk_chain.proofs.Names.{ℕ, zero, suc, ◌≡◌, ◌+◌, ◌%◌, ◌<◌, ◌≤◌, List, [], ◌∷◌, length, refl, arith, dvd_of_mod-eq-zero, mod-eq-zero_of_dvd, dvd-zero, Configuration, IsChecked, Entry, Always, AreThere, window_length, next_start, free_from, through, last_of, ComesTo, AgesInTime, nat_tests}
 use Rattle.dk_chain.proofs.Rounding.{round-divides, round-above, round-whole, apart}
 use Rattle.dk_chain.proofs.InOrder.{begins_in_order}
 use Rattle.dk_chain.proofs.Chain.{Knows, window-positive, first-there, rest-there, starts-later}
-use Rattle.std.proofs.lemmas.Bool.Decides.{nat_tests}
 
 -- the window of the last process to which the windows of a chain lead
 abbrev pub final : Configuration → (ℕ → ℕ) → ℕ → ℕ → List ℕ → ℕ
@@ -41,11 +32,7 @@ final-starts c done p s (q ∷ rest) begins = grind (arith, nat_tests, mod-eq-ze
 -- the last place at which a count is not yet above u
 largest : (g : ℕ → ℕ) (u n : ℕ) → g 0 ≤ u → u < g n → (t : ℕ) × (g t ≤ u) × (u < g (suc t))
 largest g u zero low high = absurd (omega (arith, low, high))
-largest g u (suc n) low high =
-    elim (cases_lt u (g n)) [
-      | inl above ↦ largest g u n low above
-      | inr fine ↦ (n, omega arith, high)
-    ]
+largest g u (suc n) low high = grind (arith, nat_tests, largest g u n low)
 
 -- a chain that leads to a window not after u comes to u too
 comes-on : (c : Configuration) (past : List Entry) (done : ℕ → ℕ) (p s q u : ℕ) (rest : List ℕ) → Knows c past done → p < length c.processes → AreThere c (q ∷ rest)
@@ -87,8 +74,7 @@ ages_in_time c past checked accepted audited done p (q ∷ rest) reaction age u 
     let know : Knows c past done = record { checked = checked; accepted = accepted; audited = audited; are_done = are_done } in
     let positive = window-positive c p checked here in
     let zero_start : next_start c p 0 ≡ 0 = round-whole 0 (window_length c p) positive (dvd-zero (window_length c p)) in
-    let first : led c done p (q ∷ rest) 0 ≤ u =
-    (let w = through-final c done p 0 (q ∷ rest) in subst (λ s. final c done p s (q ∷ rest) ≤ u) (sym zero_start) (omega (arith, early, w))) in
+    let first : led c done p (q ∷ rest) 0 ≤ u = grind (arith, nat_tests, through-final) in
     let over : u < led c done p (q ∷ rest) (suc u) =
     (let up = round-above (suc u) (window_length c p) positive in let more = final-above c done p (next_start c p (suc u)) (q ∷ rest) checked tail in omega (arith, up, more)) in
     let found = largest (led c done p (q ∷ rest)) u (suc u) first over in

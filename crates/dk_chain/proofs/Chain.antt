@@ -1,17 +1,5 @@
 -- Each event is answered in time: the windows that the reaction time is worked out from are such a chain.
-use Rattle.std.proofs.Common.{ℕ, suc, ◌≡◌, ◌+◌, ◌%◌, ◌<◌, ◌≤◌, inl, inr, List, [], ◌∷◌, length, refl, arith}
-use Rattle.std.specs.Int.{◌∣◌}
-use Rattle.std.proofs.lemmas.Bool.{cases_Bool, cases_lt}
-use Rattle.std.proofs.lemmas.Nat.Gcd.{dvd_of_mod-eq-zero, mod-eq-zero_of_dvd, dvd_trans}
-use Rattle.dk_config.specs.Configuration.{Configuration}
-use Rattle.dk_config.specs.Checked.{IsChecked, IsAccepted}
-use Rattle.dk_config.specs.Ahead.{comes_before, IsEnough}
-use Rattle.dk_config.specs.Windows.{main_level, budget}
-use Rattle.dk_trace.specs.declared.Entry.{Entry}
-use Rattle.dk_trace.specs.Audit.{Audited}
-use Rattle.dk_bound.specs.Laws.{Always}
-use Rattle.dk_chain.specs.InOrder.{StartsLater}
-use Rattle.dk_chain.specs.Chain.{AreDone, AreThere, window_length, next_start, free_from, through, GoesOn, ReactsInTime}
+use Rattle.dk_chain.proofs.Names.{ℕ, suc, ◌≡◌, ◌+◌, ◌%◌, ◌<◌, ◌≤◌, inl, inr, List, [], ◌∷◌, length, refl, arith, ◌∣◌, cases_Bool, cases_lt, dvd_of_mod-eq-zero, mod-eq-zero_of_dvd, dvd_trans, Configuration, IsChecked, IsAccepted, comes_before, IsEnough, main_level, budget, Entry, Audited, Always, StartsLater, AreDone, AreThere, window_length, next_start, free_from, through, GoesOn, ReactsInTime, nat_tests}
 use Rattle.dk_chain.proofs.Rounding.{round-divides, round-above, apart}
 use Rattle.dk_chain.proofs.InOrder.{Comes, comes-of, begins_in_order, over_in_time}
 
@@ -43,9 +31,7 @@ pub starts-later : (c : Configuration) (done : ℕ → ℕ) (p q s r : ℕ) → 
     → s % window_length c p ≡ 0 → r % window_length c q ≡ 0 → free_from c done p q s ≤ r → StartsLater c p s q r
 starts-later c done p q s r checked are_done here there begins starts above =
     elim (cases_Bool (comes_before c p q)) [
-      | inr after ↦
-          let from : free_from c done p q s ≡ s + done p = rw after refl in
-          inr (done p, (are_done p here).0, omega (arith, above, from))
+      | inr after ↦ grind (arith, nat_tests)
       | inl before ↦
           let from : free_from c done p q s ≡ s = rw before refl in
           let comes = comes-of c p q here there before in

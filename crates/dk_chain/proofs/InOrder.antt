@@ -1,48 +1,15 @@
 -- A job that comes later begins only when the one before is over: an induction along the window of the first.
-use Rattle.std.proofs.Common.{ℕ, zero, suc, ◌≡◌, ◌+◌, ◌-◌, ◌%◌, ◌<◌, ◌≤◌, ◌⊎◌, inl, inr, true, false, cond, not, ◌&&◌, ◌||◌, eqb, leb, ltb, List, [], ◌∷◌, length, drop, take, refl, sym, ap, ◌∙◌, subst, arith}
-use Rattle.std.specs.Prelude.{Some, count_by}
-use Rattle.std.proofs.lemmas.Nat.Gcd.{le_of_dvd}
-use Rattle.std.proofs.lemmas.Bool.{cases_Bool, cases_lt, and_parts}
-use Rattle.std.proofs.lemmas.Bool.Decides.{nat_tests}
-use Rattle.std.proofs.lemmas.List.{length-drop}
+use Rattle.dk_chain.proofs.Names.{ℕ, zero, suc, ◌≡◌, ◌+◌, ◌-◌, ◌%◌, ◌<◌, ◌≤◌, ◌⊎◌, inl, inr, true, false, cond, ◌&&◌, eqb, ltb, List, [], ◌∷◌, length, drop, take, refl, sym, ap, ◌∙◌, subst, arith, count_by, le_of_dvd, cases_Bool, cases_lt, and_parts, nat_tests, length-drop, Configuration, IsChecked, IsAccepted, comes_before, IsEnough, period, main_level, budget, window_start, ThreadId, Label, Choice, Phase, Entry, Has, window, borrower, is_of, is_budget_of, Thread, threads, main_thread, is_main, share, Job, job, rem, phase, held_by, is_holding, chosen, ready_at, Audited, HasChosenLabel, past_at, job_from, HadShare, window_start-le, spent, take-newest, count_by-cons, count-charged, main_id, main_row, kernel-says, budget-says, slack-says, idle-says, same-row, threads-fit, of-payer, of-borrower, of-nobody, budget-not, Passed, Turn, by_hold, by_share, Reason, kernel_first, thread_first, slack_first, nothing, now_rem, chosen-reason, Kind, paid, lent, kernel, idle, kind, Always, IsOver, HasBegun, BeginsInOrder, OverInTime, received, begins_free, main-among, not-after, passed-faster}
+use Rattle.std.specs.Prelude.{Some}
 use Rattle.std.proofs.Math.Seq.{drop-nil}
-use Rattle.dk_config.specs.Configuration.{Configuration}
-use Rattle.dk_config.specs.Checked.{IsChecked, IsAccepted}
-use Rattle.dk_config.specs.Ahead.{comes_before, IsEnough}
-use Rattle.dk_config.specs.Windows.{period, main_level, budget, window_start}
-use Rattle.dk_trace.specs.declared.ThreadId.{ThreadId}
-use Rattle.dk_trace.specs.declared.Label.{Label}
-use Rattle.dk_trace.specs.declared.Choice.{Choice}
-use Rattle.dk_trace.specs.declared.Phase.{Phase}
-use Rattle.dk_trace.specs.declared.Entry.{Entry}
-use Rattle.dk_trace.specs.Members.{Has}
-use Rattle.dk_trace.specs.Entries.{window, borrower, is_of, is_budget_of, stops}
-use Rattle.dk_trace.specs.Threads.{Thread, threads, main_thread, is_main, share}
-use Rattle.dk_trace.specs.Jobs.{Job, job, rem, phase}
-use Rattle.dk_trace.specs.Holds.{held_by, is_holding}
 use Rattle.dk_trace.specs.Slack.{want, source, is_entering}
-use Rattle.dk_trace.specs.Choices.{chosen, ready_at}
-use Rattle.dk_trace.specs.Audit.{Audited, HasChosenLabel}
-use Rattle.dk_trace.specs.Guarantees.{past_at, job_from, HadShare}
-use Rattle.dk_trace.proofs.Windows.{window_start-le, spent, take-newest, count_by-cons, count-charged}
-use Rattle.dk_trace.proofs.Mains.{main_id, main_row}
-use Rattle.dk_trace.proofs.Labels.{kernel-says, budget-says, slack-says, idle-says}
-use Rattle.dk_trace.proofs.Distinct.{same-row}
 use Rattle.dk_trace.proofs.Shares.{share-same}
 use Rattle.dk_trace.proofs.Rows.{main-has, main-or-child, child-of}
-use Rattle.dk_trace.proofs.RowsFit.{threads-fit}
 use Rattle.dk_trace.proofs.Orderly.{job_at, stays-closed}
 use Rattle.dk_trace.proofs.Holds.{held-stopped, held-other}
-use Rattle.dk_trace.proofs.Whose.{of-payer, of-borrower, of-nobody, budget-not}
-use Rattle.dk_trace.proofs.Chosen.{Passed, Turn, by_hold, by_share, Reason, kernel_first, thread_first, slack_first, nothing, now_rem, chosen-reason}
-use Rattle.dk_trace.proofs.Entered.{Kind, paid, lent, kernel, idle, kind}
-use Rattle.dk_bound.specs.Laws.{Always}
 use Rattle.dk_bound.specs.ByWhen.{HasHad}
-use Rattle.dk_chain.specs.InOrder.{IsOver, HasBegun, BeginsInOrder, OverInTime}
 use Rattle.dk_bound.proofs.Bounded.{past_at-later, window-later, window-start}
 use Rattle.dk_bound.proofs.Received.{share-then}
-use Rattle.dk_bound.proofs.Laws.{received, begins_free}
-use Rattle.dk_bound.proofs.Before.{main-among, not-after, passed-faster}
 use Rattle.dk_bound.proofs.ByWhen.{by_when, audited-drop}
 
 pub record Rules (c : Configuration) (past : List Entry) : Type 0 where
@@ -81,8 +48,7 @@ IsSpent j = (j.share ≤ j.used) ⊎ (j.closed ≡ true)
 spent-stays : (c : Configuration) (p : ℕ) (e : Entry) (past : List Entry) → Rules c (e ∷ past) → p < length c.processes → IsSpent (job c (length past) past (main_row c p past))
     → IsSpent (job c (length past) (e ∷ past) (main_row c p (e ∷ past)))
 spent-stays c p e past know here (inl had) =
-    let used : (job c (length past) (e ∷ past) (main_row c p (e ∷ past))).used ≡ spent (main_id p) e + (job c (length past) past (main_row c p past)).used =
-    count-charged (is_budget_of (main_id p)) c e past (main_level c p) in
+    let used : (job c (length past) (e ∷ past) (main_row c p (e ∷ past))).used ≡ spent (main_id p) e + (job c (length past) past (main_row c p past)).used = grind (arith, nat_tests, count-charged, main_id) in
     let same : (job c (length past) (e ∷ past) (main_row c p (e ∷ past))).share ≡ (job c (length past) past (main_row c p past)).share =
     share-same c p (window_start c (main_level c p) (length past)) e past (main_row c p past) know.checked here know.audited (main-has c p past) (window_start-le c (main_level c p) (length past)) in
     inl (omega (arith, had, used, same))
@@ -115,8 +81,7 @@ over-ended c p s past know here begins le =
     let audited = audited-drop c (length past - (s + P)) past know.audited in
     let size : length early ≡ s + P = length-drop (length past - (s + P)) past ∙ omega arith in
     let then_is : share c early x s ≡ share c (past_at early s) x s = share-then c p s early x know.checked here audited refl (omega (arith, size)) in
-    let whole : (job_from c past x s).share ≡ share c (past_at past s) x s =
-    ap (share c early x) start ∙ then_is ∙ ap (λ es. share c es x s) (past_at-twice past s (s + P) (omega arith) le) in
+    let whole : (job_from c past x s).share ≡ share c (past_at past s) x s = grind (arith, nat_tests, past_at-twice) in
     elim had [
       | inr shut ↦ inr shut.0
       | inl all ↦ inl (omega (arith, all, whole))
@@ -134,9 +99,7 @@ over-enough c p s f past know here begins enough at =
     let x = main_row c p past in
     let now : past_at past (s + f) ≡ past = past_at-later past (s + f) (omega arith) in
     let k = (job_from c past x s).share in
-    let few : k ≤ budget c p =
-    subst (λ es. share c es x (window_start c (main_level c p) s) ≤ budget c p) (sym (past_at-later past (s + period c (main_level c p)) (let w = enough.within in omega arith)))
-    (share-most c p (window_start c (main_level c p) s) past) in
+    let few : k ≤ budget c p = grind (arith, nat_tests, past_at-later, share-most) in
     let had : HasHad c past x s k =
     subst (λ es. HasHad c es x s k) now
     (by_when c past know.checked know.accepted know.audited x s f k (subst (λ es. Has (threads c es) x) (sym now) (main-among c p past here)) refl begins (omega arith)
@@ -244,17 +207,7 @@ not-yet c p q e past know comes left free mine (idle passed pays borrows at) = o
 
 pub waits-on : (c : Configuration) (q s : ℕ) (e : Entry) (past : List Entry) → s ≤ length past → suc (length past) ≤ s + period c (main_level c q)
     → is_of (main_id q) e ≡ false → Waits c q s past → Waits c q s (e ∷ past)
-waits-on c q s e past from within other waits =
-    let used = used-from c q s e past from within in
-    let none : spent (main_id q) e ≡ 0 = rw (budget-not (main_id q) e other) refl in
-    let before = waits.unbegun in
-    record {
-      unbegun = omega (arith, used, none, before);
-      free = elim (cases_Bool (stops (main_id q) e)) [
-        | inl over ↦ ap is_holding (held-stopped (main_id q) e past over)
-        | inr runs ↦ ap is_holding (held-other (main_id q) e past runs other) ∙ waits.free
-      ];
-    }
+waits-on c q s e past from within other waits = grind (arith, nat_tests, used-from, spent, main_id, budget-not, held-stopped, held-other)
 
 -- with nothing left it is over
 rem-spent : (W : ℕ) (j : Job) → rem W j ≡ 0 → IsSpent j
@@ -262,8 +215,7 @@ rem-spent W j none = grind (arith, nat_tests)
 
 in-order : (c : Configuration) (p q s : ℕ) (past : List Entry) → Rules c past → Comes c p q → s % period c (main_level c p) ≡ 0 → s % period c (main_level c q) ≡ 0
     → period c (main_level c p) ≤ period c (main_level c q) → s ≤ length past → length past ≤ s + period c (main_level c p) → Over c p s past ⊎ Waits c q s past
-in-order c p q s [] know comes begins starts shorter from within =
-    inr (record { unbegun = unbegun-start c q s [] starts (omega arith); free = refl })
+in-order c p q s [] know comes begins starts shorter from within = grind (arith, nat_tests, unbegun-start)
 in-order c p q s (e ∷ past) know comes begins starts shorter from within =
     elim (cases_lt (length past) s) [
       | inl new ↦
@@ -293,24 +245,7 @@ in-order c p q s (e ∷ past) know comes begins starts shorter from within =
     ]
 
 pub comes-of : (c : Configuration) (p q : ℕ) → p < length c.processes → q < length c.processes → comes_before c p q ≡ true → Comes c p q
-comes-of c p q first second comes =
-    let parts = and_parts (ltb (main_level c p) (main_level c q) || ((eqb (main_level c q) (main_level c p)) && leb p q)) (not (eqb p q)) comes in
-    let apart : eqb p q ≡ false = (elim (cases_Bool (eqb p q)) [ inl same ↦ (let wrong : false ≡ true = rw same at parts.1 in absurd (cc)) | inr other ↦ other ]) in
-    record {
-      first = first;
-      second = second;
-      before = elim (cases_lt (main_level c p) (main_level c q)) [
-        | inl faster ↦ inl faster
-        | inr level ↦
-            let slow : ltb (main_level c p) (main_level c q) ≡ false = grind (arith, nat_tests) in
-            let both : ((eqb (main_level c q) (main_level c p)) && leb p q) ≡ true = rw slow at parts.0 in
-            let two = and_parts (eqb (main_level c q) (main_level c p)) (leb p q) both in
-            let one : main_level c q ≡ main_level c p = (let t = two.0 in grind (arith, nat_tests)) in
-            let le : p ≤ q = (let t = two.1 in grind (arith, nat_tests)) in
-            let differ : p ≡ q → ⊥ = λ same. (let wrong : eqb p q ≡ true = grind (arith, nat_tests) in absurd (cc)) in
-            inr (sym one, elim (cases_lt p q) [ inl less ↦ less | inr more ↦ absurd (differ (omega arith)) ])
-      ];
-    }
+comes-of c p q first second comes = grind (arith, nat_tests, and_parts)
 
 pub at-tick : (c : Configuration) (past : List Entry) (u : ℕ) → Rules c past → Rules c (past_at past u)
 at-tick c past u know = record { checked = know.checked; accepted = know.accepted; audited = audited-drop c (length past - u) past know.audited }
@@ -328,11 +263,7 @@ together c p q s past know comes begins starts begun =
       | inr from ↦
           elim (cases_lt (length past) (s + period c (main_level c p))) [
             | inr ended ↦ over-ended c p s past know comes.first begins (omega arith)
-            | inl within ↦
-                elim (in-order c p q s past know comes begins starts shorter (omega arith) (omega arith)) [
-                  | inl over ↦ over
-                  | inr waits ↦ let none = waits.unbegun in absurd (omega (arith, begun, none))
-                ]
+            | inl within ↦ grind (arith, nat_tests, in-order)
           ]
     ]
 

@@ -1,46 +1,10 @@
 -- In each window of a main the kernel's own work of its level and the faster ones comes before it.
-use Rattle.std.proofs.Common.{ℕ, zero, suc, ◌≡◌, ◌+◌, ◌-◌, ◌*◌, ◌/◌, ◌%◌, ◌<◌, ◌≤◌, inl, inr, Bool, true, false, cond, eqb, ltb, List, [], ◌∷◌, length, take, refl, sym, ap, ◌∙◌, subst, arith, Option, Some, None}
-use Rattle.std.specs.Prelude.{count_by, unwrap_or, option_map, MatchOption}
+use Rattle.dk_chain.proofs.Names.{ℕ, zero, suc, ◌≡◌, ◌+◌, ◌-◌, ◌*◌, ◌/◌, ◌%◌, ◌<◌, ◌≤◌, inl, inr, Bool, true, false, cond, eqb, ltb, List, [], ◌∷◌, length, take, refl, sym, ap, ◌∙◌, subst, arith, Option, Some, None, count_by, unwrap_or, option_map, MatchOption, ◌∣◌, cases_Bool, cases_lt, nat_tests, length-drop, div-add-mod', dvd_of_mod-eq-zero, dvd_trans, le_of_dvd, dvd-mul_left, mod-lt, mul-le-mul_left, Configuration, IsChecked, IsAccepted, below, first_of, sum_from, period, main_level, release, window_start, ThreadId, Phase, Label, Choice, Entry, Has, is_kernel_at, is_of, kernel_level, payer, Thread, threads, kernel_rem, held_by, is_holding, chosen, choice_at, work_at, slack_at, holder_at, ready_at, on_budget, HasChosenLabel, count_by-cons, main_id, main_row, budget-labels, slack-labels, chosen-says, same-row, threads-fit, of-payer, of-borrower, of-nobody, Passed, Turn, by_hold, by_share, chosen-reason, no-work, turn-of, Kind, paid, lent, kernel, idle, kind, Always, main-among, begins_free}
 use Rattle.std.specs.Option.{option_or}
-use Rattle.std.specs.Int.{◌∣◌}
-use Rattle.std.proofs.lemmas.Bool.{cases_Bool, cases_lt}
-use Rattle.std.proofs.lemmas.Bool.Decides.{nat_tests}
-use Rattle.std.proofs.lemmas.List.{length-drop}
-use Rattle.std.proofs.lemmas.Nat.{div-add-mod'}
-use Rattle.std.proofs.lemmas.Nat.Gcd.{dvd_of_mod-eq-zero, dvd_trans, le_of_dvd}
-use Rattle.std.proofs.Math.Nat.{dvd-mul_left, mod-lt, mul-le-mul_left}
-use Rattle.dk_config.specs.Configuration.{Configuration}
-use Rattle.dk_config.specs.Checked.{IsChecked, IsAccepted}
 use Rattle.dk_config.specs.Certification.{budgets_at}
-use Rattle.dk_config.specs.Sums.{below, first_of, sum_from}
-use Rattle.dk_config.specs.Windows.{period, main_level, release, window_start}
 use Rattle.dk_config.proofs.FirstOf.{IsFirst, NoAnswer, first_of-is, option_map-some, option_or-none}
 use Rattle.dk_config.proofs.Sums.{sum_from-le, sum_from-add, sum_from-eq, sum_from-zero}
-use Rattle.dk_trace.specs.declared.ThreadId.{ThreadId}
-use Rattle.dk_trace.specs.declared.Phase.{Phase}
-use Rattle.dk_trace.specs.declared.Label.{Label}
-use Rattle.dk_trace.specs.declared.Choice.{Choice}
-use Rattle.dk_trace.specs.declared.Entry.{Entry}
-use Rattle.dk_trace.specs.Members.{Has}
-use Rattle.dk_trace.specs.Entries.{is_kernel_at, is_of, kernel_level, payer}
-use Rattle.dk_trace.specs.Threads.{Thread, threads}
-use Rattle.dk_trace.specs.Jobs.{kernel_rem}
-use Rattle.dk_trace.specs.Holds.{held_by, is_holding}
-use Rattle.dk_trace.specs.Choices.{chosen, choice_at, work_at, slack_at, wish_at, holder_at, ready_at, on_budget, on_slack}
 use Rattle.dk_trace.specs.Demand.{fits}
-use Rattle.dk_trace.specs.Audit.{HasChosenLabel}
-use Rattle.dk_trace.specs.Guarantees.{past_at}
-use Rattle.dk_trace.proofs.Windows.{count_by-cons}
-use Rattle.dk_trace.proofs.Mains.{main_id, main_row}
-use Rattle.dk_trace.proofs.Labels.{budget-labels, slack-labels, chosen-says}
-use Rattle.dk_trace.proofs.Distinct.{same-row}
-use Rattle.dk_trace.proofs.RowsFit.{threads-fit}
-use Rattle.dk_trace.proofs.Whose.{of-payer, of-borrower, of-nobody}
-use Rattle.dk_trace.proofs.Chosen.{Passed, Turn, by_hold, by_share, chosen-reason, no-work, turn-of}
-use Rattle.dk_trace.proofs.Entered.{Kind, paid, lent, kernel, idle, kind}
-use Rattle.dk_bound.specs.Laws.{Always}
-use Rattle.dk_bound.proofs.Before.{main-among}
-use Rattle.dk_bound.proofs.Laws.{begins_free}
 use Rattle.dk_chain.specs.Sooner.{releases_before, IsUnbegun, ReactsSooner}
 use Rattle.dk_chain.proofs.Rounding.{apart}
 use Rattle.dk_chain.proofs.InOrder.{Rules, Waits, at-tick, lent-at, rules-before, unbegun-start, waits-on}
@@ -63,11 +27,7 @@ picked-at c past choice x part first is = go (work_at c past first.place) refl (
     go : (work : Option Choice) → work_at c past first.place ≡ work → option_or work (slack_at c past first.place) ≡ Some (Choice.Budget x part) → Picked c past x
     go None w h =
         elim (cases_Bool (fits c (length past) past)) [
-          | inl fitting ↦
-              let lends : option_map (on_slack c past) (wish_at c past first.place) ≡ Some (Choice.Budget x part) = rw fitting at h in
-              let r = option_map-some (on_slack c past) (wish_at c past first.place) (Choice.Budget x part) lends in
-              let wrong : on_slack c past r.0 ≡ Choice.Budget x part = r.2 in
-              absurd (cc)
+          | inl fitting ↦ grind (arith, nat_tests, option_map-some)
           | inr tight ↦ let wrong : None ≡ Some (Choice.Budget x part) = rw tight at h in absurd (cc)
         ]
     go (Some work) w h =
@@ -100,12 +60,8 @@ picked-of c past x part is = go (first_of (choice_at c past) (below (length c.le
 
 budget-chosen : (choice : Choice) (label : Label) (x : ThreadId) → HasChosenLabel choice label → payer label ≡ Some x → (part : Phase) × (choice ≡ Choice.Budget x part)
 budget-chosen (Choice.Kernel k) label x has pays = let none : payer label ≡ None = chosen-says payer (Choice.Kernel k) label None has (λ w. refl) in absurd (cc)
-budget-chosen (Choice.Budget y part) label x has pays =
-    let is : payer label ≡ Some y = chosen-says payer (Choice.Budget y part) label (Some y) has (λ w. (budget-labels y part w).0) in
-    let same : y ≡ x = cc in
-    (part, ap (λ z. Choice.Budget z part) same)
-budget-chosen (Choice.Slack y source part) label x has pays =
-    let none : payer label ≡ None = chosen-says payer (Choice.Slack y source part) label None has (λ w. (slack-labels y source part w).0) in absurd (cc)
+budget-chosen (Choice.Budget y part) label x has pays = grind (arith, nat_tests, chosen-says, budget-labels)
+budget-chosen (Choice.Slack y source part) label x has pays = grind (arith, nat_tests, chosen-says, slack-labels)
 budget-chosen Choice.Idle label x has pays = let none : payer label ≡ None = chosen-says payer Choice.Idle label None has (λ w. refl) in absurd (cc)
 
 -- where a main that holds nothing has a tick, the kernel has nothing left for its level and the faster ones
@@ -141,26 +97,11 @@ all-done c p e past know here free mine (idle passed pays borrows at) i le = abs
 -- an entry is of one level's kernel at most
 none-of : (low n k : ℕ) → k < low → sum_from low n (λ i. cond (eqb k i) 1 0) ≡ 0
 none-of low zero k less = refl
-none-of low (suc n) k less =
-    let rest = none-of (suc low) n k (omega arith) in
-    let not : eqb k low ≡ false = grind (arith, nat_tests) in
-    let first : ◌≡◌ {A = ℕ} (cond (eqb k low) 1 0) 0 = rw not refl in
-    omega (arith, rest, first)
+none-of low (suc n) k less = grind (arith, nat_tests, none-of (suc low) n)
 
 one-of : (low n k : ℕ) → sum_from low n (λ i. cond (eqb k i) 1 0) ≤ 1
 one-of low zero k = omega arith
-one-of low (suc n) k =
-    elim (cases_Bool (eqb k low)) [
-      | inl is ↦
-          let same : k ≡ low = grind (arith, nat_tests) in
-          let rest = none-of (suc low) n k (omega (arith, same)) in
-          let first : ◌≡◌ {A = ℕ} (cond (eqb k low) 1 0) 1 = rw is refl in
-          omega (arith, rest, first)
-      | inr not ↦
-          let rest = one-of (suc low) n k in
-          let first : ◌≡◌ {A = ℕ} (cond (eqb k low) 1 0) 0 = rw not refl in
-          omega (arith, rest, first)
-    ]
+one-of low (suc n) k = grind (arith, nat_tests, none-of, one-of (suc low) n)
 
 one-kernel : (low n : ℕ) (level : Option ℕ) (e : Entry) → kernel_level e.label ≡ level → sum_from low n (λ i. cond (is_kernel_at i e) 1 0) ≤ 1
 one-kernel low n None e is =
@@ -186,11 +127,7 @@ count-longer : (test : Entry → Bool) (j k : ℕ) (es : List Entry) → j ≤ k
 count-longer test zero k es le = omega arith
 count-longer test (suc j) zero es le = absurd (omega arith)
 count-longer test (suc j) (suc k) [] le = omega arith
-count-longer test (suc j) (suc k) (e ∷ es) le =
-    let rest = count-longer test j k es (omega arith) in
-    let one = count_by-cons test e (take j es) in
-    let other = count_by-cons test e (take k es) in
-    omega (arith, rest, one, other)
+count-longer test (suc j) (suc k) (e ∷ es) le = grind (arith, nat_tests, count_by-cons, count-longer test j k es)
 
 take-short : (j : ℕ) (es : List Entry) → length (take j es) ≤ j
 take-short zero es = omega arith
@@ -235,16 +172,7 @@ more-times : (x b y : ℕ) → 1 ≤ y → x ≤ (x + b) * y
 more-times x b y some = let le : (x + b) * 1 ≤ (x + b) * y = mul-le-mul_left (x + b) some in omega (arith, le)
 
 divided : (P Q : ℕ) → 0 < P → P ≤ Q → 1 ≤ Q / P
-divided P Q positive le =
-    elim (cases_lt (Q / P) 1) [
-      | inr fine ↦ fine
-      | inl less ↦
-          let split = div-add-mod' Q P in
-          let rest = mod-lt Q positive in
-          let zero_is : Q / P ≡ 0 = omega (arith, less) in
-          let none : Q / P * P ≡ 0 = ap (λ (k : ℕ). k * P) zero_is ∙ omega arith in
-          absurd (omega (arith, split, rest, none, le))
-    ]
+divided P Q positive le = grind (arith, nat_tests, div-add-mod', mod-lt)
 
 releases-fit : (c : Configuration) (p : ℕ) → IsChecked c → IsAccepted c → p < length c.processes → releases_before c p ≤ period c (main_level c p)
 releases-fit c p checked accepted here =
@@ -284,16 +212,7 @@ waits-first c p s (e ∷ past) know here begins from within =
 
 unbegun-by : (c : Configuration) (p s u : ℕ) (past : List Entry) → Rules c past → p < length c.processes → s % period c (main_level c p) ≡ 0
     → u ≤ s + releases_before c p → IsUnbegun c past u p s
-unbegun-by c p s u past know here begins le begun =
-    let V = past_at past u in
-    let size : length V ≡ length past - (length past - u) = length-drop (length past - u) past in
-    elim (cases_lt (length V) s) [
-      | inl early ↦ let none = unbegun-start c p s V begins (omega (arith, early)) in omega (arith, begun, none)
-      | inr from ↦
-          let waits = waits-first c p s V (at-tick c past u know) here begins from (omega (arith, size, le)) in
-          let none = waits.unbegun in
-          omega (arith, begun, none)
-    ]
+unbegun-by c p s u past know here begins le begun = grind (arith, nat_tests, length-drop, unbegun-start, waits-first, at-tick)
 
 pub reacts_sooner : Always ReactsSooner
 reacts_sooner c past checked accepted audited done p rest reaction t u are_done there is known le =

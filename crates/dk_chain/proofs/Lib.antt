@@ -1,3 +1,4 @@
+pub mod Names
 pub mod InOrder
 pub mod Rounding
 pub mod Chain

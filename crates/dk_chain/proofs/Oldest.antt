@@ -1,16 +1,5 @@
 -- No smaller age is enough: the data is as old as is told at the window before the one that answers the worst event.
-use Rattle.std.proofs.Common.{ℕ, ◌≡◌, ◌+◌, ◌-◌, ◌%◌, ◌<◌, ◌≤◌, inl, inr, List, ◌∷◌, sym, ap, ◌∙◌, arith}
-use Rattle.std.proofs.lemmas.Bool.{cases_lt}
-use Rattle.std.proofs.lemmas.Nat.Gcd.{dvd_of_mod-eq-zero, mod-eq-zero_of_dvd, dvd_refl, dvd-zero}
-use Rattle.std.proofs.Math.Nat.{dvd-sub}
-use Rattle.dk_config.specs.Configuration.{Configuration}
-use Rattle.dk_config.specs.Checked.{IsChecked}
-use Rattle.dk_config.specs.Windows.{period, main_level}
-use Rattle.dk_chain.specs.declared.reacting.Course.{Course}
-use Rattle.dk_chain.specs.Age.{IsAge, IsMet, last_of}
-use Rattle.dk_chain.specs.Chain.{AreDone, AreThere, IsReaction, window_length, next_start, through, answered}
-use Rattle.dk_chain.specs.Pace.{IsCourse}
-use Rattle.dk_chain.specs.Rounding.{round_up}
+use Rattle.dk_chain.proofs.Names.{ℕ, ◌≡◌, ◌+◌, ◌-◌, ◌%◌, ◌<◌, ◌≤◌, inl, inr, List, ◌∷◌, ap, arith, cases_lt, dvd_of_mod-eq-zero, mod-eq-zero_of_dvd, dvd_refl, dvd-zero, dvd-sub, Configuration, IsChecked, period, main_level, Course, IsAge, IsMet, last_of, AreDone, AreThere, IsReaction, window_length, next_start, through, answered, IsCourse, round_up, nat_tests}
 use Rattle.dk_chain.proofs.Age.{final, through-final, final-starts}
 use Rattle.dk_chain.proofs.Chain.{first-there, window-positive}
 use Rattle.dk_chain.proofs.Paced.{shape}
@@ -18,33 +7,20 @@ use Rattle.dk_chain.proofs.Rounding.{round-above, round-divides, round-least, ro
 
 -- what starts no earlier is rounded to no earlier start
 rising : (n m P : ℕ) → 0 < P → n ≤ m → round_up n P ≤ round_up m P
-rising n m P positive le =
-    let above = round-above m P positive in
-    round-least n P (round_up m P) positive (round-divides m P) (omega (arith, above, le))
+rising n m P positive le = grind (arith, nat_tests, round-above, round-least, round-divides)
 
 -- an event a window of the slowest level later is answered a window later
 later : (f : ℕ → ℕ) (H before k w : ℕ) → 0 < H → ((t : ℕ) → f t ≡ round_up (t + before) H + k) → f (H + w) ≡ H + f w
-later f H before k w positive is =
-    let sum : H + w + before ≡ H + (w + before) = omega arith in
-    let same : round_up (H + w + before) H ≡ H + round_up (w + before) H =
-    ap (λ n. round_up n H) sum ∙ round-shift H (w + before) H positive (dvd_refl H) in
-    let first = is (H + w) in
-    let second = is w in
-    omega (arith, first, second, same)
+later f H before k w positive is = grind (arith, nat_tests, round-shift, dvd_refl)
 
 -- an earlier event is answered no later
 earlier : (f : ℕ → ℕ) (H before k s t : ℕ) → 0 < H → ((t : ℕ) → f t ≡ round_up (t + before) H + k) → s ≤ t → f s ≤ f t
-earlier f H before k s t positive is le =
-    let first = is s in
-    let second = is t in
-    let up = rising (s + before) (t + before) H positive (omega (arith, le)) in
-    omega (arith, first, second, up)
+earlier f H before k s t positive is le = grind (arith, nat_tests, rising)
 
 -- a chain from a window of its first process is through when it has answered the event at its start
 through-start : (c : Configuration) (done : ℕ → ℕ) (p s : ℕ) (rest : List ℕ) → 0 < window_length c p → s % window_length c p ≡ 0
     → through c done p s rest ≡ answered c done (p ∷ rest) s
-through-start c done p s rest positive begins =
-    ap (λ k. through c done p k rest) (sym (round-whole s (window_length c p) positive (dvd_of_mod-eq-zero (window_length c p) begins)))
+through-start c done p s rest positive begins = grind (arith, nat_tests, round-whole, dvd_of_mod-eq-zero)
 
 pub met-age : (c : Configuration) (first : ℕ) (rest : List ℕ) (course : Course) (done : ℕ → ℕ) (reaction age : ℕ) → IsChecked c → AreThere c (first ∷ rest)
     → IsCourse c first rest course → AreDone c done → IsReaction c done (first ∷ rest) reaction

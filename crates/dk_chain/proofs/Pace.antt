@@ -1,10 +1,6 @@
 -- A chain keeps the pace of its slowest level.
-use Rattle.std.proofs.Common.{ℕ, ◌≡◌, ◌+◌, ◌-◌, ◌<◌, ◌≤◌, ap, ◌∙◌, arith}
-use Rattle.std.specs.Int.{◌∣◌}
-use Rattle.std.proofs.lemmas.Nat.Gcd.{dvd_trans}
-use Rattle.dk_chain.specs.Rounding.{round_up}
+use Rattle.dk_chain.proofs.Names.{ℕ, ◌≡◌, ◌+◌, ◌-◌, ◌<◌, ◌≤◌, ap, ◌∙◌, arith, ◌∣◌, dvd_trans, round_up, nat_tests}
 use Rattle.dk_chain.proofs.Rounding.{round-divides, round-shift, round-twice}
-use Rattle.std.proofs.lemmas.Bool.Decides.{nat_tests}
 
 -- the next process is of a level that is not slower than the slowest so far
 pub faster : (n lag gap H Q : ℕ) → 0 < Q → Q ∣ H → round_up (round_up n H + lag + gap) Q ≡ round_up n H + round_up (lag + gap) Q

@@ -1,19 +1,8 @@
 -- The pace of a chain up to a process of it, and the reaction time that comes of it.
-use Rattle.std.proofs.Common.{ℕ, zero, suc, ◌≡◌, ◌+◌, ◌-◌, ◌*◌, ◌<◌, ◌≤◌, List, [], ◌∷◌, length, drop, refl, sym, ap, ◌∙◌, subst, arith}
-use Rattle.std.specs.Prelude.{slice_index_or}
-use Rattle.dk_config.specs.declared.TheConstants.{MAX_PROCESSES, MAX_SPAN}
-use Rattle.dk_config.specs.Configuration.{Configuration}
-use Rattle.dk_config.specs.Checked.{IsChecked}
-use Rattle.dk_config.specs.Windows.{period, main_level}
+use Rattle.dk_chain.proofs.Names.{ℕ, zero, suc, ◌≡◌, ◌+◌, ◌-◌, ◌*◌, ◌<◌, ◌≤◌, List, [], ◌∷◌, length, drop, refl, sym, ap, ◌∙◌, subst, arith, slice_index_or, MAX_PROCESSES, MAX_SPAN, Configuration, IsChecked, period, main_level, IsAge, last_of, AreDone, IsReaction, window_length, next_start, free_from, through, answered, Course, start_by, IsCourse, round_up, nat_tests}
 use Rattle.dk_chain.specs.declared.reacting.Pace.{Pace}
-use Rattle.dk_chain.specs.Age.{IsAge, last_of}
-use Rattle.dk_chain.specs.Chain.{AreDone, IsReaction, window_length, next_start, free_from, through, answered}
-use Rattle.dk_chain.specs.declared.reacting.Course.{Course}
-use Rattle.dk_chain.specs.Pace.{start_by, IsCourse}
-use Rattle.dk_chain.specs.Rounding.{round_up}
 use Rattle.dk_chain.proofs.Pace.{faster, slower, enough_of, met_of, met_at}
 use Rattle.dk_chain.proofs.Chain.{window-positive}
-use Rattle.std.proofs.lemmas.Bool.Decides.{nat_tests}
 
 -- the chain has come to its process `last`, and `rest` from `at` on is what follows it
 pub record Paced (c : Configuration) (first : ℕ) (rest : List ℕ) (at last : ℕ) (pace : Pace) : Type 0 where
@@ -47,19 +36,7 @@ pub goes-on : (c : Configuration) (first : ℕ) (rest : List ℕ) (at last next 
     → drop at rest ≡ next ∷ drop (at + 1) rest → next < length c.processes → pace'.level < length c.levels → main_level c next ≤ pace'.level → pace'.before + pace'.lag ≤ pace.before + pace.lag + 2 * MAX_SPAN
     → ((done : ℕ → ℕ) → AreDone c done → (t : ℕ) → next_start c next (free_from c done last next (start_by c pace t)) ≡ start_by c pace' t)
     → Paced c first rest (at + 1) next pace'
-goes-on c first rest at last next pace pace' before more there level within few starts =
-    let sum = before.few in
-    record {
-      there = there;
-      level = level;
-      few = omega (arith, sum, few);
-      within = within;
-      final = ap (last_of last) (sym more) ∙ before.final;
-      answers = λ done are t.
-          ap (λ s. through c done next s (drop (at + 1) rest)) (sym (starts done are t))
-          ∙ ap (through c done last (start_by c pace t)) (sym more)
-          ∙ before.answers done are t;
-    }
+goes-on c first rest at last next pace pace' before more there level within few starts = grind (arith, nat_tests)
 
 -- the whole chain
 pub course-of : (c : Configuration) (first : ℕ) (rest : List ℕ) (at last : ℕ) (pace : Pace) → Paced c first rest at last pace → drop at rest ≡ []

@@ -1,12 +1,6 @@
 -- What rounding up to multiples of periods that divide one another comes to.
-use Rattle.std.proofs.Common.{ℕ, ◌≡◌, ◌+◌, ◌-◌, ◌/◌, ◌<◌, ◌≤◌, inl, inr, arith}
-use Rattle.std.specs.Int.{◌∣◌}
-use Rattle.std.proofs.lemmas.Bool.{cases_lt}
-use Rattle.std.proofs.lemmas.Nat.{div-add-mod'}
-use Rattle.std.proofs.lemmas.Nat.Gcd.{le_of_dvd}
-use Rattle.std.proofs.Math.Nat.{dvd-mul_left, dvd-sub, dvd-add, dvd_trans}
-use Rattle.dk_chain.specs.Rounding.{round_up}
-use Rattle.std.proofs.lemmas.Bool.Decides.{nat_tests}
+use Rattle.dk_chain.proofs.Names.{ℕ, ◌≡◌, ◌+◌, ◌-◌, ◌/◌, ◌<◌, ◌≤◌, inl, inr, arith, ◌∣◌, cases_lt, div-add-mod', le_of_dvd, dvd-mul_left, dvd-sub, dvd-add, round_up, nat_tests}
+use Rattle.std.proofs.Math.Nat.{dvd_trans}
 
 pub round-divides : (n P : ℕ) → P ∣ round_up n P
 round-divides n P = dvd-mul_left P ((n + (P - 1)) / P)

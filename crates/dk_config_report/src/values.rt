@@ -32,9 +32,10 @@ fn costs_value(config: &Config, field: Field) -> Option<u32>
 fn level_value(config: &Config, row: u32, field: Field) -> Option<u32>
     ensures { result ≡ level_value config.now row field }
 {
+    let level = config.levels.get(row as usize)?;
     match field {
-        Field::Period => config.levels.get(row as usize).map(|level| level.period),
-        Field::Release => config.levels.get(row as usize).map(|level| level.release),
+        Field::Period => Some(level.period),
+        Field::Release => Some(level.release),
         _ => None,
     }
 }
@@ -42,27 +43,13 @@ fn level_value(config: &Config, row: u32, field: Field) -> Option<u32>
 fn process_value(config: &Config, row: u32, field: Field) -> Option<u32>
     ensures { result ≡ process_value config.now row field }
 {
+    let process = config.processes.get(row as usize)?;
     match field {
-        Field::Level => config
-            .processes
-            .get(row as usize)
-            .map(|process| process.level),
-        Field::Budget => config
-            .processes
-            .get(row as usize)
-            .map(|process| process.budget),
-        Field::Memory => config
-            .processes
-            .get(row as usize)
-            .map(|process| process.memory),
-        Field::Threads => config
-            .processes
-            .get(row as usize)
-            .map(|process| process.threads),
-        Field::MaxLevel => config
-            .processes
-            .get(row as usize)
-            .map(|process| process.max_level),
+        Field::Level => Some(process.level),
+        Field::Budget => Some(process.budget),
+        Field::Memory => Some(process.memory),
+        Field::Threads => Some(process.threads),
+        Field::MaxLevel => Some(process.max_level),
         _ => None,
     }
 }
@@ -70,9 +57,10 @@ fn process_value(config: &Config, row: u32, field: Field) -> Option<u32>
 fn mutex_value(config: &Config, row: u32, field: Field) -> Option<u32>
     ensures { result ≡ mutex_value config.now row field }
 {
+    let mutex = config.mutexes.get(row as usize)?;
     match field {
-        Field::Ceiling => config.mutexes.get(row as usize).map(|mutex| mutex.ceiling),
-        Field::Hold => config.mutexes.get(row as usize).map(|mutex| mutex.hold),
+        Field::Ceiling => Some(mutex.ceiling),
+        Field::Hold => Some(mutex.hold),
         _ => None,
     }
 }

@@ -11,8 +11,8 @@ use Rattle.dk_ledger.specs.Heading.{Heading}
 use Rattle.dk_ledger.specs.Readable.{IsReadable, IsReadableHeading}
 use Rattle.dk_ledger.proofs.WordBytes.{all_more}
 use Rattle.dk_groups.specs.Groups.{groups}
-use Rattle.dk_entry_words.specs.declared.arguments.Arguments.{Arguments}
-use Rattle.dk_entry_words.specs.Arguments.{arguments_of, word_of}
+use Rattle.dk_trace.specs.declared.says.Arguments.{Arguments}
+use Rattle.dk_trace.specs.Says.{arguments_of, word_of}
 use Rattle.dk_entry_words.proofs.ReadBack.{printable}
 use Rattle.dk_csv.specs.Rows.{columns, csv_text, event_fields, fields, owner_fields, padded, record_text, rows_text, source_fields}
 use Rattle.dk_csv.specs.Laws.{is_bare, IsBare, IsRecord, joined, records}

@@ -15,12 +15,12 @@ use Rattle.dk_ledger.specs.declared.line.LedgerLine.{LedgerLine}
 use Rattle.dk_ledger.specs.Heading.{Heading, IsPrintable, name_of}
 use Rattle.dk_ledger.specs.LineText.{fault_text}
 use Rattle.dk_ledger.specs.Readable.{IsReadableHeading}
-use Rattle.dk_ledger.proofs.Split.{all_append}
-use Rattle.dk_entry_words.specs.declared.arguments.Arguments.{Arguments}
-use Rattle.dk_entry_words.specs.Arguments.{arguments_of, word_of}
-use Rattle.dk_entry_words.specs.Laws.{IsSpelled, is_spelled}
+use Rattle.dk_ledger.specs.Words.{IsSpelled, is_spelled}
+use Rattle.dk_ledger.proofs.Spelled.{all_append, fault_spelled, number_spelled, process_spelled, word_of_spelled}
+use Rattle.dk_trace.specs.declared.says.Arguments.{Arguments}
+use Rattle.dk_trace.specs.Says.{arguments_of, word_of}
 use Rattle.dk_entry_words.proofs.ReadBack.{printable}
-use Rattle.dk_entry_words.proofs.Spelled.{event_spelled, number_spelled, process_spelled, word_all, word_of_spelled}
+use Rattle.dk_entry_words.proofs.Spelled.{word_all}
 use Rattle.dk_csv.specs.Rows.{behind_comma, event_fields, fields, kind_text, level_of, owner_fields, padded, plain_row, record_text, source_fields, thread_fields}
 
 -- a byte that calls for no quotes
@@ -93,7 +93,7 @@ source_plain (Label.Slack x (Source.Reclaimed j) work) = (refl, (number_plain j,
 source_plain Label.Idle = (refl, (refl, tt))
 
 fault_plain : (kind : FaultKind) → Plain (fault_text kind)
-fault_plain kind = spelled (fault_text kind) (event_spelled (Some (Event.Fault kind))).1.0
+fault_plain kind = spelled (fault_text kind) (fault_spelled kind)
 
 padded_plain : (word : List ℕ) (arguments : Arguments) → Plain word → Plains (padded word arguments)
 padded_plain word Arguments.Nothing plain = (plain, (refl, (refl, (refl, tt))))
@@ -108,7 +108,7 @@ event_plain (Some e) = padded_plain (word_of e) (arguments_of e) (spelled (word_
 
 module _ (h : Heading) (is : IsPrintable h) where
   thread_plain : (x : ThreadId) → Plains (thread_fields h x)
-  thread_plain x = (spelled (name_of h x.process) (process_spelled h is x.process), (number_plain x.serial, (number_plain (level_of h x.process), tt)))
+  thread_plain x = (spelled (name_of h x.process) (process_spelled h is.names x.process), (number_plain x.serial, (number_plain (level_of h x.process), tt)))
 
   owner_plain : (label : Label) → Plains (owner_fields h label)
   owner_plain (Label.Kernel j) = (refl, (refl, (number_plain j, tt)))

@@ -1,32 +1,31 @@
 -- The rows of a table can be read back.
-use Rattle.std.proofs.Common.{ℕ, ◌≡◌, ◌∙◌, ◌<◌, ◌≤◌, ◌^◌, ◌++◌, [], ◌∷◌, List, length, sym, ap, refl, arith, codes, append_assoc, length-append}
-use Rattle.std.specs.Prelude.{decimal, flat_map, Option, Some, None, if◌then◌else◌, ◌==◌}
+use Rattle.std.proofs.Common.{ℕ, zero, suc, ◌≡◌, ◌∙◌, ◌<◌, ◌≤◌, ◌++◌, [], ◌∷◌, List, length, sym, ap, refl, arith, codes, append_assoc, length-append}
+use Rattle.std.specs.Fmt.{digit_glyph, digits, digits_onto}
+use Rattle.std.specs.Prelude.{Bool, true, false, decimal, flat_map, Option, Some, None, if◌then◌else◌, ◌==◌, ◌/◌, ◌%◌}
 use Rattle.std.specs.List.{AllByRecursion}
 use Rattle.std.proofs.lemmas.List.{append_cancel_left}
-use Rattle.std.proofs.lemmas.Fmt.{decimal_is_IsNumeral}
 use Rattle.dk_trace.specs.declared.ThreadId.{ThreadId}
 use Rattle.dk_trace.specs.declared.Source.{Source}
 use Rattle.dk_trace.specs.declared.Work.{Work}
 use Rattle.dk_trace.specs.declared.Label.{Label}
 use Rattle.dk_trace.specs.declared.Event.{Event}
 use Rattle.dk_trace.specs.declared.Entry.{Entry}
-use Rattle.dk_trace.specs.Ranges.{HasLabel, HasOwnEvent}
-use Rattle.dk_trace.specs.Refusals.{number}
+use Rattle.dk_trace.specs.declared.says.Arguments.{Arguments}
+use Rattle.dk_trace.specs.Says.{arguments_of, word_of}
 use Rattle.dk_ledger.specs.declared.line.LedgerLine.{LedgerLine}
 use Rattle.dk_ledger.specs.Heading.{Heading}
-use Rattle.dk_ledger.specs.LineText.{event_part, label_text}
+use Rattle.dk_ledger.specs.LineText.{argument_words, event_part, fault_text, joined, label_text}
 use Rattle.dk_ledger.specs.Cuts.{entries_of}
-use Rattle.dk_ledger.specs.Readable.{IsReadable, IsReadableHeading, size_in}
+use Rattle.dk_ledger.specs.Readable.{IsReadable, IsReadableHeading}
 use Rattle.dk_ledger.proofs.EntryLists.{IsReadableLine}
 use Rattle.dk_ledger.proofs.NextItem.{names_fit}
 use Rattle.dk_ledger.proofs.OneText.{one_line}
-use Rattle.dk_ledger.proofs.Split.{refusal_small}
 use Rattle.dk_groups.specs.Groups.{groups, slice}
 use Rattle.dk_groups.proofs.Slices.{whole_slice}
 use Rattle.dk_groups.proofs.Readable.{groups_readable, whole_all}
 use Rattle.dk_groups.proofs.ListParts.{first_same, rest_same}
 use Rattle.dk_entry_words.proofs.ReadBack.{parted_same, printable}
-use Rattle.dk_csv.specs.Rows.{columns, csv_text, event_fields, fields, kind_text, owner_fields, plain_row, record_text, rows_text, source_fields}
+use Rattle.dk_csv.specs.Rows.{columns, csv_text, event_fields, fields, kind_text, owner_fields, padded, plain_row, record_text, rows_text, source_fields}
 use Rattle.dk_csv.proofs.PlainRows.{fields_are_plain, is_plain}
 
 both_same : (fs gs x y : List (List ℕ)) → length fs ≡ length gs → fs ++ x ≡ gs ++ y → (fs ≡ gs) × (x ≡ y)
@@ -74,70 +73,80 @@ source_two : (word level : List ℕ) → 0 < length level → source_back word l
 source_two word [] some = absurd (omega arith)
 source_two word (d ∷ ds) some = refl
 
-some_digits : (n : ℕ) → n < 2 ^ 64 → 0 < length (decimal n)
-some_digits n h = (decimal_is_IsNumeral n h).0.0
+either_some : (b : Bool) (s t : List ℕ) → 0 < length s → 0 < length t → 0 < length (if b then s else t)
+either_some true s t ps pt = ps
+either_some false s t ps pt = pt
 
-reclaimed_back : (h : Heading) (x : ThreadId) (j : ℕ) (kind : List ℕ) → j < 2 ^ 64
+onto_some : (k n : ℕ) (acc : List ℕ) → 0 < length acc → 0 < length (digits_onto k 10 false n acc)
+onto_some zero n acc some = some
+onto_some (suc k) n acc some =
+    let d = digit_glyph false (n % 10) in
+    either_some (n / 10 == 0) (d ∷ acc) (digits_onto k 10 false (n / 10) (d ∷ acc)) (omega arith) (onto_some k (n / 10) (d ∷ acc) (omega arith))
+
+some_digits : (n : ℕ) → 0 < length (decimal n)
+unfolding digits
+some_digits n =
+    let d = digit_glyph false (n % 10) in
+    either_some (n / 10 == 0) (d ∷ []) (digits_onto 63 10 false (n / 10) (d ∷ [])) (omega arith) (onto_some 63 (n / 10) (d ∷ []) (omega arith))
+
+reclaimed_back : (h : Heading) (x : ThreadId) (j : ℕ) (kind : List ℕ)
     → work_back kind (owner_fields h (Label.In x)) (source_fields (Label.Slack x (Source.Reclaimed j) Work.In))
     ≡ ((((codes "slack " ++ (codes "reclaimed " ++ decimal j)) ++ codes " ") ++ kind) ++ codes " ") ++ thread_back (owner_fields h (Label.In x))
-reclaimed_back h x j kind small =
-    ap (λ t. ((((codes "slack " ++ t) ++ codes " ") ++ kind) ++ codes " ") ++ thread_back (owner_fields h (Label.In x))) (source_two (codes "reclaimed") (decimal j) (some_digits j small))
+reclaimed_back h x j kind =
+    ap (λ t. ((((codes "slack " ++ t) ++ codes " ") ++ kind) ++ codes " ") ++ thread_back (owner_fields h (Label.In x))) (source_two (codes "reclaimed") (decimal j) (some_digits j))
 
-label_is : (h : Heading) (label : Label) → length h.levels ≤ 12 → HasLabel (size_in h) label → label_back (kind_text label) (owner_fields h label) (source_fields label) ≡ label_text h label
-label_is h (Label.Kernel j) few known = refl
-label_is h (Label.In x) few known = refl
-label_is h (Label.Run x) few known = refl
-label_is h (Label.Call x) few known = refl
-label_is h (Label.Out x) few known = refl
-label_is h (Label.Slack x Source.Timeline Work.In) few known = refl
-label_is h (Label.Slack x Source.Timeline Work.Run) few known = refl
-label_is h (Label.Slack x Source.Timeline Work.Call) few known = refl
-label_is h (Label.Slack x (Source.Reclaimed j) Work.In) few known = let small = known.1 in reclaimed_back h x j (codes "in") (omega (arith, small, few))
-label_is h (Label.Slack x (Source.Reclaimed j) Work.Run) few known = let small = known.1 in reclaimed_back h x j (codes "run") (omega (arith, small, few))
-label_is h (Label.Slack x (Source.Reclaimed j) Work.Call) few known = let small = known.1 in reclaimed_back h x j (codes "call") (omega (arith, small, few))
-label_is h Label.Idle few known = refl
+label_is : (h : Heading) (label : Label) → label_back (kind_text label) (owner_fields h label) (source_fields label) ≡ label_text h label
+label_is h (Label.Kernel j) = refl
+label_is h (Label.In x) = refl
+label_is h (Label.Run x) = refl
+label_is h (Label.Call x) = refl
+label_is h (Label.Out x) = refl
+label_is h (Label.Slack x Source.Timeline Work.In) = refl
+label_is h (Label.Slack x Source.Timeline Work.Run) = refl
+label_is h (Label.Slack x Source.Timeline Work.Call) = refl
+label_is h (Label.Slack x (Source.Reclaimed j) Work.In) = reclaimed_back h x j (codes "in")
+label_is h (Label.Slack x (Source.Reclaimed j) Work.Run) = reclaimed_back h x j (codes "run")
+label_is h (Label.Slack x (Source.Reclaimed j) Work.Call) = reclaimed_back h x j (codes "call")
+label_is h Label.Idle = refl
 
 -- the text of an event, from its word and its arguments
 abbrev args_back : List ℕ → List ℕ → List ℕ → List ℕ → List ℕ
-args_back word [] second third = codes " " ++ word
-args_back word (d ∷ ds) [] third = codes " " ++ ((word ++ codes " ") ++ d ∷ ds)
-args_back word (d ∷ ds) (e ∷ es) third = codes " " ++ (((((word ++ codes " ") ++ d ∷ ds) ++ codes " ") ++ e ∷ es) ++ codes " ") ++ third
+args_back word [] second third = word
+args_back word (d ∷ ds) [] third = joined (word ∷ (d ∷ ds) ∷ [])
+args_back word (d ∷ ds) (e ∷ es) third = joined (word ∷ (d ∷ ds) ∷ (e ∷ es) ∷ third ∷ [])
 
 abbrev event_back : List (List ℕ) → List ℕ
 event_back (word ∷ first ∷ second ∷ third ∷ []) = with_word word
   where
     with_word : List ℕ → List ℕ
     with_word [] = []
-    with_word (c ∷ cs) = args_back (c ∷ cs) first second third
+    with_word (c ∷ cs) = codes " " ++ args_back (c ∷ cs) first second third
 event_back _ = []
 
-one_arg : (word first : List ℕ) → 0 < length first → args_back word first [] [] ≡ codes " " ++ ((word ++ codes " ") ++ first)
+one_arg : (word first : List ℕ) → 0 < length first → args_back word first [] [] ≡ joined (word ∷ first ∷ [])
 one_arg word [] some = absurd (omega arith)
 one_arg word (d ∷ ds) some = refl
 
-three_args : (word first second third : List ℕ) → 0 < length first → 0 < length second
-    → args_back word first second third ≡ codes " " ++ (((((word ++ codes " ") ++ first) ++ codes " ") ++ second) ++ codes " ") ++ third
+three_args : (word first second third : List ℕ) → 0 < length first → 0 < length second → args_back word first second third ≡ joined (word ∷ first ∷ second ∷ third ∷ [])
 three_args word [] second third some more = absurd (omega arith)
 three_args word (d ∷ ds) [] third some more = absurd (omega arith)
 three_args word (d ∷ ds) (e ∷ es) third some more = refl
 
-event_is : (h : Heading) (label : Label) (event : Option Event) → length h.levels ≤ 12 → HasOwnEvent (size_in h) label event → event_back (event_fields event) ≡ event_part event
-event_is h label None few known = refl
-event_is h label (Some Event.Wait) few known = refl
-event_is h label (Some Event.Exit) few known = refl
-event_is h label (Some (Event.Fault kind)) few known = refl
-event_is h label (Some (Event.Create serial level quota)) few known =
-    let a = known.1.0 in
-    let b = known.1.1 in
-    three_args (codes "create") (decimal serial) (decimal level) (decimal quota) (some_digits serial (omega (arith, a))) (some_digits level (omega (arith, b, few)))
-event_is h label (Some (Event.Delete serial)) few known = let a = known.1 in one_arg (codes "delete") (decimal serial) (some_digits serial (omega (arith, a)))
-event_is h label (Some (Event.Lock m)) few known = let a = known.1 in one_arg (codes "lock") (decimal m) (some_digits m (omega (arith, a)))
-event_is h label (Some (Event.Unlock m)) few known = let a = known.1 in one_arg (codes "unlock") (decimal m) (some_digits m (omega (arith, a)))
-event_is h label (Some (Event.Slack amount)) few known = let a = known.1 in one_arg (codes "slack") (decimal amount) (some_digits amount (omega (arith, a)))
-event_is h label (Some (Event.Put value)) few known = let a = known.1 in one_arg (codes "put") (decimal value) (some_digits value (omega (arith, a)))
-event_is h label (Some (Event.Refused refusal)) few known =
-    let a = refusal_small refusal in
-    one_arg (codes "refused") (decimal (number refusal)) (some_digits (number refusal) (omega (arith, a)))
+-- a word has a first byte, and behind it come its arguments
+padded_back : (word : List ℕ) (arguments : Arguments) → 0 < length word → event_back (padded word arguments) ≡ codes " " ++ joined (word ∷ argument_words arguments)
+padded_back [] arguments some = absurd (omega arith)
+padded_back (c ∷ cs) Arguments.Nothing some = refl
+padded_back (c ∷ cs) (Arguments.Kind kind) some = ap (λ t. codes " " ++ t) (append_assoc (c ∷ cs) (codes " ") (fault_text kind))
+padded_back (c ∷ cs) (Arguments.One n) some = ap (λ t. codes " " ++ t) (one_arg (c ∷ cs) (decimal n) (some_digits n))
+padded_back (c ∷ cs) (Arguments.Three a b d) some =
+    ap (λ t. codes " " ++ t) (three_args (c ∷ cs) (decimal a) (decimal b) (decimal d) (some_digits a) (some_digits b))
+
+some_word : (e : Event) → 0 < length (word_of e)
+some_word e = grind (arith)
+
+event_is : (event : Option Event) → event_back (event_fields event) ≡ event_part event
+event_is None = refl
+event_is (Some e) = padded_back (word_of e) (arguments_of e) (some_word e)
 
 pub owner_length : (h : Heading) (label : Label) → length (owner_fields h label) ≡ 3
 owner_length h (Label.Kernel j) = refl
@@ -177,10 +186,10 @@ module _ (h : Heading) (is : IsReadableHeading h) where
       let owners = both_same (owner_fields h a.label) (owner_fields h b.label) _ _ (owner_length h a.label ∙ sym (owner_length h b.label)) (rest_same two) in
       let sources = both_same (source_fields a.label) (source_fields b.label) _ _ (source_length a.label ∙ sym (source_length b.label)) owners.1 in
       let label : label_text h a.label ≡ label_text h b.label =
-      sym (label_is h a.label few ha.label) ∙ ap (λ k. label_back k (owner_fields h a.label) (source_fields a.label)) kind
-      ∙ ap (λ o. label_back (kind_text b.label) o (source_fields a.label)) owners.0 ∙ ap (label_back (kind_text b.label) (owner_fields h b.label)) sources.0 ∙ label_is h b.label few hb.label in
+      sym (label_is h a.label) ∙ ap (λ k. label_back k (owner_fields h a.label) (source_fields a.label)) kind
+      ∙ ap (λ o. label_back (kind_text b.label) o (source_fields a.label)) owners.0 ∙ ap (label_back (kind_text b.label) (owner_fields h b.label)) sources.0 ∙ label_is h b.label in
       let event : event_part a.event ≡ event_part b.event =
-      sym (event_is h a.label a.event few ha.event) ∙ ap event_back sources.1 ∙ event_is h b.label b.event few hb.event in
+      sym (event_is a.event) ∙ ap event_back sources.1 ∙ event_is b.event in
       one_line h few (names_fit (length h.levels) h.processes is.processes) is.own_names a b ha hb
       (ap (λ t. t ++ codes " " ++ decimal a.count ++ codes " " ++ label_text h a.label ++ event_part a.event) start
       ∙ ap (λ t. decimal b.start ++ codes " " ++ t ++ codes " " ++ label_text h a.label ++ event_part a.event) count

@@ -11,8 +11,8 @@ use Rattle.dk_ledger.specs.declared.line.LedgerLine.{LedgerLine}
 use Rattle.dk_ledger.specs.Heading.{Heading, name_of}
 use Rattle.dk_ledger.specs.LineText.{work_text, fault_text}
 use Rattle.dk_groups.specs.Groups.{groups}
-use Rattle.dk_entry_words.specs.declared.arguments.Arguments.{Arguments}
-use Rattle.dk_entry_words.specs.Arguments.{arguments_of, word_of}
+use Rattle.dk_trace.specs.declared.says.Arguments.{Arguments}
+use Rattle.dk_trace.specs.Says.{arguments_of, word_of}
 use Rattle.dk_entry_words.specs.Parted.{behind}
 
 -- the names of the columns

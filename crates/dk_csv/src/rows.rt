@@ -4,10 +4,9 @@ ghost use Rattle.dk_ledger.specs.Heading.{IsPrintable};
 ghost use Rattle.dk_ledger.specs.LineText.{IsNamed};
 ghost use Rattle.dk_csv.specs.Rows.{behind_comma, event_fields, kind_text, level_of, owner_fields, padded, plain_row, source_fields, thread_fields};
 
-use dk_entry_words::{Arguments, arguments_of, event_word};
 use dk_groups::fault_word;
 use dk_ledger::{Header, LedgerLine, TextLine};
-use dk_trace::{Event, Label, Source, ThreadId, Work};
+use dk_trace::{Arguments, Event, Label, Source, ThreadId, Work};
 
 fn kind_word(label: Label) -> &'static str
     ensures text { result.now ≡ kind_text label }
@@ -147,7 +146,7 @@ fn push_event(text: &mut TextLine, event: Option<Event>)
 {
     match event {
         None => text.word(",,,,"),
-        Some(event) => push_padded(text, event_word(event), arguments_of(event)),
+        Some(event) => push_padded(text, event.word(), event.arguments()),
     }
 }
 

@@ -1,3 +1,2 @@
-pub mod Arguments
+pub mod Works
 pub mod Parted
-pub mod Laws

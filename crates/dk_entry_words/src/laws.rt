@@ -1,21 +1,13 @@
-ghost use Rattle.std.specs.Prelude.{ℕ, List, ◌≡◌, ◌++◌, ◌∷◌, Some, false};
-ghost use Rattle.dk_trace.specs.declared.Event.{Event};
+ghost use Rattle.std.specs.Prelude.{ℕ, List, ◌≡◌, ◌++◌, ◌∷◌, false};
 ghost use Rattle.dk_ledger.specs.declared.line.LedgerLine.{LedgerLine};
 ghost use Rattle.dk_ledger.specs.Heading.{Heading, IsPrintable};
 ghost use Rattle.dk_ledger.specs.LineText.{line_body};
-ghost use Rattle.dk_ledger.specs.Words.{event_words, line_words};
-ghost use Rattle.dk_entry_words.specs.Arguments.{argument_words, arguments_of, word_of};
-ghost use Rattle.dk_entry_words.specs.Laws.{AreSpelled, is_spelled};
+ghost use Rattle.dk_ledger.specs.Words.{AreSpelled, is_spelled, line_words};
 ghost use Rattle.dk_entry_words.specs.Parted.{parted};
 
 /// The words of a line are of lower letters, digits, underscores and dots.
 pub fn words_are_spelled()
     ensures { (h : Heading) (l : LedgerLine) → IsPrintable h → AreSpelled (line_words h l) }
-{}
-
-/// What a ledger has of an event is its word and what stands behind it.
-pub fn events_are_their_words()
-    ensures { (e : Event) → event_words (Some e) ≡ word_of e ∷ argument_words (arguments_of e) }
 {}
 
 /// A line is its words with blanks between them; and parted by any byte that no word has, they tell it as well: with

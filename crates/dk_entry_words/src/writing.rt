@@ -1,17 +1,17 @@
 //! The words of labels, of events and of lines, with a byte between each two.
 ghost use Rattle.std.specs.Prelude.{◌≡◌, ◌+◌, ◌<◌, ◌≤◌, ◌++◌, ◌∷◌, [], decimal, length, Some};
 ghost use Rattle.dk_ledger.specs.Heading.{IsPrintable};
-ghost use Rattle.dk_ledger.specs.LineText.{IsNamed, event_text, line_body, thread_text, work_text};
+ghost use Rattle.dk_ledger.specs.LineText.{IsNamed, argument_words, event_text, line_body, thread_text, work_text};
 ghost use Rattle.dk_ledger.specs.Words.{event_words, label_words, line_words, source_words};
 ghost use Rattle.dk_entry_words.specs.declared.separator.Separator.{Separator};
-ghost use Rattle.dk_entry_words.specs.Arguments.{argument_words, work_words};
+ghost use Rattle.dk_entry_words.specs.Works.{work_words};
 ghost use Rattle.dk_entry_words.specs.Parted.{behind, byte_of, parted};
 
-use crate::{Arguments, Separator, arguments_of, event_word, thread_of};
+use crate::Separator;
 use arrayvec::ArrayString;
 use dk_groups::{fault_word, work_word};
 use dk_ledger::{Header, LedgerLine};
-use dk_trace::{Event, Label, Source, ThreadId, Work};
+use dk_trace::{Arguments, Event, Label, Source, ThreadId, Work};
 
 /// Words of an entry in a buffer of their own.
 pub type Words = ArrayString<128>;
@@ -110,7 +110,7 @@ fn push_label(text: &mut Words, separator: Separator, header: &Header, label: La
 {
     text.push_str(separator.as_str());
     push_work(text, separator, label);
-    if let Some(thread) = thread_of(label) {
+    if let Some(thread) = label.thread() {
         text.push_str(separator.as_str());
         push_thread(text, header, thread);
     }
@@ -138,8 +138,8 @@ fn push_event(text: &mut Words, separator: Separator, event: Event)
     ensures bytes { text.new.bytes ≡ text.old.bytes ++ parted (byte_of separator) (event_words (Some event)) }
     ensures len { length text.new.bytes ≤ length text.old.bytes + 40 }
 {
-    text.push_str(event_word(event));
-    push_arguments(text, separator, arguments_of(event));
+    text.push_str(event.word());
+    push_arguments(text, separator, event.arguments());
 }
 
 /// The event, behind a word, where there is one.

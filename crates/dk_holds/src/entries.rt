@@ -1,31 +1,16 @@
 //! What an entry does to the hold of a mutex.
 ghost use Rattle.std.specs.Prelude.{◌≡◌, ◌+◌, ◌<◌, ◌^◌, false, Option};
-ghost use Rattle.std.specs.Option.{option_map_or};
-ghost use Rattle.dk_trace.specs.Entries.{does, has_event, is_delete_of, is_end, is_of, main_of, stops, thread_of};
+ghost use Rattle.dk_trace.specs.Entries.{does, has_event, is_delete_of, is_end, is_of, stops};
 ghost use Rattle.dk_holds.specs.Holds.{begun, behind, ended, ends, going_on, is_lock_of, is_unlock_of};
 
 use crate::Holding;
 use dk_trace::{Entry, Event, Label, ThreadId};
 
-/// The thread that had a tick of this label.
-fn thread_of(label: Label) -> Option<ThreadId>
-    ensures { result ≡ thread_of label }
-{
-    match label {
-        Label::In(thread)
-        | Label::Run(thread)
-        | Label::Call(thread)
-        | Label::Out(thread)
-        | Label::Slack { thread, .. } => Some(thread),
-        Label::Kernel(_) | Label::Idle => None,
-    }
-}
-
 /// Whether the entry is one of the thread.
 fn is_of(thread: ThreadId, entry: &Entry) -> bool
     ensures { result ≡ is_of thread entry.now }
 {
-    match thread_of(entry.label) {
+    match entry.label.thread() {
         Some(other) => thread.is_same(other),
         None => false,
     }
@@ -98,7 +83,7 @@ fn begun(mutex: u8, tick: u32, entry: &Entry) -> Option<Holding>
     if !locks(mutex, entry) {
         return None;
     }
-    match thread_of(entry.label) {
+    match entry.label.thread() {
         Some(thread) => Some(Holding {
             thread,
             since: tick + 1,

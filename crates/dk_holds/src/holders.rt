@@ -1,4 +1,4 @@
-ghost use Rattle.std.specs.Prelude.{ℕ, List, [], Some, ◌≡◌, ◌+◌, ◌<◌, ◌≤◌, ◌^◌, ◌++◌, length, option_map, reverse, slice_get};
+ghost use Rattle.std.specs.Prelude.{ℕ, List, [], Some, ◌≡◌, ◌+◌, ◌<◌, ◌^◌, ◌++◌, length, option_map, reverse, slice_get};
 ghost use Rattle.dk_trace.specs.declared.Entry.{Entry as AnEntry};
 ghost use Rattle.dk_ledger.specs.Cuts.{entries_of};
 ghost use Rattle.dk_holds.specs.Holds.{AreHolders, behind, ended, holding, last_entry};

@@ -1,5 +1,5 @@
 -- By itself a process runs the same in two configurations of which it sees the same but the period, tick by tick of a window.
-use Rattle.dk_impact.proofs.Names.{ℕ, zero, suc, ◌≡◌, ◌+◌, ◌-◌, ◌*◌, ◌%◌, ◌<◌, ◌≤◌, ◌⊎◌, inl, inr, Bool, true, false, cond, not, ◌&&◌, ◌||◌, List, [], ◌∷◌, length, map, Option, Some, None, refl, sym, ap, ◌∙◌, subst, arith, replicate, cases_Bool, cases_lt, mod-eq_of_lt, Configuration, IsChecked, IsAccepted, period, main_level, budget, Phase, Choice, Label, Event, Entry, is_wait, is_end, has_event, is_of, is_budget_of, is_out_of, does, Job, phase, rem, Hold, aged, held_after, held_by, mod-next, main_id, the_job, Outcome, KernelCall, Tick, body_tick, zero_context, Image, World, Turn, quiet_entry, quiet_step, thread_turn, tick_in, step_of, budget_period, update-same, alone, choice_alone, is_of_process, entries_of, KeepsToItself, Own, own, booked, after, fresh, IsPlainEvent, Plain, filter-in, filter-out, booked-after, own-within, own-begins, alone-works, alone-rests, alone-long, on, SeesTheSameButPeriod, renamed, IsSameAcross}
+use Rattle.dk_impact.proofs.Names.{ℕ, zero, suc, ◌≡◌, ◌+◌, ◌-◌, ◌*◌, ◌%◌, ◌<◌, ◌≤◌, ◌⊎◌, inl, inr, Bool, false, cond, not, ◌&&◌, ◌||◌, List, [], ◌∷◌, length, map, Option, refl, sym, ap, ◌∙◌, subst, arith, cases_lt, mod-eq_of_lt, Configuration, IsChecked, IsAccepted, period, main_level, budget, Phase, Choice, Label, Event, Entry, Job, phase, rem, Hold, aged, held_after, held_by, mod-next, main_id, the_job, Outcome, KernelCall, Tick, body_tick, Image, World, Turn, quiet_entry, quiet_step, thread_turn, tick_in, step_of, budget_period, update-same, alone, choice_alone, entries_of, KeepsToItself, Own, own, booked, after, fresh, IsPlainEvent, Plain, filter-in, filter-out, booked-after, own-within, own-begins, alone-works, alone-rests, alone-long, on, SeesTheSameButPeriod, renamed, IsSameAcross, nat_tests}
 use Rattle.dk_impact.proofs.Seen.{Users, users-next, IsOwnEvent, Whose, SameLevels, Turns, turns}
 use Rattle.dk_impact.proofs.Spent.{moves-on, start_of, start-is, start-begins, finish}
 use Rattle.dk_impact.proofs.Whose.{whose-in, whose-out, whose-idle, whose-body, time-number, create-number, not-done}
@@ -12,8 +12,7 @@ record Alike (p' : ℕ) (o o' : Own) : Type 0 where
   ended : o.ended ≡ o'.ended
 
 entries-if : (p' : ℕ) (b : Bool) (e : Entry) (es : List Entry) → map (renamed p') (cond b (e ∷ es) es) ≡ cond b (renamed p' e ∷ map (renamed p') es) (map (renamed p') es)
-entries-if p' true e es = refl
-entries-if p' false e es = refl
+entries-if p' b e es = grind (arith, nat_tests)
 
 abbrev entries_with : Bool → Entry → List Entry → List Entry
 entries_with b e es = cond b (e ∷ es) es
@@ -27,42 +26,13 @@ held_with ends of event held = cond ends [] (cond of (held_after event (map aged
 
 -- the same entry leaves it the same
 after-alike : (p p' : ℕ) (e e' : Entry) (o o' : Own) → Whose p p' e.label e'.label → renamed p' e ≡ e' → Alike p' o o' → Alike p' (after p e o) (after p' e' o')
-after-alike p p' e e' o o' whose names alike =
-    let event : e.event ≡ e'.event = ap (λ i. i.event) names in
-    let doing : (test : Event → Bool) → does test (main_id p) e ≡ does test (main_id p') e' =
-    λ test. ap (λ b. b && has_event test e) whose.of ∙ ap (λ (i : Entry). is_of (main_id p') e' && has_event test i) names in
-    let waits = doing is_wait in
-    let ends = doing is_end in
-    record {
-      entries = entries-if p' (is_of_process p e) e o.entries
-          ∙ ap (λ b. entries_with b (renamed p' e) (map (renamed p') o.entries)) whose.process
-          ∙ ap (λ i. entries_with (is_of_process p' e') i (map (renamed p') o.entries)) names
-          ∙ ap (entries_with (is_of_process p' e') e') alike.entries;
-      job = ap (λ b. job_with b (is_out_of (main_id p) e) (does is_wait (main_id p) e) (does is_end (main_id p) e) o.ended o.job) whose.budget
-          ∙ ap (λ b. job_with (is_budget_of (main_id p') e') b (does is_wait (main_id p) e) (does is_end (main_id p) e) o.ended o.job) whose.out
-          ∙ ap (λ b. job_with (is_budget_of (main_id p') e') (is_out_of (main_id p') e') b (does is_end (main_id p) e) o.ended o.job) waits
-          ∙ ap (λ b. job_with (is_budget_of (main_id p') e') (is_out_of (main_id p') e') (does is_wait (main_id p') e') b o.ended o.job) ends
-          ∙ ap (λ b. job_with (is_budget_of (main_id p') e') (is_out_of (main_id p') e') (does is_wait (main_id p') e') (does is_end (main_id p') e') b o.job) alike.ended
-          ∙ ap (job_with (is_budget_of (main_id p') e') (is_out_of (main_id p') e') (does is_wait (main_id p') e') (does is_end (main_id p') e') o'.ended) alike.job;
-      held = ap (λ b. held_with b (is_of (main_id p) e) e.event o.held) ends
-          ∙ ap (λ b. held_with (does is_end (main_id p') e') b e.event o.held) whose.of
-          ∙ ap (λ v. held_with (does is_end (main_id p') e') (is_of (main_id p') e') v o.held) event
-          ∙ ap (held_with (does is_end (main_id p') e') (is_of (main_id p') e') e'.event) alike.held;
-      ended = ap (λ b. b || does is_end (main_id p) e) alike.ended ∙ ap (λ b. o'.ended || b) ends;
-    }
+after-alike p p' e e' o o' whose names alike = grind (arith, nat_tests, main_id, entries-if)
 
 own-plain : (c : Configuration) (p : ℕ) (event : Option Event) → IsOwnEvent c p event → IsPlainEvent event
-own-plain c p None mine = tt
-own-plain c p (Some (Event.Create serial level quota)) mine = absurd mine
-own-plain c p (Some (Event.Slack amount)) mine = absurd mine
-own-plain c p (Some event) mine = tt
+own-plain c p event mine = grind (arith, nat_tests)
 
 plain-next : (p : ℕ) (e : Entry) (past : List Entry) → IsPlainEvent e.event → Plain (entries_of p past) → Plain (entries_of p (e ∷ past))
-plain-next p e past event plain =
-    elim (cases_Bool (is_of_process p e)) [
-      | inl is ↦ subst Plain (sym (filter-in p e past is)) (event, plain)
-      | inr other ↦ subst Plain (sym (filter-out p e past other)) plain
-    ]
+plain-next p e past event plain = grind (arith, nat_tests, Plain, filter-in, filter-out)
 
 -- a tick in both worlds
 record Ticks (c : Configuration) (p p' : ℕ) (w v w' v' : World) : Type 0 where
@@ -77,20 +47,13 @@ record Ticks (c : Configuration) (p p' : ℕ) (w v w' v' : World) : Type 0 where
   code : (w'.images p).code ≡ (w.images p).code
 
 turn-if : (P : Turn → Type 0) (b : Bool) (x y : Turn) → P x → P y → P (cond b x y)
-turn-if P true x y first second = first
-turn-if P false x y first second = second
+turn-if P b x y first second = grind (arith, nat_tests, first)
 
 module _ (c c' : Configuration) (p p' : ℕ) (program : List ℕ) (sees : SeesTheSameButPeriod c p c' p' program)
     (positive : 0 < period c (main_level c p)) (positive' : 0 < period c' (main_level c' p'))
     (keeps : KeepsToItself c p program) (keeps' : KeepsToItself c' p' program) where
   fresh-alike : (o : Own) (o' : Own) → Alike p' o o' → Alike p' (fresh c p positive o) (fresh c' p' positive' o')
-  fresh-alike o o' alike =
-      record {
-        entries = alike.entries;
-        job = ap (λ b. the_job (cond b 0 (budget c p)) 0 0 false) alike.ended ∙ ap (λ k. the_job (cond o'.ended 0 k) 0 0 false) sees.budget;
-        held = alike.held;
-        ended = alike.ended;
-      }
+  fresh-alike o o' alike = grind (arith, nat_tests, the_job)
 
   -- after a tick both windows end, or neither does
   abbrev InStep : ℕ → ℕ → Type 0
@@ -120,13 +83,7 @@ module _ (c c' : Configuration) (p p' : ℕ) (program : List ℕ) (sees : SeesTh
             subst (λ o. Alike p' o (own c' p' (e' ∷ past'))) (sym (own-begins c p positive (e ∷ past) (booked c p e past) plain begins refl refl refl))
             (subst (λ o. Alike p' (fresh c p positive (booked c p e past)) o) (sym (own-begins c' p' positive' (e' ∷ past') (booked c' p' e' past') plain' begins' refl refl refl))
             (fresh-alike (booked c p e past) (booked c' p' e' past') after_both))
-        | inr on ↦
-            let within : suc (length past) % period c (main_level c p) ≡ suc (length past % period c (main_level c p)) =
-            subst (λ k. suc k % period c (main_level c p) ≡ suc (k % period c (main_level c p))) (sym long) on.0 in
-            let within' : suc (length past') % period c' (main_level c' p') ≡ suc (length past' % period c' (main_level c' p')) =
-            subst (λ k. suc k % period c' (main_level c' p') ≡ suc (k % period c' (main_level c' p'))) (sym long') on.1 in
-            subst (λ o. Alike p' o (own c' p' (e' ∷ past'))) (sym (own-within c p positive e past within))
-            (subst (λ o. Alike p' (booked c p e past) o) (sym (own-within c' p' positive' e' past' within')) after_both)
+        | inr on ↦ grind (arith, nat_tests, on, own, own-within, booked)
       ]
 
   -- the one world after n ticks and the other after n'
@@ -158,8 +115,7 @@ module _ (c c' : Configuration) (p p' : ℕ) (program : List ℕ) (sees : SeesTh
       let plain' = plain-next p' t.e' v.past event' at.plain' in
       record {
         alike = booked-alike t.e t.e' w.past v.past t.whose t.renames plain plain' at.alike;
-        users = subst (Users c p) (sym (ap (λ (o : Own). o.held) (booked-after c p positive t.e w.past plain)))
-            (users-next c p (does is_end (main_id p) t.e) (is_of (main_id p) t.e) t.e.event (held_by (main_id p) w.past) t.event at.users);
+        users = grind (arith, nat_tests, Users, Own, booked-after, users-next, main_id, at);
         plain = plain;
         plain' = plain';
       }
@@ -243,18 +199,11 @@ module _ (c c' : Configuration) (p p' : ℕ) (program : List ℕ) (sees : SeesTh
             let some' : 0 < rem c'.costs.switch job' = subst (λ k. 0 < k) left some in
             let phases : phase c.costs.switch job ≡ phase c'.costs.switch job' = ap (λ k. phase k job) sees.switch ∙ ap (phase c'.costs.switch) at.alike.job in
             let mine : choice_alone c p w.past ≡ Choice.Budget (main_id p) (phase c.costs.switch job) = alone-works c p w.past some in
-            let mine' : choice_alone c' p' v.past ≡ Choice.Budget (main_id p') (phase c.costs.switch job) =
-            alone-works c' p' v.past some' ∙ ap (Choice.Budget (main_id p')) (sym phases) in
+            let mine' : choice_alone c' p' v.past ≡ Choice.Budget (main_id p') (phase c.costs.switch job) = grind (arith, nat_tests, alone-works, main_id) in
             subst (λ choice. Ticks c p p' w v (step_of c w choice) (step_of c' v (choice_alone c' p' v.past))) (sym mine)
             (subst (λ choice. Ticks c p p' w v (step_of c w (Choice.Budget (main_id p) (phase c.costs.switch job))) (step_of c' v choice)) (sym mine')
             (works n n' at (phase c.costs.switch job)))
-        | inr none ↦
-            let over : rem c.costs.switch job ≡ 0 = omega arith in
-            let over' : rem c'.costs.switch job' ≡ 0 = sym left ∙ over in
-            let mine : choice_alone c p w.past ≡ Choice.Idle = alone-rests c p w.past over in
-            let mine' : choice_alone c' p' v.past ≡ Choice.Idle = alone-rests c' p' v.past over' in
-            subst (λ choice. Ticks c p p' w v (step_of c w choice) (step_of c' v (choice_alone c' p' v.past))) (sym mine)
-            (subst (λ choice. Ticks c p p' w v (quiet_step Choice.Idle w) (step_of c' v choice)) (sym mine') (rests n n' at))
+        | inr none ↦ grind (arith, nat_tests, alone-rests, rests, at)
       ]
 
   -- before the first tick all windows begin
@@ -262,39 +211,18 @@ module _ (c c' : Configuration) (p p' : ℕ) (program : List ℕ) (sees : SeesTh
   none = record { entries = []; job = the_job 0 0 0 false; held = []; ended = false }
 
   first-alike : Alike p' (own c p []) (own c' p' [])
-  first-alike =
-      let begins : 0 % period c (main_level c p) ≡ 0 = mod-eq_of_lt positive in
-      let begins' : 0 % period c' (main_level c' p') ≡ 0 = mod-eq_of_lt positive' in
-      subst (λ o. Alike p' o (own c' p' [])) (sym (own-begins c p positive [] none tt begins refl refl refl))
-      (subst (λ o. Alike p' (fresh c p positive none) o) (sym (own-begins c' p' positive' [] none tt begins' refl refl refl))
-      (fresh-alike none none (record { entries = refl; job = refl; held = refl; ended = refl })))
+  first-alike = grind (arith, nat_tests, mod-eq_of_lt, own, own-begins, fresh, fresh-alike)
 
   first : At 0 0
-  first =
-      record {
-        alike = first-alike;
-        image = ap (λ k. (let i : Image = record { code = program; memory = replicate k 0; contexts = λ serial. zero_context } in i)) sees.memory;
-        code = refl;
-        users = tt;
-        plain = tt;
-        plain' = tt;
-      }
+  first = grind (arith, nat_tests, first-alike)
 
   same-there : (n n' : ℕ) → At n n' → IsSameAcross p p' (alone c p program n) (alone c' p' program n')
-  same-there n n' at = record {
-    entries = at.alike.entries;
-    memory = ap (λ (i : Image). i.memory) at.image;
-    contexts = λ serial. ap (λ (i : Image). i.contexts serial) at.image;
-  }
+  same-there n n' at = grind (arith, nat_tests, at)
 
   -- in windows of one length each tick of the one is that tick of the other
   module _ (period_is : period c (main_level c p) ≡ period c' (main_level c' p')) where
     in-step : (n : ℕ) → InStep n n
-    in-step n =
-        elim (mod-next n (period c (main_level c p)) positive) [
-          | inl end ↦ inl (end.0, ap (λ k. suc n % k) (sym period_is) ∙ end.0)
-          | inr on ↦ inr (on, subst (λ k. suc n % k ≡ suc (n % k)) period_is on)
-        ]
+    in-step n = grind (arith, nat_tests, mod-next, on)
 
     at : (n : ℕ) → At n n
     at zero = first
@@ -328,9 +256,7 @@ module _ (c c' : Configuration) (p p' : ℕ) (program : List ℕ) (sees : SeesTh
         let one = finish c p program positive plains room fits m last t.e begins whole t.past in
         let other = finish c' p' program positive' plains' room' fits' m' last t.e' begins' whole' t.past' in
         record {
-          alike = subst (λ o. Alike p' o (own c' p' (alone c' p' program end').past)) (sym one.0)
-              (subst (λ o. Alike p' (fresh c p positive (booked c p t.e (alone c p program (on last m)).past)) o) (sym other.0)
-              (fresh-alike (booked c p t.e (alone c p program (on last m)).past) (booked c' p' t.e' (alone c' p' program (on last m')).past) left.alike));
+          alike = grind (arith, nat_tests, own, fresh, booked, on, fresh-alike);
           image = one.1 ∙ t.image ∙ sym other.1;
           code = ap (λ (i : Image). i.code) one.1 ∙ t.code ∙ before.code;
           users = subst (λ (o : Own). Users c p o.held) (sym one.0) left.users;
@@ -353,8 +279,7 @@ module _ (c c' : Configuration) (p p' : ℕ) (program : List ℕ) (sees : SeesTh
 -- by itself a process that keeps to itself makes no child and never asks for slack
 plain-alone : (c : Configuration) (p : ℕ) (program : List ℕ) → 0 < period c (main_level c p) → KeepsToItself c p program → (n : ℕ) → Plain (entries_of p (alone c p program n).past)
 plain-alone c p program positive keeps n =
-    let sees : SeesTheSameButPeriod c p c p program =
-    record { switch = refl; call = refl; budget = refl; memory = refl; mutexes = λ m. refl; holds = λ m is. refl; levels = inl (refl, refl) } in
+    let sees : SeesTheSameButPeriod c p c p program = grind (arith, nat_tests) in
     (at c c p p program sees positive positive keeps keeps refl n).plain
 
 pub any-period : (c c' : Configuration) (p p' : ℕ) (program : List ℕ) → IsChecked c → IsAccepted c → IsChecked c' → IsAccepted c' → KeepsToItself c p program → KeepsToItself c' p' program

@@ -14,14 +14,12 @@ pub use Rattle.dk_config.specs.Certification.{is_user, uses}
 pub use Rattle.dk_config.specs.Checked.{IsAccepted, IsChecked, IsWithinLimits}
 pub use Rattle.dk_config.specs.Configuration.{Configuration}
 pub use Rattle.dk_config.specs.Mutex.{Mutex}
-pub use Rattle.dk_config.specs.Rules.{again_tests, all_tests, budget_tests, count_tests, level_tests, name_tests, period_tests, range_tests, slowest_tests, user_tests, version_tests}
 pub use Rattle.dk_config.specs.Sums.{first_of, numbers}
 pub use Rattle.dk_config.specs.Tests.{first_broken}
 pub use Rattle.dk_config.specs.Windows.{budget, longest_hold, main_level, max_level, may_ask, memory, period, slots}
 pub use Rattle.dk_config.specs.declared.TheConstants.{MAX_MUTEXES}
 pub use Rattle.dk_config.specs.declared.rows.LevelRow.{LevelRow}
 pub use Rattle.dk_cpu.specs.Machine.{Tick, body_tick, reg}
-pub use Rattle.dk_cpu.specs.State.{zero_context}
 pub use Rattle.dk_cpu.specs.declared.Context.{Context}
 pub use Rattle.dk_cpu.specs.declared.Outcome.{Outcome}
 pub use Rattle.dk_cpu.specs.declared.kernel_call.KernelCall.{KernelCall}
@@ -40,8 +38,7 @@ pub use Rattle.dk_trace.proofs.Orders.{InOrder, charge-order, fresh-order, is_ou
 pub use Rattle.dk_trace.proofs.Same.{same-self}
 pub use Rattle.dk_trace.proofs.Windows.{mod-next, spent}
 pub use Rattle.dk_trace.specs.Audit.{label_of, next_serial}
-pub use Rattle.dk_trace.specs.Choices.{chosen}
-pub use Rattle.dk_trace.specs.Entries.{does, has_event, is_budget_of, is_end, is_of, is_out, is_out_of, is_wait, payer, stops}
+pub use Rattle.dk_trace.specs.Entries.{does, is_budget_of, is_end, is_of, is_out, is_out_of, is_wait, payer, stops}
 pub use Rattle.dk_trace.specs.Holds.{Hold, aged, given_back, held_after, held_by, innermost_left, is_held, is_holding, is_innermost}
 pub use Rattle.dk_trace.specs.Jobs.{Job, body_left, phase, rem, thread_body_left}
 pub use Rattle.dk_trace.specs.Refusals.{create_refusal, delete_refusal, first_refusal, is_running_child, least_share, lock_refusal, number, slack_refusal, standing_children}
@@ -57,15 +54,15 @@ pub use Rattle.dk_world.proofs.Audits.{held-quiet}
 pub use Rattle.dk_world.proofs.Limits.{budget_period}
 pub use Rattle.dk_world.proofs.Outcomes.{own-tick}
 pub use Rattle.dk_world.proofs.Refused.{update-same}
-pub use Rattle.dk_world.specs.Calls.{Child, Effect, Reply, answers, call_effect, creates, done, effect, or_refused}
+pub use Rattle.dk_world.specs.Calls.{Child, Effect, Reply, call_effect, effect, or_refused}
 pub use Rattle.dk_world.specs.Run.{Image, Turn, World, breaks_hold, image_after, may_be_last, quiet_entry, quiet_step, step_of, thread_at, thread_turn, tick_in, trace, work_done, world}
 pub use Rattle.std.proofs.Common.{Bool, List, None, Option, Some, [], ap, arith, cond, eqb, false, inl, inr, leb, length, ltb, map, not, refl, rules, subst, suc, sym, true, zero, ℕ, ◌%◌, ◌&&◌, ◌*◌, ◌++◌, ◌+◌, ◌-◌, ◌/◌, ◌<◌, ◌||◌, ◌∙◌, ◌∷◌, ◌≡◌, ◌≤◌, ◌⊎◌}
 pub use Rattle.std.proofs.Math.Nat.{add-mod-mod, div-add-mod, mod-eq_of_lt, mod_self, mul-mod_left}
-pub use Rattle.std.proofs.lemmas.Bool.{cases_Bool, cases_lt, eq-eqb}
+pub use Rattle.std.proofs.lemmas.Bool.{cases_lt, eq-eqb}
 pub use Rattle.std.proofs.lemmas.Bool.Decides.{eqb_tells, nat_tests}
 pub use Rattle.std.proofs.lemmas.List.{append_cancel_right}
 pub use Rattle.std.proofs.lemmas.List.Elements.{filter-append}
 pub use Rattle.std.proofs.lemmas.Option.{slice_get_past}
 pub use Rattle.std.specs.List.{list_any}
 pub use Rattle.std.specs.Option.{option_map_or, option_or}
-pub use Rattle.std.specs.Prelude.{filter, replicate, slice_get, slice_index_or, slice_range, sum_by, take}
+pub use Rattle.std.specs.Prelude.{filter, slice_get, slice_index_or, slice_range, sum_by, take}

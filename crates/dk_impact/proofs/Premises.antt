@@ -1,5 +1,5 @@
 -- Without any one of the things that a process must see unchanged the law is false: runs of one process in two configurations that differ in it alone.
-use Rattle.dk_impact.proofs.Names.{ℕ, zero, suc, ◌≡◌, ◌+◌, ◌*◌, ◌/◌, ◌%◌, ◌≤◌, inl, ◌⊎◌, true, false, List, [], ◌∷◌, length, map, Option, Some, None, refl, ap, sym, ◌∙◌, subst, arith, slice_index_or, div-add-mod, Configuration, Mutex, LevelRow, period, main_level, max_level, budget, memory, longest_hold, is_user, IsChecked, IsAccepted, first_broken, checked, Ld, Jmp, Trap, Event, Entry, number, world, trace, accepted, alone, entries_of, ReadsNoTick, KeepsToItself, program, call_of, earlier-call, MakesNoThread, SeesTheSameButPeriod, renamed, IsSameAcross, ChangesOfOthersHaveNoImpact}
+use Rattle.dk_impact.proofs.Names.{ℕ, zero, suc, ◌≡◌, ◌+◌, ◌*◌, ◌/◌, ◌%◌, ◌≤◌, inl, ◌⊎◌, true, false, List, [], ◌∷◌, length, map, Option, Some, None, refl, ap, sym, ◌∙◌, subst, arith, slice_index_or, div-add-mod, Configuration, Mutex, LevelRow, period, main_level, max_level, budget, memory, longest_hold, is_user, IsChecked, IsAccepted, first_broken, checked, Ld, Jmp, Trap, Event, Entry, number, world, trace, accepted, alone, entries_of, ReadsNoTick, KeepsToItself, program, call_of, earlier-call, MakesNoThread, SeesTheSameButPeriod, renamed, IsSameAcross, ChangesOfOthersHaveNoImpact, nat_tests}
 use Rattle.dk_config.specs.Rules.{all_tests, version_tests, count_tests, range_tests, period_tests, name_tests, again_tests, level_tests, budget_tests, user_tests, slowest_tests}
 
 -- one process, with a level for each of these periods, at the last of them
@@ -114,9 +114,7 @@ putter-clock (suc zero) within is = earlier-call 0 (omega arith) (ap call_of is)
 putter-clock (suc (suc k)) within is = let more : 4 * suc (suc k) + 4 ≤ 8 = within in absurd (omega arith)
 
 loader-clock : ReadsNoTick loader
-loader-clock zero within is = earlier-call 0 (omega arith) (ap call_of is)
-loader-clock (suc zero) within is = earlier-call 0 (omega arith) (ap call_of is)
-loader-clock (suc (suc k)) within is = let more : 4 * suc (suc k) + 4 ≤ 8 = within in absurd (omega arith)
+loader-clock is within at = grind (arith, nat_tests, earlier-call, call_of)
 
 locker-clock : ReadsNoTick locker
 locker-clock zero within is = earlier-call 5 (omega arith) (ap call_of is)
@@ -237,8 +235,7 @@ memory-is-needed =
     (inl (refl, refl), refl, refl, refl, refl, λ m. refl, λ m is. refl) refl refl refl (λ e. absurd (omega arith))
 
 no-user : (m : ℕ) → is_user plain m 0 ≡ true → longest_hold plain m ≡ longest_hold locking m
-no-user zero is = cc
-no-user (suc m) is = cc
+no-user m is = grind (arith, nat_tests)
 
 pub mutexes-are-needed : LawWith (all Levels Switch Call Period Budget Memory Holds) → ⊥
 mutexes-are-needed =
@@ -247,8 +244,7 @@ mutexes-are-needed =
     (inl (refl, refl), refl, refl, refl, refl, refl, no-user) refl refl refl (λ e. absurd (omega arith))
 
 same-users : (m : ℕ) → is_user locking m 0 ≡ is_user holding m 0
-same-users zero = refl
-same-users (suc m) = refl
+same-users m = grind (arith, nat_tests)
 
 pub holds-are-needed : LawWith (all Levels Switch Call Period Budget Memory Mutexes) → ⊥
 holds-are-needed =

@@ -1,5 +1,5 @@
 -- What a process sees of a configuration decides what its kernel calls come to.
-use Rattle.dk_impact.proofs.Names.{ℕ, ◌≡◌, ◌-◌, ◌+◌, Bool, true, false, cond, not, ◌&&◌, ◌||◌, eqb, leb, ltb, List, [], ◌∷◌, length, map, Option, Some, None, refl, sym, ap, ◌∙◌, subst, filter, sum_by, list_any, Configuration, period, main_level, max_level, slots, budget, longest_hold, may_ask, is_user, FaultKind, Phase, Work, Choice, Label, Event, Refusal, Entry, is_of, is_budget_of, is_out_of, Thread, family, is_main, is_void, is_ended_by, Job, body_left, thread_body_left, Hold, aged, given_back, held_after, held_by, is_held, is_holding, is_innermost, innermost_left, label_of, next_serial, first_refusal, standing_children, least_share, create_refusal, delete_refusal, lock_refusal, slack_refusal, is_running_child, Context, Outcome, KernelCall, Tick, reg, Effect, Reply, Child, effect, call_effect, or_refused, done, creates, answers, Image, Turn, quiet_entry, thread_at, thread_turn, breaks_hold, may_be_last, image_after, work_done, main_id, main_row, the_job, job-charged, family-charged, is_of_process, entries_of, held-quiet, own, Plain, family-alone, row-at, SeesTheSameButPeriod, renamed_label, renamed}
+use Rattle.dk_impact.proofs.Names.{ℕ, ◌≡◌, ◌-◌, ◌+◌, Bool, true, false, cond, not, ◌&&◌, ◌||◌, eqb, leb, ltb, List, [], ◌∷◌, length, map, Option, Some, None, sym, ap, ◌∙◌, subst, filter, sum_by, list_any, Configuration, period, main_level, max_level, slots, budget, may_ask, is_user, FaultKind, Phase, Work, Choice, Label, Event, Refusal, Entry, is_of, is_budget_of, is_out_of, Thread, family, is_main, is_void, is_ended_by, Job, body_left, thread_body_left, Hold, aged, given_back, held_after, held_by, is_held, is_holding, is_innermost, innermost_left, label_of, next_serial, first_refusal, standing_children, least_share, create_refusal, delete_refusal, lock_refusal, slack_refusal, is_running_child, Context, Outcome, KernelCall, Tick, reg, Effect, Reply, Child, effect, call_effect, or_refused, Image, Turn, quiet_entry, thread_at, thread_turn, breaks_hold, may_be_last, image_after, work_done, main_id, main_row, the_job, job-charged, family-charged, is_of_process, entries_of, held-quiet, own, Plain, family-alone, row-at, SeesTheSameButPeriod, renamed_label, renamed, nat_tests, arith}
 use Rattle.std.specs.Prelude.{◌*◌, ◌/◌}
 
 -- each mutex that is held is one that the process may lock
@@ -12,14 +12,11 @@ users-aged c p [] users = tt
 users-aged c p (h ∷ held) users = (users.0, users-aged c p held users.1)
 
 users-if : (c : Configuration) (p : ℕ) (b : Bool) (one other : List Hold) → Users c p one → Users c p other → Users c p (cond b one other)
-users-if c p true one other first second = first
-users-if c p false one other first second = second
+users-if c p b one other first second = grind (arith, nat_tests)
 
 users-back : (c : Configuration) (p m : ℕ) (held : List Hold) → Users c p held → Users c p (given_back m held)
 users-back c p m [] users = tt
-users-back c p m (h ∷ held) users =
-    let rest = users-back c p m held users.1 in
-    users-if c p (not (eqb h.mutex m)) (h ∷ given_back m held) (given_back m held) (users.0, rest) rest
+users-back c p m (h ∷ held) users = grind (arith, nat_tests, users-if, users-back c p m held)
 
 -- an event of a process that may have neither children nor slack: a lock is of a mutex that it may lock
 abbrev pub IsOwnEvent : Configuration → ℕ → Option Event → Type 0
@@ -29,18 +26,11 @@ IsOwnEvent c p (Some (Event.Lock m)) = is_user c m p ≡ true
 IsOwnEvent c p _ = Unit {0}
 
 users-after : (c : Configuration) (p : ℕ) (event : Option Event) (held : List Hold) → IsOwnEvent c p event → Users c p held → Users c p (held_after event held)
-users-after c p None held mine users = users
-users-after c p (Some (Event.Lock m)) held mine users = (mine, users-back c p m held users)
-users-after c p (Some (Event.Unlock m)) held mine users = users-back c p m held users
-users-after c p (Some (Event.Create serial level quota)) held mine users = absurd mine
-users-after c p (Some (Event.Slack amount)) held mine users = absurd mine
-users-after c p (Some event) held mine users = users
+users-after c p event held mine users = grind (arith, nat_tests, users-back)
 
 pub users-next : (c : Configuration) (p : ℕ) (ends of : Bool) (event : Option Event) (held : List Hold) → IsOwnEvent c p event → Users c p held
     → Users c p (cond ends [] (cond of (held_after event (map aged held)) held))
-users-next c p ends of event held mine users =
-    users-if c p ends [] (cond of (held_after event (map aged held)) held) tt
-    (users-if c p of (held_after event (map aged held)) held (users-after c p event (map aged held) mine (users-aged c p held users)) users)
+users-next c p ends of event held mine users = grind (arith, nat_tests, users-if, users-after, users-aged)
 
 -- two labels that are the same but for the process
 pub record Whose (p p' : ℕ) (label label' : Label) : Type 0 where
@@ -56,9 +46,7 @@ charged p label j =
     the_job j.share (cond (is_budget_of (main_id p) (quiet_entry label)) 1 0 + j.used) (cond (is_out_of (main_id p) (quiet_entry label)) 1 0 + j.out_ticks) j.closed
 
 charged-same : (p p' : ℕ) (label label' : Label) (j : Job) → Whose p p' label label' → charged p label j ≡ charged p' label' j
-charged-same p p' label label' j whose =
-    ap (λ b. the_job j.share (cond b 1 0 + j.used) (cond (is_out_of (main_id p) (quiet_entry label)) 1 0 + j.out_ticks) j.closed) whose.budget
-    ∙ ap (λ b. the_job j.share (cond (is_budget_of (main_id p') (quiet_entry label')) 1 0 + j.used) (cond b 1 0 + j.out_ticks) j.closed) whose.out
+charged-same p p' label label' j whose = grind (arith, nat_tests, the_job, main_id)
 
 abbrev create_with : Configuration → ℕ → ℕ → ℕ → ℕ → ℕ → ℕ → List Thread → Option Refusal
 create_with c p few level quota entry instructions children =
@@ -77,9 +65,7 @@ no_child least most level entry instructions =
     cond (ltb level least || ltb most level) (Some Refusal.Level) (cond (leb instructions entry) (Some Refusal.Entry) (Some Refusal.Slots))
 
 is-some : (a b : Bool) (r s t : Refusal) → cond a (Some r) (cond b (Some s) (Some t)) ≡ None → ⊥
-is-some true b r s t none = cc
-is-some false true r s t none = cc
-is-some false false r s t none = cc
+is-some a b r s t none = grind (arith, nat_tests)
 
 abbrev delete_with : ℕ → List Thread → Option Refusal
 delete_with serial family = first_refusal ((false, Refusal.NotMain) ∷ (not (list_any (is_running_child serial) family), Refusal.NoThread) ∷ [])
@@ -98,12 +84,10 @@ lock_by user longest left_inner m left held =
 
 lock-longest : (user : Bool) (one other left_inner m left : ℕ) (held : List Hold) → (user ≡ true → one ≡ other)
     → lock_by user one left_inner m left held ≡ lock_by user other left_inner m left held
-lock-longest true one other left_inner m left held same = ap (λ k. lock_by true k left_inner m left held) (same refl)
-lock-longest false one other left_inner m left held same = refl
+lock-longest user one other left_inner m left held same = grind (arith, nat_tests)
 
 lock-user : (user : Bool) (longest left_inner m left : ℕ) (held : List Hold) → lock_by user longest left_inner m left held ≡ None → user ≡ true
-lock-user true longest left_inner m left held none = refl
-lock-user false longest left_inner m left held none = cc
+lock-user user longest left_inner m left held none = grind (arith, nat_tests)
 
 abbrev unlock_with : ℕ → List Hold → Option Refusal
 unlock_with m held = first_refusal ((not (is_held m held), Refusal.NotHeld) ∷ (not (is_innermost m held), Refusal.NotLast) ∷ [])
@@ -125,9 +109,7 @@ module _ (c : Configuration) (p : ℕ) (past : List Entry) (plain : Plain (entri
   create-none : (level quota entry instructions : ℕ)
       → create_refusal c (length past) (quiet_entry label ∷ past) (main_row c p past) level quota entry instructions
       ≡ no_child (main_level c p) (max_level c p) level entry instructions
-  create-none level quota entry instructions =
-      ap (create_with c p (slots c p) level quota entry instructions) standing-none
-      ∙ ap (λ k. create_with c p k level quota entry instructions []) few
+  create-none level quota entry instructions = grind (arith, nat_tests, standing-none)
 
   delete-none : (serial : ℕ) → delete_refusal c (quiet_entry label ∷ past) (main_row c p past) serial ≡ no_thread
   delete-none serial = ap (delete_with serial) family-charged-alone
@@ -140,35 +122,15 @@ module _ (c : Configuration) (p : ℕ) (past : List Entry) (plain : Plain (entri
 
   by-refusal : (r : Option Refusal) (event : Event) (reply : Option Reply) (child : Option Child) → (r ≡ None → IsOwnEvent c p (Some event))
       → IsOwnEvent c p (or_refused r (record { event = Some event; reply = reply; child = child })).event
-  by-refusal None event reply child given = given refl
-  by-refusal (Some why) event reply child given = tt
+  by-refusal r event reply child given = grind (arith, nat_tests)
 
   call-own : (instructions : ℕ) (context : Context) (call : KernelCall)
       → IsOwnEvent c p (call_effect c (length past) (quiet_entry label ∷ past) (main_row c p past) instructions context call).event
-  call-own instructions context KernelCall.Wait = by-refusal _ Event.Wait _ _ (λ none. tt)
-  call-own instructions context KernelCall.Exit = tt
-  call-own instructions context KernelCall.Create =
-      by-refusal _ (Event.Create (next_serial c (quiet_entry label ∷ past) p) (reg context 1) (reg context 2)) _ _
-      (λ none. is-some (ltb (reg context 1) (main_level c p) || ltb (max_level c p) (reg context 1)) (leb instructions (reg context 3)) Refusal.Level Refusal.Entry Refusal.Slots
-      (sym (create-none (reg context 1) (reg context 2) (reg context 3) instructions) ∙ none))
-  call-own instructions context KernelCall.Delete = by-refusal _ (Event.Delete (reg context 1)) _ _ (λ none. tt)
-  call-own instructions context KernelCall.Lock =
-      by-refusal _ (Event.Lock (reg context 1)) _ _
-      (λ none. lock-user (is_user c (reg context 1) p) (longest_hold c (reg context 1)) (innermost_left c (held_by (main_id p) (quiet_entry label ∷ past))) (reg context 1)
-      (thread_body_left c (length past) (quiet_entry label ∷ past) (main_row c p past)) (held_by (main_id p) (quiet_entry label ∷ past)) none)
-  call-own instructions context KernelCall.Unlock = by-refusal _ (Event.Unlock (reg context 1)) _ _ (λ none. tt)
-  call-own instructions context KernelCall.Slack =
-      by-refusal _ (Event.Slack (reg context 1)) _ _ (λ none. (let never : Some Refusal.NoRight ≡ None = sym (slack-none (reg context 1)) ∙ none in cc))
-  call-own instructions context KernelCall.Put = tt
-  call-own instructions context KernelCall.Time = tt
-  call-own instructions context KernelCall.Left = tt
+  call-own instructions context call = grind (arith, nat_tests, by-refusal, is-some, create-none, lock-user, main_id, main_row, slack-none)
 
   pub effect-own : (instructions : ℕ) (context : Context) (outcome : Outcome)
       → IsOwnEvent c p (effect c (length past) (quiet_entry label ∷ past) (main_row c p past) instructions context outcome).event
-  effect-own instructions context Outcome.Ran = tt
-  effect-own instructions context Outcome.InCall = tt
-  effect-own instructions context (Outcome.Fault kind) = tt
-  effect-own instructions context (Outcome.CallDone call) = call-own instructions context call
+  effect-own instructions context outcome = grind (arith, nat_tests, call-own)
 
 -- the numbers of the levels are the same in both configurations
 abbrev pub SameLevels : Configuration → ℕ → Configuration → ℕ → Type 0
@@ -181,21 +143,14 @@ module _ (c c' : Configuration) (p p' : ℕ) (program : List ℕ) (sees : SeesTh
     (held : held_by (main_id p) one ≡ held_by (main_id p') other) (users : Users c p (held_by (main_id p) one))
     (plain : Plain (entries_of p one)) (plain' : Plain (entries_of p' other)) where
   inner-same : (hs : List Hold) → Users c p hs → innermost_left c hs ≡ innermost_left c' hs
-  inner-same [] mine = refl
-  inner-same (h ∷ hs) mine = ap (λ k. k - h.ticks) (sees.holds h.mutex mine.0)
+  inner-same hs mine = grind (arith, nat_tests)
 
   module _ (label label' : Label) (whose : Whose p p' label label') where
     held-charged : held_by (main_id p) (quiet_entry label ∷ one) ≡ held_by (main_id p') (quiet_entry label' ∷ other)
-    held-charged =
-        held-quiet (main_id p) label one
-        ∙ ap (λ hs. cond (is_of (main_id p) (quiet_entry label)) (map aged hs) hs) held
-        ∙ ap (λ b. cond b (map aged (held_by (main_id p') other)) (held_by (main_id p') other)) whose.of
-        ∙ sym (held-quiet (main_id p') label' other)
+    held-charged = grind (arith, nat_tests, held-quiet, main_id)
 
     users-charged : Users c p (held_by (main_id p) (quiet_entry label ∷ one))
-    users-charged =
-        subst (Users c p) (sym (held-quiet (main_id p) label one))
-        (users-if c p (is_of (main_id p) (quiet_entry label)) (map aged (held_by (main_id p) one)) (held_by (main_id p) one) (users-aged c p (held_by (main_id p) one) users) users)
+    users-charged = grind (arith, nat_tests, held-quiet, main_id, users-if, users-aged)
 
     left-charged : thread_body_left c (length one) (quiet_entry label ∷ one) (main_row c p one)
         ≡ thread_body_left c' (length other) (quiet_entry label' ∷ other) (main_row c' p' other)
@@ -209,55 +164,24 @@ module _ (c c' : Configuration) (p p' : ℕ) (program : List ℕ) (sees : SeesTh
     create-same : (level quota entry instructions : ℕ) → SameLevels c p c' p'
         → create_refusal c (length one) (quiet_entry label ∷ one) (main_row c p one) level quota entry instructions
         ≡ create_refusal c' (length other) (quiet_entry label' ∷ other) (main_row c' p' other) level quota entry instructions
-    create-same level quota entry instructions levels =
-        create-none c p one plain few right label level quota entry instructions
-        ∙ ap (λ k. no_child k (max_level c p) level entry instructions) levels.0
-        ∙ ap (λ k. no_child (main_level c' p') k level entry instructions) levels.1
-        ∙ sym (create-none c' p' other plain' few' right' label' level quota entry instructions)
+    create-same level quota entry instructions levels = grind (arith, nat_tests, create-none)
 
     delete-same : (serial : ℕ) → delete_refusal c (quiet_entry label ∷ one) (main_row c p one) serial ≡ delete_refusal c' (quiet_entry label' ∷ other) (main_row c' p' other) serial
     delete-same serial = delete-none c p one plain few right label serial ∙ sym (delete-none c' p' other plain' few' right' label' serial)
 
     lock-same : (m : ℕ) → lock_refusal c (length one) (quiet_entry label ∷ one) (main_row c p one) m ≡ lock_refusal c' (length other) (quiet_entry label' ∷ other) (main_row c' p' other) m
-    lock-same m =
-        let hs = held_by (main_id p) (quiet_entry label ∷ one) in
-        let hs' = held_by (main_id p') (quiet_entry label' ∷ other) in
-        let left = thread_body_left c (length one) (quiet_entry label ∷ one) (main_row c p one) in
-        let left' = thread_body_left c' (length other) (quiet_entry label' ∷ other) (main_row c' p' other) in
-        lock-longest (is_user c m p) (longest_hold c m) (longest_hold c' m) (innermost_left c hs) m left hs (sees.holds m)
-        ∙ ap (λ b. lock_by b (longest_hold c' m) (innermost_left c hs) m left hs) (sees.mutexes m)
-        ∙ ap (λ k. lock_by (is_user c' m p') (longest_hold c' m) k m left hs) (inner-same hs users-charged)
-        ∙ ap (λ k. lock_by (is_user c' m p') (longest_hold c' m) (innermost_left c' hs) m k hs) left-charged
-        ∙ ap (λ (xs : List Hold). lock_by (is_user c' m p') (longest_hold c' m) (innermost_left c' xs) m left' xs) held-charged
+    lock-same m = grind (arith, nat_tests, main_id, main_row, lock-longest, inner-same, users-charged, left-charged, held-charged)
 
     call-same : (instructions : ℕ) (context : Context) (call : KernelCall) → (call ≡ KernelCall.Time → ⊥) → (call ≡ KernelCall.Create → SameLevels c p c' p')
         → call_effect c (length one) (quiet_entry label ∷ one) (main_row c p one) instructions context call
         ≡ call_effect c' (length other) (quiet_entry label' ∷ other) (main_row c' p' other) instructions context call
-    call-same instructions context KernelCall.Wait no_tick levels = ap (λ hs. or_refused (wait_with hs) (done Event.Wait)) held-charged
-    call-same instructions context KernelCall.Exit no_tick levels = refl
-    call-same instructions context KernelCall.Create no_tick levels =
-        ap (λ r. or_refused r (creates (next_serial c (quiet_entry label ∷ one) p) context)) (create-same (reg context 1) (reg context 2) (reg context 3) instructions (levels refl))
-        ∙ ap (λ s. or_refused (create_refusal c' (length other) (quiet_entry label' ∷ other) (main_row c' p' other) (reg context 1) (reg context 2) (reg context 3) instructions) (creates s context))
-        (serial-one c p one plain few right label ∙ sym (serial-one c' p' other plain' few' right' label'))
-    call-same instructions context KernelCall.Delete no_tick levels = ap (λ r. or_refused r (done (Event.Delete (reg context 1)))) (delete-same (reg context 1))
-    call-same instructions context KernelCall.Lock no_tick levels = ap (λ r. or_refused r (done (Event.Lock (reg context 1)))) (lock-same (reg context 1))
-    call-same instructions context KernelCall.Unlock no_tick levels = ap (λ hs. or_refused (unlock_with (reg context 1) hs) (done (Event.Unlock (reg context 1)))) held-charged
-    call-same instructions context KernelCall.Slack no_tick levels =
-        ap (λ r. or_refused r (done (Event.Slack (reg context 1))))
-        (slack-none c p one plain few right label (reg context 1) ∙ sym (slack-none c' p' other plain' few' right' label' (reg context 1)))
-    call-same instructions context KernelCall.Put no_tick levels = refl
-    call-same instructions context KernelCall.Time no_tick levels = absurd (no_tick refl)
-    call-same instructions context KernelCall.Left no_tick levels = ap answers left-charged
+    call-same instructions context call no_tick levels = grind (arith, nat_tests, held-charged, create-same, main_row, serial-one, delete-same, lock-same, slack-none, left-charged)
 
     effect-same : (instructions : ℕ) (context : Context) (outcome : Outcome)
         → (outcome ≡ Outcome.CallDone KernelCall.Time → ⊥) → (outcome ≡ Outcome.CallDone KernelCall.Create → SameLevels c p c' p')
         → effect c (length one) (quiet_entry label ∷ one) (main_row c p one) instructions context outcome
         ≡ effect c' (length other) (quiet_entry label' ∷ other) (main_row c' p' other) instructions context outcome
-    effect-same instructions context Outcome.Ran no_tick levels = refl
-    effect-same instructions context Outcome.InCall no_tick levels = refl
-    effect-same instructions context (Outcome.Fault kind) no_tick levels = refl
-    effect-same instructions context (Outcome.CallDone call) no_tick levels =
-        call-same instructions context call (λ e. no_tick (ap Outcome.CallDone e)) (λ e. levels (ap Outcome.CallDone e))
+    effect-same instructions context outcome no_tick levels = grind (arith, nat_tests, call-same)
 
 abbrev turn_by : Bool → Label → Image → Tick → Effect → Turn
 turn_by breaks label image tick given =
@@ -274,10 +198,7 @@ pub record Turns (c : Configuration) (p p' : ℕ) (t t' : Turn) : Type 0 where
 
 turns-by : (c : Configuration) (p p' : ℕ) (breaks : Bool) (label label' : Label) (image : Image) (tick : Tick) (given : Effect) → Whose p p' label label'
     → IsOwnEvent c p given.event → Turns c p p' (turn_by breaks label image tick given) (turn_by breaks label' image tick given)
-turns-by c p p' true label label' image tick given whose mine =
-    record { whose = whose; renames = ap (λ l. (let e : Entry = record { label = l; event = Some (Event.Fault FaultKind.Hold) } in e)) whose.renames; image = refl; event = tt }
-turns-by c p p' false label label' image tick given whose mine =
-    record { whose = whose; renames = ap (λ l. (let e : Entry = record { label = l; event = given.event } in e)) whose.renames; image = refl; event = mine }
+turns-by c p p' breaks label label' image tick given whose mine = grind (arith, nat_tests)
 
 -- the body's turn is the same over both pasts but for the process
 pub turns : (c c' : Configuration) (p p' : ℕ) (program : List ℕ) (sees : SeesTheSameButPeriod c p c' p' program)

@@ -1,5 +1,5 @@
 -- By itself a process has nothing left once as many ticks of a window are over as its budget has, and rests to the window's end.
-use Rattle.dk_impact.proofs.Names.{ℕ, zero, suc, ◌≡◌, ◌+◌, ◌-◌, ◌*◌, ◌%◌, ◌<◌, ◌≤◌, inl, inr, Bool, true, false, cond, not, ◌&&◌, ◌||◌, List, ◌∷◌, refl, sym, ap, ◌∙◌, subst, arith, cases_lt, add-mod-mod, mod-eq_of_lt, mod_self, Configuration, period, main_level, budget, Phase, Work, Choice, Label, Entry, payer, is_out, is_budget_of, is_out_of, does, is_wait, is_end, Job, phase, rem, label_of, spent, main_id, the_job, budget-labels, spent-payer, InOrder, is_out_phase, charge-order, fresh-order, same-self, World, Turn, quiet_entry, step_of, thread_turn, tick_in, work_done, alone, choice_alone, step_alone, entries_of, Own, own, booked, after, fresh, Plain, booked-after, after-other, own-within, own-begins, alone-works, alone-rests, turn-label, alone-long, tail, entry-by, on, on-is}
+use Rattle.dk_impact.proofs.Names.{ℕ, zero, suc, ◌≡◌, ◌+◌, ◌-◌, ◌*◌, ◌%◌, ◌<◌, ◌≤◌, inl, inr, Bool, true, false, cond, not, ◌&&◌, ◌||◌, List, ◌∷◌, refl, sym, ap, ◌∙◌, subst, arith, cases_lt, add-mod-mod, mod-eq_of_lt, mod_self, Configuration, period, main_level, budget, Phase, Work, Choice, Label, Entry, payer, is_out, is_budget_of, is_out_of, does, is_wait, is_end, Job, phase, rem, label_of, spent, main_id, the_job, budget-labels, spent-payer, InOrder, is_out_phase, charge-order, fresh-order, same-self, World, Turn, quiet_entry, step_of, thread_turn, tick_in, work_done, alone, choice_alone, step_alone, entries_of, Own, own, booked, after, fresh, Plain, booked-after, after-other, own-within, own-begins, alone-works, alone-rests, turn-label, alone-long, tail, entry-by, on, on-is, nat_tests}
 
 -- where in its window the j-th tick after the start of a window is
 pub place : (P m j : ℕ) → m % P ≡ 0 → j < P → on j m % P ≡ j
@@ -42,16 +42,10 @@ main-label c p w Phase.Body e is =
     (work_done tick.outcome, ap (λ (i : Entry). i.label) (sym same) ∙ turn-label c w.past choice (main_id p) (w.images p) tick)
 
 out-labelled : (x : ℕ) (next : Phase) (work : Work) → cond (is_out (label_of (Choice.Budget (main_id x) next) work)) 1 0 ≡ is_out_phase next
-out-labelled x Phase.In work = refl
-out-labelled x Phase.Body Work.In = refl
-out-labelled x Phase.Body Work.Run = refl
-out-labelled x Phase.Body Work.Call = refl
-out-labelled x Phase.Out work = refl
+out-labelled x next work = grind (arith, nat_tests)
 
 stays-shut : (a b k : Bool) → k ≡ true → (a || (b || k)) ≡ true
-stays-shut true b k shut = refl
-stays-shut false true k shut = refl
-stays-shut false false k shut = shut
+stays-shut a b k shut = grind (arith, nat_tests)
 
 abbrev Ordered : ℕ → Job → Type 0
 Ordered W j = InOrder W j.share j.used j.out_ticks j.closed
@@ -69,8 +63,7 @@ charged W s u o shut waits ends p e next work order some is label =
     let pays = ap payer label ∙ (budget-labels (main_id p) next work).0 in
     let one : spent (main_id p) e ≡ 1 = spent-payer (main_id p) e pays in
     let mine : is_budget_of (main_id p) e ≡ true = rw pays (same-self (main_id p)) in
-    let out : cond (is_out_of (main_id p) e) 1 0 ≡ is_out_phase next =
-    ap (λ b. cond (b && is_out e.label) 1 0) mine ∙ ap (λ l. cond (is_out l) 1 0) label ∙ out-labelled p next work in
+    let out : cond (is_out_of (main_id p) e) 1 0 ≡ is_out_phase next = grind (arith, nat_tests, out-labelled) in
     let after = charge-order W s u o shut (waits || (ends || shut)) (spent (main_id p) e) (cond (is_out_of (main_id p) e) 1 0) order
     (stays-shut waits ends shut) (inr (one, some, out ∙ ap is_out_phase is)) in
     let lower = after.1 in
@@ -82,8 +75,7 @@ record IsLeft (W share : ℕ) (j : Job) (ticks : ℕ) : Type 0 where
   few : rem W j + ticks ≤ share
 
 first-left : (W share : ℕ) (ended : Bool) → 2 * W + 1 ≤ share → IsLeft W share (the_job (cond ended 0 share) 0 0 false) 0
-first-left W share true room = record { order = fresh-order W 0 (inl refl); few = omega arith }
-first-left W share false room = record { order = fresh-order W share (inr room); few = omega arith }
+first-left W share ended room = grind (arith, nat_tests, fresh-order)
 
 module _ (c : Configuration) (p : ℕ) (program : List ℕ) (positive : 0 < period c (main_level c p)) where
   abbrev v : ℕ → World
@@ -120,8 +112,7 @@ module _ (c : Configuration) (p : ℕ) (program : List ℕ) (positive : 0 < peri
     leaves n e is = booked-after c p positive e (v n).past (subst (λ es. Plain (entries_of p es)) is (plains (suc n)))
 
     goes-on : (n : ℕ) (e : Entry) → (v (suc n)).past ≡ e ∷ (v n).past → suc n % P ≡ suc (n % P) → own c p (v (suc n)).past ≡ booked c p e (v n).past
-    goes-on n e is within =
-        ap (own c p) is ∙ own-within c p positive e (v n).past (subst (λ k. suc k % P ≡ suc (k % P)) (sym (alone-long c p program n)) within)
+    goes-on n e is within = grind (arith, nat_tests, own, own-within, alone-long)
 
     begins-anew : (n : ℕ) (e : Entry) → (v (suc n)).past ≡ e ∷ (v n).past → suc n % P ≡ 0 → own c p (v (suc n)).past ≡ fresh c p positive (booked c p e (v n).past)
     begins-anew n e is begins =

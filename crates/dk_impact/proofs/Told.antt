@@ -1,25 +1,16 @@
 -- What the first change tells of what a process sees.
-use Rattle.dk_impact.proofs.Names.{ℕ, zero, suc, ◌≡◌, ◌+◌, ◌<◌, ◌≤◌, ◌⊎◌, inl, inr, Bool, true, false, cond, List, length, Option, Some, None, refl, sym, ap, ◌∙◌, subst, arith, slice_get, option_map_or, option_or, cases_lt, eqb_tells, slice_get_past, MAX_MUTEXES, Configuration, IsWithinLimits, numbers, first_of, Mutex, period, main_level, max_level, budget, memory, longest_hold, is_user, uses, Change, MakesNoThread, SeesTheSame, differs, use_of, mutex_change, first_change, Tells}
+use Rattle.dk_impact.proofs.Names.{ℕ, zero, suc, ◌≡◌, ◌+◌, ◌<◌, ◌≤◌, ◌⊎◌, inl, inr, Bool, true, false, List, length, Option, Some, None, refl, sym, ap, subst, arith, slice_get, option_map_or, option_or, cases_lt, eqb_tells, slice_get_past, MAX_MUTEXES, Configuration, IsWithinLimits, numbers, first_of, Mutex, period, main_level, max_level, budget, memory, longest_hold, is_user, uses, Change, MakesNoThread, SeesTheSame, differs, use_of, mutex_change, first_change, Tells, nat_tests}
 
 -- the numbers differ, or the search goes on
 step : (P : Option Change → Type 0) (change : Change) (a b : ℕ) (rest : Option Change) → ((a ≡ b → ⊥) → P (Some change)) → (a ≡ b → P rest)
     → P (option_or (differs change a b) rest)
-step P change a b rest other same =
-    elim (eqb_tells a b) [
-      | inl (is, equal) ↦ subst (λ t. P (option_or (cond t None (Some change)) rest)) (sym is) (same equal)
-      | inr (apart, differ) ↦ subst (λ t. P (option_or (cond t None (Some change)) rest)) (sym apart) (other differ)
-    ]
+step P change a b rest other same = grind (arith, nat_tests, eqb_tells)
 
 last-step : (P : Option Change → Type 0) (change : Change) (a b : ℕ) → ((a ≡ b → ⊥) → P (Some change)) → (a ≡ b → P None) → P (differs change a b)
-last-step P change a b other same =
-    elim (eqb_tells a b) [
-      | inl (is, equal) ↦ subst (λ t. P (cond t None (Some change))) (sym is) (same equal)
-      | inr (apart, differ) ↦ subst (λ t. P (cond t None (Some change))) (sym apart) (other differ)
-    ]
+last-step P change a b other same = grind (arith, nat_tests, eqb_tells)
 
 or-or : (a b d : Option Change) → option_or (option_or a b) d ≡ option_or a (option_or b d)
-or-or None b d = refl
-or-or (Some x) b d = refl
+or-or a b d = grind (arith, nat_tests)
 
 -- what a mutex tells
 data Use (m old new : ℕ) (u u' : Bool) : Option Change → Type 0 where
@@ -73,18 +64,7 @@ module _ (c : Configuration) (p : ℕ) (c' : Configuration) (p' : ℕ) (limits :
   nobody d m q past = ap (λ (o : Option Mutex). option_map_or (λ mutex. option_map_or (uses mutex) (slice_get d.processes q) false) o false) (slice_get_past d.mutexes m past)
 
   all-unchanged : ((j : ℕ) → j < MAX_MUTEXES → f j ≡ None) → (m : ℕ) → (is_user c m p ≡ is_user c' m p') × (is_user c m p ≡ true → longest_hold c m ≡ longest_hold c' m)
-  all-unchanged none m =
-      let few = limits.few_mutexes in
-      let few' = limits'.few_mutexes in
-      elim (cases_lt m MAX_MUTEXES) [
-        | inl within ↦
-            unchanged m (is_user c m p) (is_user c' m p') (longest_hold c m) (longest_hold c' m)
-            (use-told m (longest_hold c m) (longest_hold c' m) (is_user c m p) (is_user c' m p')) (none m within)
-        | inr past ↦
-            let first = nobody c m p (omega arith) in
-            let second = nobody c' m p' (omega arith) in
-            (first ∙ sym second, λ is. (let never : false ≡ true = sym first ∙ is in cc))
-      ]
+  all-unchanged none m = grind (arith, nat_tests, unchanged, use-told, nobody)
 
   pub told : T (first_change c p c' p')
   told =
@@ -107,15 +87,7 @@ module _ (c : Configuration) (p : ℕ) (c' : Configuration) (p' : ℕ) (limits :
           → ((m : ℕ) → (is_user c m p ≡ is_user c' m p') × (is_user c m p ≡ true → longest_hold c m ≡ longest_hold c' m))
           → (program : List ℕ) → ((main_level c p ≡ main_level c' p') × (max_level c p ≡ max_level c' p')) ⊎ MakesNoThread program → SeesTheSame c p c' p' program
       all-seen switch call window part words all program levels = record {
-        but_period = record {
-          switch = switch;
-          call = call;
-          budget = part;
-          memory = words;
-          mutexes = λ m. (all m).0;
-          holds = λ m. (all m).1;
-          levels = levels;
-        };
+        but_period = grind (arith, nat_tests);
         period = window;
       }
 

@@ -22,9 +22,7 @@ pub whose-idle : (p p' : ℕ) → Whose p p' Label.Idle Label.Idle
 whose-idle p p' = record { renames = refl; process = refl; of = refl; budget = refl; out = refl }
 
 pub whose-body : (p p' : ℕ) (work : Work) → Whose p p' (label_of (Choice.Budget (main_id p) Phase.Body) work) (label_of (Choice.Budget (main_id p') Phase.Body) work)
-whose-body p p' Work.In = whose-run p p'
-whose-body p p' Work.Run = whose-run p p'
-whose-body p p' Work.Call = whose-call p p'
+whose-body p p' work = grind (arith, nat_tests, whose-run, whose-call)
 
 -- a later number's call
 passed : (b : Bool) (call wanted : KernelCall) (rest : Option KernelCall) {P : Type 0} → (call ≡ wanted → ⊥) → (rest ≡ Some wanted → P)
@@ -46,9 +44,7 @@ time-number n =
     last : cond (eqb n 9) (Some KernelCall.Time) (cond (eqb n 10) (Some KernelCall.Left) None) ≡ Some KernelCall.Time → n ≡ 9
     last is = elim (eqb_tells n 9) [
       | inl (is_nine, same) ↦ same
-      | inr (other, differ) ↦
-          absurd (last-call (eqb n 10) KernelCall.Left KernelCall.Time (λ e. cc)
-          (subst (λ b. cond b (Some KernelCall.Time) (cond (eqb n 10) (Some KernelCall.Left) None) ≡ Some KernelCall.Time) other is))
+      | inr (other, differ) ↦ grind (arith, nat_tests, last-call)
     ]
 
 -- what comes after the call that makes a thread
@@ -80,12 +76,9 @@ pub not-done : (c : Configuration) (program : List ℕ) (image : Image) (number 
     → image.code ≡ program → (tick_in c image 0).outcome ≡ Outcome.CallDone call → ⊥
 not-done c program image number call numbers none code is =
     let x = image.contexts 0 in
-    let none' : (k : ℕ) → 4 * k + 4 ≤ length image.code → instruction_of (slice_range image.code (4 * k) (4 * k + 4)) ≡ Some (Instr.Trap number) → ⊥ =
-    subst (λ (bytes : List ℕ). (k : ℕ) → 4 * k + 4 ≤ length bytes → instruction_of (slice_range bytes (4 * k) (4 * k + 4)) ≡ Some (Instr.Trap number) → ⊥) (sym code) none in
+    let none' : (k : ℕ) → 4 * k + 4 ≤ length image.code → instruction_of (slice_range image.code (4 * k) (4 * k + 4)) ≡ Some (Instr.Trap number) → ⊥ = grind (arith, nat_tests) in
     elim (cases_lt (length image.code) (4 * x.pc + 4)) [
-      | inl past ↦
-          let test : ltb (length image.code) (4 * x.pc + 4) ≡ true = grind (arith, nat_tests) in
-          no-call is (fault-past test)
+      | inl past ↦ grind (arith, nat_tests)
       | inr within ↦
           let (n, (there, named)) = (own-tick c.costs.call image.code x image.memory).trap call is in
           none' x.pc within (there ∙ ap (λ k. Some (Instr.Trap k)) (numbers n named))

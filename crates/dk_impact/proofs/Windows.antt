@@ -1,13 +1,10 @@
 -- The entries of a process in whole windows of two runs that number it differently.
-use Rattle.dk_impact.proofs.Names.{ℕ, zero, suc, ◌≡◌, ◌+◌, ◌*◌, List, [], ◌∷◌, ◌++◌, map, refl, sym, ap, ◌∙◌, subst, arith, take, append_cancel_right, filter-append, Configuration, period, main_level, Entry, chosen, trace, world, entries_of, is_of_process, own_window, entry-by, on, on-is, renamed, IsSameAcross}
+use Rattle.dk_impact.proofs.Names.{ℕ, zero, suc, ◌≡◌, ◌+◌, ◌*◌, List, [], ◌∷◌, ◌++◌, map, refl, ap, ◌∙◌, subst, arith, take, append_cancel_right, filter-append, Configuration, period, main_level, Entry, trace, world, entries_of, is_of_process, own_window, entry-by, on, on-is, renamed, IsSameAcross, nat_tests}
 
 -- the entries of the last ticks stand before those up to an earlier tick
 last-ticks : (c : Configuration) (programs : List (List ℕ)) (t n : ℕ) → trace c programs (on n t) ≡ take n (trace c programs (on n t)) ++ trace c programs t
 last-ticks c programs t zero = refl
-last-ticks c programs t (suc n) =
-    let w = world c programs (on n t) in
-    let grown = entry-by c w (chosen c w.past) in
-    subst (λ es. es ≡ take (suc n) es ++ trace c programs t) (sym grown.1) (ap (λ es. grown.0 ∷ es) (last-ticks c programs t n))
+last-ticks c programs t (suc n) = grind (arith, nat_tests, on, entry-by, last-ticks c programs t n)
 
 -- so those of a process are parted
 parted : (c : Configuration) (programs : List (List ℕ)) (p t n : ℕ)
@@ -25,15 +22,7 @@ map-parts f (e ∷ a) b = ap (λ es. f e ∷ es) (map-parts f a b)
 pub windows-across : (c c' : Configuration) (programs others : List (List ℕ)) (p p' t n t' n' : ℕ)
     → IsSameAcross p p' (world c programs t) (world c' others t') → IsSameAcross p p' (world c programs (t + n)) (world c' others (t' + n'))
     → map (renamed p') (entries_of p (take n (trace c programs (t + n)))) ≡ entries_of p' (take n' (trace c' others (t' + n')))
-windows-across c c' programs others p p' t n t' n' here there =
-    let last = entries_of p (take n (trace c programs (t + n))) in
-    let before = entries_of p (trace c programs t) in
-    append_cancel_right (map (renamed p') last) (entries_of p' (take n' (trace c' others (t' + n')))) (map (renamed p') before)
-    (sym (map-parts (renamed p') last before)
-    ∙ ap (map (renamed p')) (sym (parted c programs p t n))
-    ∙ there.entries
-    ∙ parted c' others p' t' n'
-    ∙ ap (λ es. entries_of p' (take n' (trace c' others (t' + n'))) ++ es) (sym here.entries))
+windows-across c c' programs others p p' t n t' n' here there = grind (arith, nat_tests, append_cancel_right, map-parts, parted)
 
 next-window : (P k : ℕ) → suc k * P ≡ k * P + P
 next-window P k = grind arith
@@ -43,9 +32,4 @@ pub windows-any-period : (c c' : Configuration) (programs others : List (List �
     → IsSameAcross p p' (world c programs (k * period c (main_level c p))) (world c' others (k * period c' (main_level c' p')))
     → IsSameAcross p p' (world c programs (suc k * period c (main_level c p))) (world c' others (suc k * period c' (main_level c' p')))
     → map (renamed p') (own_window c programs p (k * period c (main_level c p))) ≡ own_window c' others p' (k * period c' (main_level c' p'))
-windows-any-period c c' programs others p p' k here there =
-    let P = period c (main_level c p) in
-    let P' = period c' (main_level c' p') in
-    windows-across c c' programs others p p' (k * P) P (k * P') P' here
-    (subst (λ n. IsSameAcross p p' (world c programs n) (world c' others (k * P' + P'))) (next-window P k)
-    (subst (λ n. IsSameAcross p p' (world c programs (suc k * P)) (world c' others n)) (next-window P' k) there))
+windows-any-period c c' programs others p p' k here there = grind (arith, nat_tests, windows-across, next-window)

@@ -1,5 +1,5 @@
 -- The premises can be met all at once by configurations that differ in much: a level before and one after, a process before and one after, another user of the mutex and another ceiling.
-use Rattle.dk_impact.proofs.Names.{ℕ, zero, suc, ◌≡◌, ◌+◌, ◌*◌, ◌%◌, ◌≤◌, ◌<◌, ◌⊎◌, inl, inr, None, Bool, true, false, not, List, [], ◌∷◌, map, refl, ap, subst, arith, slice_index_or, list_any, cases_lt, Configuration, longest_hold, is_user, first_broken, checked, Jmp, Trap, Entry, stops, world, accepted, KeepsToItself, ReadsNoTick, ProcessStandsAgain, own_window, program, spinner, call_of, SeesTheSame, SeesTheSameButPeriod, MakesNoThread, IsSameAcross, renamed, ChangesOfOthersHaveNoImpact, ChangesOfPeriodHaveNoImpact, FirstWindowsTellAcross, FirstWindowsTellAtAnyPeriod}
+use Rattle.dk_impact.proofs.Names.{ℕ, zero, suc, ◌≡◌, ◌+◌, ◌*◌, ◌%◌, ◌≤◌, ◌<◌, ◌⊎◌, inl, inr, None, Bool, true, false, not, List, [], ◌∷◌, map, refl, ap, subst, arith, slice_index_or, list_any, Configuration, longest_hold, is_user, first_broken, checked, Jmp, Trap, Entry, stops, world, accepted, KeepsToItself, ReadsNoTick, ProcessStandsAgain, own_window, program, spinner, call_of, SeesTheSame, SeesTheSameButPeriod, MakesNoThread, IsSameAcross, renamed, ChangesOfOthersHaveNoImpact, ChangesOfPeriodHaveNoImpact, FirstWindowsTellAcross, FirstWindowsTellAtAnyPeriod, nat_tests}
 use Rattle.dk_config.specs.Rules.{all_tests, version_tests, count_tests, range_tests, period_tests, name_tests, again_tests, level_tests, budget_tests, user_tests, slowest_tests}
 
 abbrev old_at : ℕ → Configuration
@@ -81,16 +81,13 @@ worker-makes-none (suc (suc (suc (suc (suc zero))))) within is = less-than 0 3 (
 worker-makes-none (suc (suc (suc (suc (suc (suc k)))))) within is = let more : 4 * suc (suc (suc (suc (suc (suc k))))) + 4 ≤ 24 = within in absurd (omega arith)
 
 same-users : (ticks other m : ℕ) → is_user (old_at ticks) m 0 ≡ is_user (new_at other) m 1
-same-users ticks other zero = refl
-same-users ticks other (suc m) = refl
+same-users ticks other m = grind (arith, nat_tests)
 
 same-holds : (ticks other m : ℕ) → is_user (old_at ticks) m 0 ≡ true → longest_hold (old_at ticks) m ≡ longest_hold (new_at other) m
-same-holds ticks other zero is = refl
-same-holds ticks other (suc m) is = refl
+same-holds ticks other m is = grind (arith, nat_tests)
 
 sees-but-period : (ticks other : ℕ) → SeesTheSameButPeriod (old_at ticks) 0 (new_at other) 1 worker
-sees-but-period ticks other =
-    record { switch = refl; call = refl; budget = refl; memory = refl; mutexes = same-users ticks other; holds = same-holds ticks other; levels = inr worker-makes-none }
+sees-but-period ticks other = grind (arith, nat_tests, same-users, same-holds, worker-makes-none)
 
 sees : SeesTheSame old 0 new 1 worker
 sees = record { but_period = sees-but-period 20 20; period = refl }
@@ -119,19 +116,7 @@ goes-on window = not (list_any (stops (record { process = 1; serial = 0 })) wind
 
 -- a tick of the windows up to tick 80
 first-four : (tick : ℕ) → tick % 20 ≡ 0 → tick < 80 → ((tick ≡ 0) ⊎ (tick ≡ 20)) ⊎ ((tick ≡ 40) ⊎ (tick ≡ 60))
-first-four tick begins early =
-    elim (cases_lt tick 40) [
-      | inl half ↦
-          elim (cases_lt tick 20) [
-            | inl first ↦ inl (inl (omega (arith, begins, first)))
-            | inr second ↦ inl (inr (omega (arith, begins, second, half)))
-          ]
-      | inr half ↦
-          elim (cases_lt tick 60) [
-            | inl third ↦ inr (inl (omega (arith, begins, third, half)))
-            | inr fourth ↦ inr (inr (omega (arith, begins, fourth, early)))
-          ]
-    ]
+first-four tick begins early = grind (arith, nat_tests)
 
 goes-on-first : (tick : ℕ) → ((tick ≡ 0) ⊎ (tick ≡ 20)) ⊎ ((tick ≡ 40) ⊎ (tick ≡ 60)) → goes-on (map (renamed 1) (own_window old (worker ∷ []) 0 tick)) ≡ true
 goes-on-first tick (inl (inl is)) = ap (λ t. goes-on (map (renamed 1) (own_window old (worker ∷ []) 0 t))) is

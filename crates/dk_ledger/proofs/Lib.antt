@@ -4,6 +4,7 @@ pub mod AcceptedHeading
 pub mod CutLemmas
 pub mod OneCut
 pub mod WordBytes
+pub mod Spelled
 pub mod Split
 pub mod EntryLists
 pub mod OneText

@@ -16,6 +16,7 @@ use Rattle.dk_trace.specs.declared.Label.{Label}
 use Rattle.dk_trace.specs.declared.Event.{Event}
 use Rattle.dk_trace.specs.declared.Refusal.{Refusal}
 use Rattle.dk_trace.specs.Refusals.{number}
+use Rattle.dk_trace.specs.Says.{word_of}
 use Rattle.dk_trace.specs.Ranges.{HasThread, HasSource, HasLabel, HasOwnEvent}
 use Rattle.dk_trace.proofs.Same.{make-id}
 use Rattle.dk_certify.specs.declared.table.TableRow.{TableRow}
@@ -118,19 +119,7 @@ pub label_ranked : (h : Heading) (label : Label) (more : List (List ℕ)) → wo
 label_ranked h label more = grind (arith, nat_tests)
 
 abbrev event_rank : Event → ℕ
-event_rank Event.Wait = 8
-event_rank Event.Exit = 9
-event_rank (Event.Fault kind) = 10
-event_rank (Event.Create serial level quota) = 11
-event_rank (Event.Delete serial) = 12
-event_rank (Event.Lock m) = 13
-event_rank (Event.Unlock m) = 14
-event_rank (Event.Slack amount) = 6
-event_rank (Event.Put value) = 15
-event_rank (Event.Refused refusal) = 16
-
-event_ranked : (event : Event) → word_rank (head_of (event_words (Some event))) ≡ event_rank event
-event_ranked event = grind (arith, nat_tests)
+event_rank event = word_rank (word_of event)
 
 is_ranked : (event : Event) → (0 == event_rank event) ≡ false
 is_ranked event = grind (arith, nat_tests)
@@ -207,16 +196,16 @@ module _ (h : Heading) (few : length h.levels ≤ 12) (names : list_all (λ p. i
 
   one_event : (k l : Label) (a b : Option Event) → HasOwnEvent (size_in h) k a → HasOwnEvent (size_in h) l b → event_words a ≡ event_words b → a ≡ b
   one_event k l None None ha hb e = refl
-  one_event k l None (Some b) ha hb e = absurd (eqb-false 0 (event_rank b) (is_ranked b) (ap (λ ws. word_rank (head_of ws)) e ∙ event_ranked b))
-  one_event k l (Some a) None ha hb e = absurd (eqb-false 0 (event_rank a) (is_ranked a) (ap (λ ws. word_rank (head_of ws)) (sym e) ∙ event_ranked a))
-  one_event k l (Some a) (Some b) ha hb e = ap Some (event_alike k l a b ha hb (sym (event_ranked a) ∙ ap (λ ws. word_rank (head_of ws)) e ∙ event_ranked b) e)
+  one_event k l None (Some b) ha hb e = absurd (eqb-false 0 (event_rank b) (is_ranked b) (ap (λ ws. word_rank (head_of ws)) e))
+  one_event k l (Some a) None ha hb e = absurd (eqb-false 0 (event_rank a) (is_ranked a) (ap (λ ws. word_rank (head_of ws)) (sym e)))
+  one_event k l (Some a) (Some b) ha hb e = ap Some (event_alike k l a b ha hb (ap (λ ws. word_rank (head_of ws)) e) e)
 
   pub one_line : (a b : LedgerLine) → IsReadableLine h a → IsReadableLine h b → line_body h a ≡ line_body h b → a ≡ b
   one_line a b ha hb e =
       let short = ha.short in
       let short2 = hb.short in
-      let cut_a = cut_line h few names a (omega (arith, short)) (omega (arith, short)) ha.label ha.event in
-      let cut_b = cut_line h few names b (omega (arith, short2)) (omega (arith, short2)) hb.label hb.event in
+      let cut_a = cut_line h names a in
+      let cut_b = cut_line h names b in
       let words = sym cut_a ∙ ap words_of e ∙ cut_b in
       let label = one_label a.label b.label _ _ ha.label hb.label (behind_two words) in
       same_line a b (same_number a.start b.start (omega (arith, short)) (omega (arith, short2)) (first_one words))

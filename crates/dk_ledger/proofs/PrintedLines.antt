@@ -9,13 +9,14 @@ use Rattle.dk_certify.specs.declared.table.TableRow.{TableRow}
 use Rattle.dk_ledger.specs.declared.header.ProcessLine.{ProcessLine}
 use Rattle.dk_ledger.specs.declared.line.LedgerLine.{LedgerLine}
 use Rattle.dk_ledger.specs.Heading.{level_body, process_body}
-use Rattle.dk_ledger.specs.LineText.{line_body}
+use Rattle.dk_ledger.specs.LineText.{joined, line_body}
 use Rattle.dk_ledger.specs.Readable.{IsLevelRow, IsProcessLine}
 use Rattle.dk_ledger.specs.ReadSoFar.{Kept, Item, IsKept, Fits, item_body, end_body}
 use Rattle.dk_ledger.specs.Words.{level_words, process_words, end_words, line_words}
 use Rattle.dk_ledger.proofs.NameLemmas.{both_left, both_right}
 use Rattle.dk_ledger.proofs.WordBytes.{is_glyph, all_more}
-use Rattle.dk_ledger.proofs.Split.{Glyphs, joined, all_append, level_joined, process_joined, end_joined, line_joined, level_glyphs, process_glyphs, end_glyphs, line_glyphs}
+use Rattle.dk_ledger.proofs.Spelled.{all_append}
+use Rattle.dk_ledger.proofs.Split.{Glyphs, level_joined, process_joined, end_joined, line_joined, level_glyphs, process_glyphs, end_glyphs, line_glyphs}
 use Rattle.dk_ledger.proofs.EntryLists.{IsReadableLine}
 use Rattle.dk_ledger.proofs.NextItem.{part_printable}
 
@@ -39,9 +40,8 @@ process_plain levels q few is = ap (list_all is_plain) (process_joined q) ∙ jo
 
 pub line_plain : (p : Kept) → IsKept p → (l : LedgerLine) → IsReadableLine p.heading l → list_all is_plain (line_body p.heading l) ≡ true
 line_plain p part l is =
-    let short = is.short in
     ap (list_all is_plain) (line_joined p.heading l)
-    ∙ joined_plain (line_words p.heading l) (line_glyphs p.heading part.few_levels (part_printable p part).names l (omega (arith, short)) (omega (arith, short)) is.label is.event)
+    ∙ joined_plain (line_words p.heading l) (line_glyphs p.heading (part_printable p part).names l)
 
 pub end_plain : (n : ℕ) → n ≤ 10000000 → list_all is_plain (end_body n) ≡ true
 end_plain n short = ap (list_all is_plain) (end_joined n) ∙ joined_plain (end_words n) (end_glyphs n short)

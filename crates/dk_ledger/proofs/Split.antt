@@ -5,7 +5,6 @@ use Rattle.std.specs.List.{list_all, slice_split, AllByRecursion}
 use Rattle.std.proofs.lemmas.List.Splits.{slice_split_at, slice_split_none}
 use Rattle.std.proofs.lemmas.Bool.Decides.{nat_tests}
 use Rattle.std.proofs.lemmas.List.{take_all}
-use Rattle.dk_isa.specs.declared.FaultKind.{FaultKind}
 use Rattle.dk_trace.specs.declared.ThreadId.{ThreadId}
 use Rattle.dk_trace.specs.declared.Source.{Source}
 use Rattle.dk_trace.specs.declared.Work.{Work}
@@ -13,27 +12,21 @@ use Rattle.dk_trace.specs.declared.Label.{Label}
 use Rattle.dk_trace.specs.declared.Event.{Event}
 use Rattle.dk_trace.specs.declared.Refusal.{Refusal}
 use Rattle.dk_trace.specs.Refusals.{number}
-use Rattle.dk_trace.specs.Ranges.{HasThread, HasLabel, HasOwnEvent}
 use Rattle.dk_certify.specs.declared.table.TableRow.{TableRow}
 use Rattle.dk_ledger.specs.declared.header.ProcessLine.{ProcessLine}
 use Rattle.dk_ledger.specs.declared.line.LedgerLine.{LedgerLine}
 use Rattle.dk_ledger.specs.Heading.{Heading, level_body, process_body}
-use Rattle.dk_ledger.specs.LineText.{thread_text, work_text, slack_text, label_text, fault_text, event_part, line_body}
-use Rattle.dk_ledger.specs.Readable.{IsLevelRow, IsProcessLine, size_in}
+use Rattle.dk_ledger.specs.LineText.{thread_text, work_text, slack_text, label_text, event_part, joined, line_body}
+use Rattle.dk_ledger.specs.Readable.{IsLevelRow, IsProcessLine}
 use Rattle.dk_ledger.specs.ReadSoFar.{end_body}
-use Rattle.dk_ledger.specs.Words.{level_words, process_words, end_words, source_words, label_words, event_words, line_words, words_of}
+use Rattle.dk_ledger.specs.Words.{level_words, process_words, end_words, source_words, label_words, event_words, line_words, words_of, AreSpelled, is_spelled}
 use Rattle.dk_ledger.proofs.NameLemmas.{both_left, both_right}
 use Rattle.dk_config.specs.Rules.{is_name}
-use Rattle.dk_ledger.proofs.WordBytes.{is_glyph, name_glyphs, name_at_glyphs, decimal_glyphs}
+use Rattle.dk_ledger.proofs.WordBytes.{all_more, is_glyph, name_glyphs, decimal_glyphs}
+use Rattle.dk_ledger.proofs.Spelled.{line_spelled}
 
 abbrev is_blank : ℕ → Bool
 is_blank b = b == 32
-
--- the words with a blank between each two
-abbrev pub joined : List (List ℕ) → List ℕ
-joined [] = []
-joined (w ∷ []) = w
-joined (w ∷ v ∷ ws) = w ++ 32 ∷ joined (v ∷ ws)
 
 -- words of glyphs
 abbrev pub Glyphs : List (List ℕ) → Type 0
@@ -95,16 +88,7 @@ label_joined h label more = grind (arith, nat_tests, joined-cons, slack_joined)
 
 event_behind : (event : Option Event) → event_part event ≡ behind (event_words event)
 event_behind None = refl
-event_behind (Some Event.Wait) = refl
-event_behind (Some Event.Exit) = refl
-event_behind (Some (Event.Fault kind)) = refl
-event_behind (Some (Event.Create serial level quota)) = simp append_assoc
-event_behind (Some (Event.Delete serial)) = refl
-event_behind (Some (Event.Lock m)) = refl
-event_behind (Some (Event.Unlock m)) = refl
-event_behind (Some (Event.Slack amount)) = refl
-event_behind (Some (Event.Put value)) = refl
-event_behind (Some (Event.Refused refusal)) = refl
+event_behind (Some event) = refl
 
 some_label : (h : Heading) (label : Label) (more : List (List ℕ)) → (w : List ℕ) × (ws : List (List ℕ)) × (label_words h label more ≡ w ∷ ws)
 some_label h (Label.Kernel j) more = (_, _, refl)
@@ -124,10 +108,6 @@ line_joined h l =
     ap (λ t. decimal l.count ++ 32 ∷ t) label ∙ sym (joined-cons (decimal l.count) (label_words h l.label (event_words l.event)) ∙ ap (λ ws. decimal l.count ++ behind ws) words.2 ∙ ap (λ ws. decimal l.count ++ 32 ∷ joined ws) (sym words.2)) in
     let regrouped : line_body h l ≡ decimal l.start ++ 32 ∷ (decimal l.count ++ 32 ∷ (label_text h l.label ++ event_part l.event)) = simp append_assoc in
     regrouped ∙ ap (λ t. decimal l.start ++ 32 ∷ t) count
-
-pub all_append : (f : ℕ → Bool) (xs ys : List ℕ) → list_all f xs ≡ true → list_all f ys ≡ true → list_all f (xs ++ ys) ≡ true
-all_append f [] ys h k = k
-all_append f (x ∷ xs) ys h k = grind (arith, nat_tests, all_append f xs)
 
 digits : (n : ℕ) → n < 2 ^ 32 → list_all is_glyph (decimal n) ≡ true
 digits n h = decimal_glyphs n (omega arith)
@@ -153,14 +133,12 @@ end_glyphs n short = (refl, (digits n (omega arith), tt))
 pub cut_end : (n : ℕ) → n ≤ 10000000 → words_of (end_body n) ≡ end_words n
 cut_end n short = ap (take 12) (cut_words (end_words n) (omega arith) (end_glyphs n short))
 
-thread_glyphs : (h : Heading) (x : ThreadId) → list_all (λ p. is_name p.name) h.processes ≡ true → HasThread (size_in h) x → list_all is_glyph (thread_text h x) ≡ true
-thread_glyphs h x names is = grind (arith, nat_tests, all_append, is_glyph, name_at_glyphs, digits)
+spelled_glyph : (b : ℕ) → is_spelled b ≡ true → is_glyph b ≡ true
+spelled_glyph b h = grind (arith, nat_tests)
 
-work_glyphs : (work : Work) → list_all is_glyph (work_text work) ≡ true
-work_glyphs work = grind (arith, nat_tests)
-
-fault_glyphs : (kind : FaultKind) → list_all is_glyph (fault_text kind) ≡ true
-fault_glyphs kind = grind (arith, nat_tests)
+spelled_glyphs : (ws : List (List ℕ)) → AreSpelled ws → Glyphs ws
+spelled_glyphs [] all = tt
+spelled_glyphs (w ∷ ws) all = (all_more is_spelled is_glyph spelled_glyph w all.0, spelled_glyphs ws all.1)
 
 pub refusal_small : (refusal : Refusal) → number refusal ≤ 15
 refusal_small refusal = grind (arith, nat_tests)
@@ -168,40 +146,11 @@ refusal_small refusal = grind (arith, nat_tests)
 few_words : (h : Heading) (l : LedgerLine) → length (line_words h l) ≤ 12
 few_words h l = grind (arith, nat_tests)
 
-module _ (h : Heading) (few : length h.levels ≤ 12) (names : list_all (λ p. is_name p.name) h.processes ≡ true) where
-  label_glyphs : (label : Label) (more : List (List ℕ)) → HasLabel (size_in h) label → Glyphs more → Glyphs (label_words h label more)
-  label_glyphs (Label.Kernel j) more is g = (refl, (digits j (omega (arith, is, few)), g))
-  label_glyphs (Label.In x) more is g = (refl, (thread_glyphs h x names is, g))
-  label_glyphs (Label.Run x) more is g = (refl, (thread_glyphs h x names is, g))
-  label_glyphs (Label.Call x) more is g = (refl, (thread_glyphs h x names is, g))
-  label_glyphs (Label.Out x) more is g = (refl, (thread_glyphs h x names is, g))
-  label_glyphs (Label.Slack x Source.Timeline work) more is g = (refl, (refl, (work_glyphs work, (thread_glyphs h x names is.0, g))))
-  label_glyphs (Label.Slack x (Source.Reclaimed j) work) more is g =
-      let small = is.1 in
-      (refl, (refl, (digits j (omega (arith, small, few)), (work_glyphs work, (thread_glyphs h x names is.0, g)))))
-  label_glyphs Label.Idle more is g = (refl, g)
+module _ (h : Heading) (names : list_all (λ p. is_name p.name) h.processes ≡ true) where
+  pub line_glyphs : (l : LedgerLine) → Glyphs (line_words h l)
+  line_glyphs l = spelled_glyphs (line_words h l) (line_spelled h names l)
 
-  event_glyphs : (label : Label) (event : Option Event) → HasOwnEvent (size_in h) label event → Glyphs (event_words event)
-  event_glyphs label None is = tt
-  event_glyphs label (Some Event.Wait) is = (refl, tt)
-  event_glyphs label (Some Event.Exit) is = (refl, tt)
-  event_glyphs label (Some (Event.Fault kind)) is = (refl, (fault_glyphs kind, tt))
-  event_glyphs label (Some (Event.Create serial level quota)) is =
-      let small = is.1.1 in
-      (refl, (digits serial is.1.0, (digits level (omega (arith, small, few)), (digits quota is.1.2, tt))))
-  event_glyphs label (Some (Event.Delete serial)) is = (refl, (digits serial is.1, tt))
-  event_glyphs label (Some (Event.Lock m)) is = let small = is.1 in (refl, (digits m (omega (arith, small)), tt))
-  event_glyphs label (Some (Event.Unlock m)) is = let small = is.1 in (refl, (digits m (omega (arith, small)), tt))
-  event_glyphs label (Some (Event.Slack amount)) is = (refl, (digits amount is.1, tt))
-  event_glyphs label (Some (Event.Put value)) is = (refl, (digits value is.1, tt))
-  event_glyphs label (Some (Event.Refused refusal)) is = let small = refusal_small refusal in (refl, (digits (number refusal) (omega (arith, small)), tt))
-
-  pub line_glyphs : (l : LedgerLine) → l.start < 2 ^ 32 → l.count < 2 ^ 32 → HasLabel (size_in h) l.label → HasOwnEvent (size_in h) l.label l.event → Glyphs (line_words h l)
-  line_glyphs l start count label event =
-      (digits l.start start, (digits l.count count, label_glyphs l.label (event_words l.event) label (event_glyphs l.label l.event event)))
-
-  pub cut_line : (l : LedgerLine) → l.start < 2 ^ 32 → l.count < 2 ^ 32 → HasLabel (size_in h) l.label → HasOwnEvent (size_in h) l.label l.event
-      → words_of (line_body h l) ≡ line_words h l
-  cut_line l start count label event =
-      ap words_of (line_joined h l) ∙ ap (take 12) (cut_words (line_words h l) (omega arith) (line_glyphs l start count label event))
+  pub cut_line : (l : LedgerLine) → words_of (line_body h l) ≡ line_words h l
+  cut_line l =
+      ap words_of (line_joined h l) ∙ ap (take 12) (cut_words (line_words h l) (omega arith) (line_glyphs l))
       ∙ take_all 12 (line_words h l) (few_words h l)

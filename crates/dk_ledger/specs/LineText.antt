@@ -1,5 +1,5 @@
 -- The text of a ledger's lines.
-use Rattle.std.specs.Prelude.{ℕ, ◌<◌, ◌++◌, [], List, length, flat_map, decimal, codes, Option, Some, None, IfSome}
+use Rattle.std.specs.Prelude.{ℕ, ◌<◌, ◌++◌, ◌∷◌, [], List, length, flat_map, decimal, codes, Option, Some, None, IfSome}
 use Rattle.dk_isa.specs.declared.FaultKind.{FaultKind}
 use Rattle.dk_trace.specs.declared.ThreadId.{ThreadId}
 use Rattle.dk_trace.specs.declared.Source.{Source}
@@ -7,7 +7,8 @@ use Rattle.dk_trace.specs.declared.Work.{Work}
 use Rattle.dk_trace.specs.declared.Label.{Label}
 use Rattle.dk_trace.specs.declared.Event.{Event}
 use Rattle.dk_trace.specs.Entries.{thread_of}
-use Rattle.dk_trace.specs.Refusals.{number}
+use Rattle.dk_trace.specs.declared.says.Arguments.{Arguments}
+use Rattle.dk_trace.specs.Says.{arguments_of, word_of}
 use Rattle.dk_ledger.specs.Heading.{Heading, name_of, ended}
 use Rattle.dk_ledger.specs.declared.line.LedgerLine.{LedgerLine}
 
@@ -48,21 +49,21 @@ fault_text FaultKind.Divide = codes "divide"
 fault_text FaultKind.Call = codes "call"
 fault_text FaultKind.Hold = codes "hold"
 
-abbrev pub create_text : ℕ → ℕ → ℕ → List ℕ
-create_text serial level quota =
-    codes "create " ++ decimal serial ++ codes " " ++ decimal level ++ codes " " ++ decimal quota
+-- the words of what stands behind the word of an event
+abbrev pub argument_words : Arguments → List (List ℕ)
+argument_words Arguments.Nothing = []
+argument_words (Arguments.Kind kind) = fault_text kind ∷ []
+argument_words (Arguments.One n) = decimal n ∷ []
+argument_words (Arguments.Three a b c) = decimal a ∷ decimal b ∷ decimal c ∷ []
+
+-- words with a blank between each two
+abbrev pub joined : List (List ℕ) → List ℕ
+joined [] = []
+joined (w ∷ []) = w
+joined (w ∷ v ∷ ws) = w ++ 32 ∷ joined (v ∷ ws)
 
 abbrev pub event_text : Event → List ℕ
-event_text Event.Wait = codes "wait"
-event_text Event.Exit = codes "exit"
-event_text (Event.Fault kind) = codes "fault " ++ fault_text kind
-event_text (Event.Create serial level quota) = create_text serial level quota
-event_text (Event.Delete serial) = codes "delete " ++ decimal serial
-event_text (Event.Lock m) = codes "lock " ++ decimal m
-event_text (Event.Unlock m) = codes "unlock " ++ decimal m
-event_text (Event.Slack amount) = codes "slack " ++ decimal amount
-event_text (Event.Put value) = codes "put " ++ decimal value
-event_text (Event.Refused refusal) = codes "refused " ++ decimal (number refusal)
+event_text event = joined (word_of event ∷ argument_words (arguments_of event))
 
 -- the event, parted from the label by a blank
 abbrev pub event_part : Option Event → List ℕ

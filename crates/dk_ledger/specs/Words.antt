@@ -1,16 +1,17 @@
 -- The words of a ledger's lines, which single blanks part.
-use Rattle.std.specs.Prelude.{ℕ, ◌∷◌, [], List, map, take, ◌==◌, slice_index_or, decimal, codes, Option, Some, None}
+use Rattle.std.specs.Prelude.{ℕ, Bool, true, ◌≡◌, ◌||◌, ◌∷◌, [], List, map, take, ◌==◌, slice_index_or, decimal, codes, Option, Some, None}
 use Rattle.std.specs.Borrow.{Bor}
-use Rattle.std.specs.List.{slice_split}
+use Rattle.std.specs.List.{AllByRecursion, list_all, slice_split}
+use Rattle.dk_config.specs.Rules.{is_word}
 use Rattle.dk_trace.specs.declared.Source.{Source}
 use Rattle.dk_trace.specs.declared.Label.{Label}
 use Rattle.dk_trace.specs.declared.Event.{Event}
-use Rattle.dk_trace.specs.Refusals.{number}
+use Rattle.dk_trace.specs.Says.{arguments_of, word_of}
 use Rattle.dk_certify.specs.declared.table.TableRow.{TableRow}
 use Rattle.dk_ledger.specs.declared.header.ProcessLine.{ProcessLine}
 use Rattle.dk_ledger.specs.declared.line.LedgerLine.{LedgerLine}
 use Rattle.dk_ledger.specs.Heading.{Heading}
-use Rattle.dk_ledger.specs.LineText.{thread_text, work_text, fault_text}
+use Rattle.dk_ledger.specs.LineText.{argument_words, thread_text, work_text}
 
 -- what the words of a `&[&str]` are
 abbrev pub texts : List (Bor (List ℕ)) → List (List ℕ)
@@ -51,20 +52,20 @@ label_words h (Label.Slack x source work) more =
     codes "slack" ∷ source_words source (work_text work ∷ thread_text h x ∷ more)
 label_words h Label.Idle more = codes "idle" ∷ more
 
--- the words of an event, where there is one
+-- the words of an event, where there is one: its word, and what stands behind it
 abbrev pub event_words : Option Event → List (List ℕ)
 event_words None = []
-event_words (Some Event.Wait) = codes "wait" ∷ []
-event_words (Some Event.Exit) = codes "exit" ∷ []
-event_words (Some (Event.Fault kind)) = codes "fault" ∷ fault_text kind ∷ []
-event_words (Some (Event.Create serial level quota)) =
-    codes "create" ∷ decimal serial ∷ decimal level ∷ decimal quota ∷ []
-event_words (Some (Event.Delete serial)) = codes "delete" ∷ decimal serial ∷ []
-event_words (Some (Event.Lock m)) = codes "lock" ∷ decimal m ∷ []
-event_words (Some (Event.Unlock m)) = codes "unlock" ∷ decimal m ∷ []
-event_words (Some (Event.Slack amount)) = codes "slack" ∷ decimal amount ∷ []
-event_words (Some (Event.Put value)) = codes "put" ∷ decimal value ∷ []
-event_words (Some (Event.Refused refusal)) = codes "refused" ∷ decimal (number refusal) ∷ []
+event_words (Some event) = word_of event ∷ argument_words (arguments_of event)
 
 abbrev pub line_words : Heading → LedgerLine → List (List ℕ)
 line_words h l = decimal l.start ∷ decimal l.count ∷ label_words h l.label (event_words l.event)
+
+-- a lower letter, a digit, an underscore or a dot
+abbrev pub is_spelled : ℕ → Bool
+is_spelled b = is_word b || b == 46
+
+abbrev pub IsSpelled : List ℕ → Type 0
+IsSpelled word = list_all is_spelled word ≡ true
+
+abbrev pub AreSpelled : List (List ℕ) → Type 0
+AreSpelled ws = AllByRecursion IsSpelled ws

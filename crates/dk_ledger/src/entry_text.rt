@@ -1,6 +1,7 @@
 ghost use Rattle.std.specs.Prelude.{◌≡◌, ◌+◌, ◌<◌, ◌≤◌, ◌++◌, length, decimal, codes};
+ghost use Rattle.dk_trace.specs.declared.Event.{Event};
 ghost use Rattle.dk_ledger.specs.Heading.{IsPrintable};
-ghost use Rattle.dk_ledger.specs.LineText.{thread_text, source_text, work_text, slack_text, label_text, fault_text, create_text, event_text, event_part, line_body, IsNamed};
+ghost use Rattle.dk_ledger.specs.LineText.{thread_text, source_text, work_text, slack_text, label_text, fault_text, event_text, event_part, line_body, IsNamed};
 
 use crate::{Header, LedgerLine, TextLine};
 use dk_isa::FaultKind;
@@ -131,7 +132,7 @@ fn push_fault(line: &mut TextLine, kind: FaultKind)
 
 fn push_create(line: &mut TextLine, serial: u32, level: u8, quota: u32)
     requires { length line.old + 41 ≤ 200 }
-    ensures bytes { line.new ≡ line.old ++ (codes " " ++ create_text serial level quota) }
+    ensures bytes { line.new ≡ line.old ++ (codes " " ++ event_text (Event.Create serial level quota)) }
     ensures len { length line.new ≤ length line.old + 41 }
 {
     line.word(" create ");

@@ -1,22 +1,7 @@
 -- Who runs first, where one thread alone holds what is held of the least ceiling.
-use Rattle.std.proofs.Common.{add-one, arith, inl, inr, ◌≡◌, ◌<◌, ◌≤◌, ◌+◌, ◌++◌, ◌∙◌, ◌⊎◌, ◌||◌, ◌&&◌, not, Bool, true, false, eqb, ℕ, min, length, take, get_or, List, [], ◌∷◌, map, Option, Some, None, refl, ap, sym}
-use Rattle.std.specs.Prelude.{is_some, option_map}
-use Rattle.std.specs.List.{list_any}
-use Rattle.std.specs.Option.{option_map_or}
-use Rattle.std.proofs.lemmas.Bool.{and_parts, cases_Bool, cases_lt, ne_eqb, or_parts, eq-eqb, eqb-true, or_right}
+use Rattle.dk_mutex.proofs.Names.{add-one, arith, inl, inr, ◌≡◌, ◌<◌, ◌≤◌, ◌+◌, ◌++◌, ◌∙◌, ◌⊎◌, ◌||◌, ◌&&◌, not, Bool, true, false, eqb, ℕ, min, length, take, get_or, List, [], ◌∷◌, map, Option, Some, None, refl, ap, sym, is_some, option_map, list_any, option_map_or, and_parts, cases_Bool, cases_lt, ne_eqb, or_parts, eq-eqb, eqb-true, or_right, and-false, ThreadId, is_same, Has, same-id, same-self, FirstHold, Holder, IsFirstHold, IsLeastHold, Lockable, ceiling_of, is_by, is_by_at, is_held, is_held_at, is_holder, is_other_at, joined, least, effective_level, first_holder, holder_at, is_holder_at, nat_tests}
 use Rattle.std.proofs.lemmas.List.Folds.{list_any-append}
-use Rattle.std.proofs.Math.Bool.{and-false}
 use Rattle.std.proofs.Math.Seq.{take-suc}
-use Rattle.dk_trace.specs.declared.ThreadId.{ThreadId}
-use Rattle.dk_trace.specs.Entries.{is_same}
-use Rattle.dk_trace.specs.Members.{Has}
-use Rattle.dk_trace.proofs.Same.{same-id, same-self}
-use Rattle.dk_mutex.specs.declared.front.FirstHold.{FirstHold}
-use Rattle.dk_mutex.specs.declared.row.Holder.{Holder}
-use Rattle.dk_mutex.specs.Front.{IsFirstHold, IsLeastHold}
-use Rattle.dk_mutex.specs.declared.row.Lockable.{Lockable}
-use Rattle.dk_mutex.specs.Rows.{ceiling_of, is_by, is_by_at, is_held, is_held_at, is_holder, is_other_at, joined, least}
-use Rattle.dk_mutex.specs.Table.{effective_level, first_holder, holder_at, is_holder_at}
 use Rattle.dk_mutex.proofs.Unheld.{by-somebody, held-by, least-by, least-some}
 use Rattle.dk_mutex.proofs.Locking.{none-by}
 
@@ -49,9 +34,7 @@ same-one x y level [] on alone = absurd (cc)
 same-one x y level (row ∷ rows) on alone =
     let apart = or_parts (is_other_at level x row) (list_any (is_other_at level x) rows) alone in
     elim (cases_Bool (is_by_at level y row)) [
-      | inl here ↦
-          let parts = and_parts (eqb row.ceiling level) (is_by y row) here in
-          go row.holder parts.1 (let mine : (is_some row.holder && not (is_holder x row.holder)) ≡ false = rw parts.0 at apart.0 in mine)
+      | inl here ↦ grind (arith, nat_tests, and_parts)
       | inr off ↦
           let later : list_any (is_by_at level y) rows ≡ true = rw off at on in
           same-one x y level rows later apart.1
@@ -101,10 +84,7 @@ module _ (x : ThreadId) (level : ℕ) (all : List Lockable) (alone : list_any (i
           ap Some (same-one x h.thread level all (least-by h.thread all level (n.1 ∙ ap Some level-is)) alone)
 
   pub first-alone : ((k : ℕ) → k < level → list_any (is_held_at k) all ≡ false) → list_any (is_by_at level x) all ≡ true → holder_at level all ≡ Some x
-  first-alone before on = elim (only-one all (λ r has. has)) [
-    | inr some ↦ some
-    | inl none ↦ absurd (runs-some x level all before on none)
-  ]
+  first-alone before on = grind (arith, nat_tests, only-one, runs-some)
 
 -- The first hold of the least ceiling, row by row.
 
@@ -122,10 +102,7 @@ any-last test rows row on = any-more test rows row ∙ rw on (or_right (list_any
 
 unheld-at : (k : ℕ) (rows : List Lockable) → list_any is_held rows ≡ false → list_any (is_held_at k) rows ≡ false
 unheld-at k [] off = refl
-unheld-at k (row ∷ rows) off =
-    let parts = or_parts (is_held row) (list_any is_held rows) off in
-    let one : is_held_at k row ≡ false = ap (λ b. eqb row.ceiling k && b) parts.0 ∙ and-false (eqb row.ceiling k) in
-    rw one (unheld-at k rows parts.1)
+unheld-at k (row ∷ rows) off = grind (arith, nat_tests, or_parts, and-false, unheld-at k rows)
 
 -- one of a lower ceiling, or the first, takes its place
 pub first-lower : (first : Option FirstHold) (rows : List Lockable) (row : Lockable) (h : Holder) → row.holder ≡ Some h
@@ -149,23 +126,12 @@ first-lower first rows row h held below was = record {
 
 pub no-higher : (first : Option FirstHold) (hold : FirstHold) (row : Lockable) → first ≡ Some hold → row.ceiling < hold.ceiling
     → (other : FirstHold) → first ≡ Some other → row.ceiling ≤ other.ceiling
-no-higher first hold row is less other too =
-    let same : hold ≡ other = cc in
-    let ceilings : hold.ceiling ≡ other.ceiling = ap (λ (h : FirstHold). h.ceiling) same in
-    omega (arith, less, ceilings)
+no-higher first hold row is less other too = grind (arith, nat_tests)
 
 -- where a thread holds a mutex one is held
 held-first : (x : ThreadId) (level : ℕ) (rows : List Lockable) → list_any (is_by_at level x) rows ≡ true → list_any is_held rows ≡ true
 held-first x level [] on = absurd (cc)
-held-first x level (row ∷ rows) on = elim (cases_Bool (is_by_at level x row)) [
-  | inl here ↦
-      let by : is_by x row ≡ true = (and_parts (eqb row.ceiling level) (is_by x row) here).1 in
-      let held : is_held row ≡ true = by-somebody x row.holder by in
-      rw held refl
-  | inr off ↦
-      let later : list_any (is_by_at level x) rows ≡ true = rw off at on in
-      or_right (is_held row) (list_any is_held rows) (held-first x level rows later)
-]
+held-first x level (row ∷ rows) on = grind (arith, nat_tests, and_parts, by-somebody, or_right, held-first x level rows)
 
 pub somebody : (hold : FirstHold) (rows : List Lockable) → IsLeastHold hold rows → is_some (holder_at hold.ceiling rows) ≡ list_any is_held rows
 somebody hold rows is = go (holder_at hold.ceiling rows) refl ∙ sym (held-first hold.thread hold.ceiling rows is.by)

@@ -1,23 +1,7 @@
 -- What is left once a thread has given up all, and for how long it may keep faster levels waiting before.
-use Rattle.std.proofs.Common.{◌≡◌, ◌<◌, ◌≤◌, ◌∙◌, ◌⊎◌, inl, inr, false, eqb, leb, ℕ, zero, suc, List, [], ◌∷◌, map, Option, Some, None, option_map, ap, sym, subst, refl, arith}
-use Rattle.std.specs.Prelude.{max, if◌then◌else◌}
-use Rattle.std.proofs.lemmas.Bool.{cases_Bool}
-use Rattle.std.proofs.lemmas.Bool.Decides.{nat_tests}
-use Rattle.dk_config.specs.Configuration.{Configuration}
-use Rattle.dk_config.specs.Windows.{ceiling}
-use Rattle.dk_trace.specs.declared.ThreadId.{ThreadId}
-use Rattle.dk_trace.specs.declared.Event.{Event}
-use Rattle.dk_trace.specs.declared.Entry.{Entry}
-use Rattle.dk_trace.specs.Entries.{is_same, is_of, stops}
-use Rattle.dk_trace.specs.Members.{Has}
-use Rattle.dk_trace.specs.Holds.{Hold, aged, given_back, held_after, held_by, hold_left, greatest_left}
-use Rattle.dk_trace.proofs.Holds.{has-aged}
-use Rattle.dk_trace.proofs.Same.{same-id}
-use Rattle.dk_mutex.specs.declared.row.Holder.{Holder}
-use Rattle.dk_mutex.specs.declared.row.Lockable.{Lockable}
-use Rattle.dk_mutex.specs.Rows.{freed, is_holder, holder_left, left_of, left_under, left_up_to}
-use Rattle.dk_mutex.specs.Table.{left_at}
-use Rattle.dk_mutex.specs.Recount.{IsRecount, AreMutexes, emptied, hold_at}
+use Rattle.dk_mutex.proofs.Names.{◌≡◌, ◌<◌, ◌≤◌, ◌∙◌, ◌⊎◌, inl, inr, false, eqb, leb, ℕ, zero, suc, List, [], ◌∷◌, map, Option, Some, None, ap, sym, subst, refl, arith, max, if◌then◌else◌, cases_Bool, nat_tests, Configuration, ceiling, ThreadId, Event, Entry, is_same, is_of, stops, Has, Hold, aged, given_back, held_after, held_by, greatest_left, has-aged, same-id, Holder, Lockable, freed, is_holder, holder_left, left_of, left_under, left_up_to, left_at, IsRecount, AreMutexes, emptied, hold_at}
+use Rattle.std.proofs.Common.{option_map}
+use Rattle.dk_trace.specs.Holds.{hold_left}
 use Rattle.dk_mutex.proofs.Recounts.{hold_at-aged}
 use Rattle.dk_mutex.proofs.Holding.{back-other}
 use Rattle.dk_mutex.proofs.Levels.{ceiling_at, ceiling-past, hold_at-has}
@@ -109,13 +93,7 @@ greatest-some : (c : Configuration) (j : ℕ) (held : List Hold)
 greatest-some c j [] = inl refl
 greatest-some c j (k ∷ held) =
     elim (cases_Bool (leb (greatest_left c j held) (if leb (ceiling c k.mutex) j then hold_left c k else 0))) [
-      | inl first ↦
-          let h : greatest_left c j held ≤ (if leb (ceiling c k.mutex) j then hold_left c k else 0) = grind (arith, nat_tests) in
-          let e : greatest_left c j (k ∷ held) ≡ (if leb (ceiling c k.mutex) j then hold_left c k else 0) = omega (arith, h) in
-          elim (cases_Bool (leb (ceiling c k.mutex) j)) [
-            | inl on ↦ let low : ceiling c k.mutex ≤ j = grind (arith, nat_tests) in inr (k, inl refl, e ∙ rw on refl, low)
-            | inr off ↦ inl (e ∙ rw off refl)
-          ]
+      | inl first ↦ grind (arith, nat_tests)
       | inr later ↦
           let h : (if leb (ceiling c k.mutex) j then hold_left c k else 0) < greatest_left c j held = grind (arith, nat_tests) in
           let e : greatest_left c j (k ∷ held) ≡ greatest_left c j held = omega (arith, h) in
@@ -134,8 +112,7 @@ lefts-past c past rows x j is known = let a = high in let b = low in omega (arit
         elim (greatest-some c j (held_by x past)) [
           | inl none ↦ omega (arith, none)
           | inr r ↦
-              let at : left_at x rows r.0.mutex ≡ Some (hold_left c r.0) =
-              is.holds x r.0.mutex ∙ ap (option_map (hold_left c)) (held-own-hold x past r.0 r.1) in
+              let at : left_at x rows r.0.mutex ≡ Some (hold_left c r.0) = grind (arith, nat_tests, held-own-hold) in
               let up : ceiling_at rows r.0.mutex ≤ j = (let e = ceiling-past c past rows r.0.mutex is (known x r.0 r.1) in let l = r.3 in omega (arith, e, l)) in
               let above = up-above x j rows r.0.mutex (hold_left c r.0) at up in
               let e = r.2 in

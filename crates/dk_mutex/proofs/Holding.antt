@@ -1,21 +1,7 @@
 -- The table stays the recount of the past through a lock and through an unlock.
-use Rattle.std.proofs.Common.{◌≡◌, ◌<◌, ◌-◌, ◌∙◌, inl, inr, true, false, eqb, ℕ, zero, suc, List, [], ◌∷◌, length, map, Option, Some, None, option_map, ap, sym, subst, refl, arith}
-use Rattle.std.proofs.lemmas.Bool.{cases_Bool}
-use Rattle.std.proofs.lemmas.Bool.Decides.{nat_tests}
-use Rattle.std.proofs.lemmas.List.FromFn.{length-map-range_with_len, get_or-map-range_with_len}
-use Rattle.dk_config.specs.Configuration.{Configuration}
-use Rattle.dk_config.specs.Windows.{longest_hold}
-use Rattle.dk_trace.specs.declared.ThreadId.{ThreadId}
-use Rattle.dk_trace.specs.declared.Event.{Event}
-use Rattle.dk_trace.specs.declared.Entry.{Entry}
-use Rattle.dk_trace.specs.Entries.{is_same, is_of, has_event, is_end, is_delete_of, stops, thread_of}
-use Rattle.dk_trace.specs.Holds.{Hold, given_back, held_after, held_by, hold_left}
-use Rattle.dk_trace.proofs.Same.{same-self, same-id}
-use Rattle.dk_mutex.specs.declared.row.Holder.{Holder}
-use Rattle.dk_mutex.specs.declared.row.Lockable.{Lockable}
-use Rattle.dk_mutex.specs.Rows.{row_of, rows_of, holder_left}
-use Rattle.dk_mutex.specs.Table.{left_at, given_to, hold_of, is_free, is_held_by}
-use Rattle.dk_mutex.specs.Recount.{IsRecount, counted_left, emptied, hold_at, without_event}
+use Rattle.dk_mutex.proofs.Names.{◌≡◌, ◌<◌, ◌-◌, ◌∙◌, inl, inr, true, false, eqb, ℕ, zero, suc, List, [], ◌∷◌, length, map, Option, Some, None, ap, sym, subst, refl, arith, cases_Bool, nat_tests, length-map-range_with_len, get_or-map-range_with_len, Configuration, longest_hold, ThreadId, Event, Entry, is_same, is_of, has_event, is_end, is_delete_of, stops, thread_of, Hold, given_back, held_after, held_by, same-self, same-id, Holder, Lockable, row_of, rows_of, holder_left, left_at, given_to, hold_of, is_free, is_held_by, IsRecount, counted_left, emptied, hold_at, without_event}
+use Rattle.std.proofs.Common.{option_map}
+use Rattle.dk_trace.specs.Holds.{hold_left}
 use Rattle.dk_mutex.proofs.Least.{no_row}
 use Rattle.dk_mutex.proofs.Lefts.{hold-read}
 use Rattle.dk_mutex.proofs.Recounts.{not-of}
@@ -101,9 +87,7 @@ each c past rows id m e holder before mine stays own-same own-apart other-same x
       | inl same ↦
           subst (λ y. left_at y (given_to holder m rows) k ≡ counted_left c (e ∷ past) y k) (sym (same-id x id same))
           (elim (cases_Bool (eqb k m)) [
-            | inl here ↦
-                let is : m ≡ k = grind (arith, nat_tests) in
-                subst (λ j. left_at id (given_to holder m rows) j ≡ counted_left c (e ∷ past) id j) is own-same
+            | inl here ↦ grind (arith, nat_tests)
             | inr apart ↦ own-apart k apart
           ])
       | inr off ↦
@@ -115,9 +99,7 @@ each c past rows id m e holder before mine stays own-same own-apart other-same x
     kept : is_same x id ≡ false → left_at x (given_to holder m rows) k ≡ left_at x rows k
     kept off =
         elim (cases_Bool (eqb k m)) [
-          | inl here ↦
-              let is : m ≡ k = grind (arith, nat_tests) in
-              subst (λ j. left_at x (given_to holder m rows) j ≡ left_at x rows j) is (other-same x off)
+          | inl here ↦ grind (arith, nat_tests)
           | inr apart ↦ given-apart x holder m k rows apart
         ]
 
@@ -132,29 +114,16 @@ recount-lock c past rows id level m e before mine locks below free =
     let same-many : length rows ≡ length (rows_of c) = sym (length-emptied rows) ∙ ap length before.mutexes in
     let long : hold_of rows m ≡ longest_hold c m - 0 =
     sym (hold_of-emptied rows m) ∙ ap (λ rs. hold_of rs m) before.mutexes ∙ hold_of-start c m below ∙ omega arith in
-    let held : held_by id (e ∷ past) ≡ record { mutex = m; ticks = 0 } ∷ given_back m (held_by id (without_event e ∷ past)) =
-    after-own id e past (stays id) mine ∙ ap (λ o. held_after o (held_by id (without_event e ∷ past))) locks in
+    let held : held_by id (e ∷ past) ≡ record { mutex = m; ticks = 0 } ∷ given_back m (held_by id (without_event e ∷ past)) = grind (arith, nat_tests, after-own) in
     let others : List Hold = given_back m (held_by id (without_event e ∷ past)) in
     let is : eqb m m ≡ true = grind (arith, nat_tests) in
     let new : holder_left id (Some h) ≡ Some (longest_hold c m - 0) = rw (same-self id) (ap Some long) in
     let first : hold_at m (record { mutex = m; ticks = 0 } ∷ others) ≡ Some (record { mutex = m; ticks = 0 }) = rw is refl in
-    let counted : counted_left c (e ∷ past) id m ≡ Some (longest_hold c m - 0) =
-    ap (λ l. option_map (hold_left c) (hold_at m l)) held ∙ ap (option_map (hold_left c)) first in
+    let counted : counted_left c (e ∷ past) id m ≡ Some (longest_hold c m - 0) = grind (arith, nat_tests) in
     let inside : m < length rows = omega (arith, many, same-many, below) in
-    let own-same : left_at id (given_to (Some h) m rows) m ≡ counted_left c (e ∷ past) id m =
-    given-same id (Some h) m rows inside ∙ new ∙ sym counted in
-    let own-apart : (k : ℕ) → eqb k m ≡ false → left_at id (given_to (Some h) m rows) k ≡ counted_left c (e ∷ past) id k =
-    λ k apart.
-    let off : eqb m k ≡ false = grind (arith, nat_tests) in
-    let further : hold_at k (record { mutex = m; ticks = 0 } ∷ others) ≡ hold_at k (held_by id (without_event e ∷ past)) =
-    rw off (back-other m k (held_by id (without_event e ∷ past)) apart) in
-    given-apart id (Some h) m k rows apart
-    ∙ before.holds id k
-    ∙ sym (ap (λ l. option_map (hold_left c) (hold_at k l)) held ∙ ap (option_map (hold_left c)) further) in
-    let other-same : (x : ThreadId) → is_same x id ≡ false → left_at x (given_to (Some h) m rows) m ≡ left_at x rows m =
-    λ x off.
-    let not-new : holder_left x (Some h) ≡ None = rw off refl in
-    given-same x (Some h) m rows inside ∙ not-new ∙ sym (left-free x m rows free) in
+    let own-same : left_at id (given_to (Some h) m rows) m ≡ counted_left c (e ∷ past) id m = grind (arith, nat_tests, given-same) in
+    let own-apart : (k : ℕ) → eqb k m ≡ false → left_at id (given_to (Some h) m rows) k ≡ counted_left c (e ∷ past) id k = grind (arith, nat_tests, back-other, given-apart) in
+    let other-same : (x : ThreadId) → is_same x id ≡ false → left_at x (given_to (Some h) m rows) m ≡ left_at x rows m = grind (arith, nat_tests, given-same, left-free) in
     record {
       mutexes = emptied-given (Some h) m rows ∙ before.mutexes;
       holds = each c past rows id m e (Some h) before mine stays own-same own-apart other-same;
@@ -165,22 +134,10 @@ pub recount-unlock : (c : Configuration) (past : List Entry) (rows : List Lockab
     → IsRecount c (e ∷ past) (given_to None m rows)
 recount-unlock c past rows id m e before mine unlocks holds =
     let stays : (x : ThreadId) → stops x e ≡ false = λ x. stops-quiet x e (rw unlocks refl) (rw unlocks refl) in
-    let held : held_by id (e ∷ past) ≡ given_back m (held_by id (without_event e ∷ past)) =
-    after-own id e past (stays id) mine ∙ ap (λ o. held_after o (held_by id (without_event e ∷ past))) unlocks in
-    let own-same : left_at id (given_to None m rows) m ≡ counted_left c (e ∷ past) id m =
-    given-none id m rows
-    ∙ sym
-    (ap (λ l. option_map (hold_left c) (hold_at m l)) held
-    ∙ ap (option_map (hold_left c)) (back-same m (held_by id (without_event e ∷ past)))) in
-    let own-apart : (k : ℕ) → eqb k m ≡ false → left_at id (given_to None m rows) k ≡ counted_left c (e ∷ past) id k =
-    λ k apart.
-    given-apart id None m k rows apart
-    ∙ before.holds id k
-    ∙ sym
-    (ap (λ l. option_map (hold_left c) (hold_at k l)) held
-    ∙ ap (option_map (hold_left c)) (back-other m k (held_by id (without_event e ∷ past)) apart)) in
-    let other-same : (x : ThreadId) → is_same x id ≡ false → left_at x (given_to None m rows) m ≡ left_at x rows m =
-    λ x off. given-none x m rows ∙ sym (left-taken x id m rows off holds) in
+    let held : held_by id (e ∷ past) ≡ given_back m (held_by id (without_event e ∷ past)) = grind (arith, nat_tests, after-own) in
+    let own-same : left_at id (given_to None m rows) m ≡ counted_left c (e ∷ past) id m = grind (arith, nat_tests, given-none, back-same) in
+    let own-apart : (k : ℕ) → eqb k m ≡ false → left_at id (given_to None m rows) k ≡ counted_left c (e ∷ past) id k = grind (arith, nat_tests, given-apart, back-other) in
+    let other-same : (x : ThreadId) → is_same x id ≡ false → left_at x (given_to None m rows) m ≡ left_at x rows m = grind (arith, nat_tests, given-none, left-taken) in
     record {
       mutexes = emptied-given None m rows ∙ before.mutexes;
       holds = each c past rows id m e None before mine stays own-same own-apart other-same;

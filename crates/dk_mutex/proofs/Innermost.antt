@@ -1,21 +1,8 @@
 -- What a thread holds, by the table and by the past: which mutex it locked last, and for how long it may hold it.
-use Rattle.std.proofs.Common.{◌≡◌, ◌≤◌, ◌+◌, ◌∙◌, inl, inr, ◌&&◌, Bool, true, false, eqb, leb, ℕ, zero, suc, List, [], ◌∷◌, map, Option, Some, None, option_map, refl, ap, sym, subst, arith}
-use Rattle.std.specs.Prelude.{slice_get, is_none, is_some, min}
-use Rattle.std.specs.List.{list_any, position_from}
-use Rattle.std.specs.Option.{option_map_or}
-use Rattle.std.proofs.lemmas.Bool.{cases_Bool, cases_lt, eq-eqb}
-use Rattle.std.proofs.lemmas.Bool.Decides.{nat_tests}
-use Rattle.dk_config.specs.Configuration.{Configuration}
-use Rattle.dk_trace.specs.declared.ThreadId.{ThreadId}
-use Rattle.dk_trace.specs.declared.Entry.{Entry}
-use Rattle.dk_trace.specs.Members.{Has}
-use Rattle.dk_trace.specs.Holds.{Hold, held_by, hold_left as past_left, innermost_left, is_held, is_holding, is_innermost as is_past_innermost}
-use Rattle.dk_mutex.specs.declared.row.Holder.{Holder}
-use Rattle.dk_mutex.specs.declared.row.Lockable.{Lockable}
-use Rattle.dk_mutex.specs.Rows.{is_by, is_within, left_of, least, joined}
-use Rattle.dk_mutex.specs.Table.{left_at, hold_left, innermost, holds_within, is_free, is_held_by, is_innermost}
-use Rattle.dk_mutex.specs.Recount.{IsRecount, LastIsLeast, hold_at, last_locked}
-use Rattle.dk_trace.proofs.Same.{same-self}
+use Rattle.dk_mutex.proofs.Names.{◌≡◌, ◌≤◌, ◌+◌, ◌∙◌, inl, inr, ◌&&◌, Bool, true, false, eqb, leb, ℕ, zero, suc, List, [], ◌∷◌, map, Option, Some, None, refl, ap, sym, arith, is_none, is_some, list_any, position_from, option_map_or, cases_Bool, cases_lt, eq-eqb, nat_tests, Configuration, ThreadId, Entry, Has, Hold, held_by, past_left, innermost_left, is_holding, is_past_innermost, Holder, Lockable, is_by, is_within, left_of, least, joined, left_at, hold_left, innermost, holds_within, is_free, is_held_by, is_innermost, IsRecount, LastIsLeast, hold_at, last_locked, same-self}
+use Rattle.std.proofs.Common.{option_map}
+use Rattle.std.specs.Prelude.{slice_get, min}
+use Rattle.dk_trace.specs.Holds.{is_held}
 use Rattle.dk_mutex.proofs.Holding.{left-free}
 
 -- Where a mutex is found.
@@ -89,11 +76,7 @@ position-none test i (row ∷ rows) none = let here = none zero row refl in rw h
 position-is : (test : Lockable → Bool) (i : ℕ) (rows : List Lockable) (m : ℕ) (row : Lockable) → slice_get rows m ≡ Some row → test row ≡ true
     → ((k : ℕ) (r : Lockable) → slice_get rows k ≡ Some r → test r ≡ true → k ≡ m) → position_from test i rows ≡ Some (i + m)
 position-is test i [] m row at passes alone = absurd (cc)
-position-is test i (r ∷ rows) zero row at passes alone =
-    let is : r ≡ row = cc in
-    let here : test r ≡ true = subst (λ z. test z ≡ true) (sym is) passes in
-    let e : i ≡ i + 0 = omega arith in
-    rw here (ap Some e)
+position-is test i (r ∷ rows) zero row at passes alone = grind (arith, nat_tests)
 position-is test i (r ∷ rows) (suc m) row at passes alone =
     let later = position-is test (i + 1) rows m row at passes (λ k q h t. let e = alone (suc k) q h t in omega (arith, e)) in
     let e : (i + 1) + m ≡ i + suc m = omega arith in
@@ -197,9 +180,7 @@ module _ (c : Configuration) (x : ThreadId) (rows : List Lockable) where
   within-is (h ∷ held) n last holds = first-within c x rows h held last holds n
 
   pub test-is : (held : List Hold) (m : ℕ) → LastIsLeast c held → AreHeld held → is_innermost x rows m ≡ is_past_innermost m held
-  test-is [] m last holds =
-      of-left x (is_within x (hold_left x rows)) (λ o. option_map_or (λ l. leb l (hold_left x rows)) o false) (slice_get rows m) (within-left x (hold_left x rows))
-      ∙ ap (λ o. option_map_or (λ l. leb l (hold_left x rows)) o false) (holds m)
+  test-is [] m last holds = grind (arith, nat_tests, of-left, within-left)
   test-is (h ∷ held) m last holds = first-test c x rows h held last holds m
 
 pub left-past : (c : Configuration) (past : List Entry) (rows : List Lockable) (x : ThreadId) → IsRecount c past rows → LastIsLeast c (held_by x past)
@@ -230,8 +211,7 @@ module _ (c : Configuration) (past : List Entry) (rows : List Lockable) (m : ℕ
       go-row : (row : Lockable) → slice_get rows m ≡ Some row → (o : Option Holder) → row.holder ≡ o → is_none row.holder ≡ true
       go-row row at None none = ap (λ o. is_none o) none
       go-row row at (Some h) some =
-          let mine : left_of h.thread row ≡ Some h.left =
-          ap (λ (o : Option Holder). left_of h.thread (record row { holder = o })) some ∙ rw (same-self h.thread) refl in
+          let mine : left_of h.thread row ≡ Some h.left = grind (arith, nat_tests, same-self) in
           let there : left_at h.thread rows m ≡ Some h.left = ap (λ o. option_map_or (left_of h.thread) o None) at ∙ mine in
           let counted : option_map (past_left c) (hold_at m (held_by h.thread past)) ≡ Some h.left = sym (is.holds h.thread m) ∙ there in
           let found : is_some (hold_at m (held_by h.thread past)) ≡ true = some-of (hold_at m (held_by h.thread past)) h.left counted in

@@ -1,8 +1,5 @@
 -- The least of numbers that come one by one.
-use Rattle.std.proofs.Common.{◌≡◌, ◌<◌, ◌+◌, add-one, ℕ, zero, suc, List, [], ◌∷◌, length, map, take, get_or, Option, None, arith}
-use Rattle.dk_mutex.specs.declared.row.Lockable.{Lockable}
-use Rattle.dk_mutex.specs.Rows.{joined, least}
-use Rattle.std.proofs.lemmas.Bool.Decides.{nat_tests}
+use Rattle.dk_mutex.proofs.Names.{◌≡◌, ◌<◌, ◌+◌, add-one, ℕ, zero, suc, List, [], ◌∷◌, length, map, take, get_or, Option, None, arith, Lockable, joined, least, nat_tests}
 
 joined-none : (a : Option ℕ) → joined a None ≡ a
 joined-none a = grind (arith, nat_tests)

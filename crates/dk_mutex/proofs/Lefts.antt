@@ -1,18 +1,5 @@
 -- What a thread has left of two mutexes differs, whatever is called.
-use Rattle.std.proofs.Common.{◌≡◌, ◌<◌, ◌≤◌, ◌+◌, ◌∙◌, ◌⊎◌, inl, inr, Bool, true, false, leb, ℕ, zero, suc, List, [], ◌∷◌, length, map, get_or, min, Option, Some, None, ap, sym, subst, refl, arith}
-use Rattle.std.specs.List.{position_from}
-use Rattle.std.specs.Option.{option_map_or}
-use Rattle.std.proofs.lemmas.Bool.{cases_Bool, and_parts, leb-true}
-use Rattle.std.proofs.lemmas.Bool.Decides.{nat_tests}
-use Rattle.std.proofs.lemmas.Option.{slice_get-get_or}
-use Rattle.dk_config.specs.Configuration.{Configuration}
-use Rattle.dk_trace.specs.declared.ThreadId.{ThreadId}
-use Rattle.dk_trace.specs.Entries.{is_same}
-use Rattle.dk_trace.proofs.Same.{same-id}
-use Rattle.dk_mutex.specs.declared.row.Holder.{Holder}
-use Rattle.dk_mutex.specs.declared.row.Lockable.{Lockable}
-use Rattle.dk_mutex.specs.Rows.{row_of, is_within, is_holder_within, holder_left, left_of, spent, freed, joined, least}
-use Rattle.dk_mutex.specs.Table.{at_row, ceiling_at, left_at, LeftsDiffer, given_to, hold_left, hold_of, holds_within, innermost, lock_refusal}
+use Rattle.dk_mutex.proofs.Names.{◌≡◌, ◌<◌, ◌≤◌, ◌+◌, ◌∙◌, ◌⊎◌, inl, inr, Bool, true, false, leb, ℕ, zero, suc, List, [], ◌∷◌, length, map, get_or, min, Option, Some, None, ap, sym, subst, refl, arith, position_from, option_map_or, cases_Bool, and_parts, leb-true, nat_tests, slice_get-get_or, Configuration, ThreadId, is_same, same-id, Holder, Lockable, row_of, is_within, is_holder_within, holder_left, left_of, spent, freed, joined, least, at_row, ceiling_at, left_at, LeftsDiffer, given_to, hold_left, hold_of, holds_within, innermost, lock_refusal}
 
 -- rows that are changed so that the thread has left of each what it had, if anything
 left-kept : (x : ThreadId) (f : Lockable → Lockable) → ((row : Lockable) (n : ℕ) → left_of x (f row) ≡ Some n → left_of x row ≡ Some n)
@@ -114,11 +101,7 @@ pub LeftsDiffer-locked : (h : Holder) (m : ℕ) (rows : List Lockable) → holds
     → LeftsDiffer rows → LeftsDiffer (given_to (Some h) m rows)
 LeftsDiffer-locked h m rows far before = λ x j k n one other.
     elim (left-given x (Some h) rows m j n one) [
-      | inl new ↦
-          elim (left-given x (Some h) rows m k n other) [
-            | inl too ↦ new.0 ∙ sym too.0
-            | inr old ↦ absurd (not-again x h rows k n far new.1 old)
-          ]
+      | inl new ↦ grind (arith, nat_tests, left-given, not-again)
       | inr old ↦
           elim (left-given x (Some h) rows m k n other) [
             | inl new ↦ absurd (not-again x h rows j n far new.1 old)

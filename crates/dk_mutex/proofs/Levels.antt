@@ -1,26 +1,9 @@
 -- The levels at which the threads of a past run are those that its table tells, and so are the holders at a level.
-use Rattle.std.proofs.Common.{◌≡◌, ◌<◌, ◌≤◌, ◌+◌, ◌∙◌, ◌⊎◌, inl, inr, ◌&&◌, Bool, true, false, eqb, leb, ℕ, zero, suc, List, [], ◌∷◌, length, map, min, Option, Some, None, option_map, ap, sym, subst, refl, arith}
-use Rattle.std.specs.Prelude.{slice_get, find}
-use Rattle.std.specs.Option.{option_map_or}
-use Rattle.std.proofs.lemmas.Bool.{cases_Bool, and_parts, eqb-true}
-use Rattle.std.proofs.lemmas.Bool.Decides.{nat_tests}
-use Rattle.std.proofs.lemmas.List.FromFn.{length-map-range_with_len, get_or-map-range_with_len}
-use Rattle.dk_config.specs.Configuration.{Configuration}
-use Rattle.dk_config.specs.Windows.{ceiling}
-use Rattle.dk_trace.specs.declared.ThreadId.{ThreadId}
-use Rattle.dk_trace.specs.declared.Entry.{Entry}
-use Rattle.dk_trace.specs.Entries.{is_same}
-use Rattle.dk_trace.specs.Members.{Has}
-use Rattle.dk_trace.specs.Threads.{Thread, threads}
-use Rattle.dk_trace.specs.Holds.{Hold, held_by, hold_left, is_holding, least_ceiling, level_holding, effective_level as past_level}
+use Rattle.dk_mutex.proofs.Names.{◌≡◌, ◌<◌, ◌≤◌, ◌+◌, ◌∙◌, ◌⊎◌, inl, inr, ◌&&◌, Bool, true, false, eqb, leb, ℕ, zero, suc, List, [], ◌∷◌, length, map, min, Option, Some, None, ap, sym, subst, refl, arith, find, option_map_or, cases_Bool, and_parts, eqb-true, nat_tests, length-map-range_with_len, get_or-map-range_with_len, Configuration, ceiling, ThreadId, Entry, is_same, Has, Thread, threads, Hold, held_by, is_holding, least_ceiling, level_holding, past_level, same-self, same-id, ceiling-most, Holder, Lockable, row_of, rows_of, holder_left, left_of, ceiling_of, joined, least, of_row, left_at, effective_level, is_holder_at, first_holder, holder_at, IsRecount, HasLevels, HoldersFit, emptied, hold_at}
+use Rattle.std.proofs.Common.{option_map}
+use Rattle.std.specs.Prelude.{slice_get}
+use Rattle.dk_trace.specs.Holds.{hold_left}
 use Rattle.dk_trace.specs.Choices.{holder_at as past_holder_at}
-use Rattle.dk_trace.proofs.Same.{same-self, same-id}
-use Rattle.dk_trace.proofs.Holds.{ceiling-most}
-use Rattle.dk_mutex.specs.declared.row.Holder.{Holder}
-use Rattle.dk_mutex.specs.declared.row.Lockable.{Lockable}
-use Rattle.dk_mutex.specs.Rows.{row_of, rows_of, holder_left, left_of, ceiling_of, joined, least}
-use Rattle.dk_mutex.specs.Table.{of_row, left_at, effective_level, is_holder_at, first_holder, holder_at}
-use Rattle.dk_mutex.specs.Recount.{IsRecount, HasLevels, HoldersFit, emptied, hold_at}
 use Rattle.dk_mutex.proofs.Least.{no_row}
 use Rattle.dk_mutex.proofs.Lefts.{ceiling-read}
 
@@ -130,10 +113,7 @@ has-hold_at (k ∷ held) h has =
       | inl here ↦ (k, rw here refl)
       | inr other ↦
           elim has [
-            | inl is ↦
-                let number : k.mutex ≡ h.mutex = ap (λ (z : Hold). z.mutex) is in
-                let same : eqb k.mutex h.mutex ≡ true = grind (arith, nat_tests) in
-                absurd (cc)
+            | inl is ↦ grind (arith, nat_tests)
             | inr rest ↦ let r = has-hold_at held h rest in (r.0, rw other r.1)
           ]
     ]
@@ -257,8 +237,7 @@ module _ (c : Configuration) (past : List Entry) (rows : List Lockable) (is : Is
           let some : Some h.thread ≡ Some id = rw is' at found' in
           let name : h.thread ≡ id = cc in
           let test : eqb (effective_level h.thread h.level rows) k ≡ true = rw is' at here in
-          let level : effective_level h.thread h.level rows ≡ past_level c past y.0 =
-          level-past h.thread h.level ∙ ap (λ i. level_holding c h.level (held_by i past)) (sym y.2) ∙ ap (λ n. level_holding c n (held_by y.0.id past)) y.4 in
+          let level : effective_level h.thread h.level rows ≡ past_level c past y.0 = grind (arith, nat_tests, level-past) in
           let test' : eqb (past_level c past y.0) k ≡ true = subst (λ n. eqb n k ≡ true) level test in
           let holding = y.3 in
           (y.0, y.1, y.2 ∙ name, rw (holding, test') refl)
@@ -329,10 +308,7 @@ module _ (c : Configuration) (past : List Entry) (rows : List Lockable) (is : Is
             let off = found-first levels k 0 rows (λ i. ap (slice_get rows) (omega arith)) none h.0.mutex row.0 row.1 row.2 row.3 in
             let self : is_same z.id row.1.thread ≡ true = subst (λ i. is_same z.id i ≡ true) (sym row.4) (same-self z.id) in
             let own : row.1.level ≡ z.level = levels h.0.mutex row.0 row.1 z row.2 row.3 among self in
-            let level : effective_level row.1.thread row.1.level rows ≡ past_level c past z =
-            level-past row.1.thread row.1.level
-            ∙ ap (λ i. level_holding c row.1.level (held_by i past)) row.4
-            ∙ ap (λ n. level_holding c n (held_by z.id past)) own in
+            let level : effective_level row.1.thread row.1.level rows ≡ past_level c past z = grind (arith, nat_tests, level-past) in
             let off' : eqb (past_level c past z) k ≡ false = subst (λ n. eqb n k ≡ false) level off in
             let on : eqb (past_level c past z) k ≡ true = parts.1 in
             absurd (cc)

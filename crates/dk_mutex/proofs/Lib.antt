@@ -1,3 +1,4 @@
+pub mod Names
 pub mod Giving
 pub mod Holding
 pub mod Least

@@ -1,27 +1,10 @@
 -- The front of the mutexes once a thread has locked one of them.
-use Rattle.std.proofs.Common.{arith, inl, inr, ◌≡◌, ◌<◌, ◌≤◌, ◌∙◌, ◌⊎◌, true, false, eqb, leb, ℕ, zero, suc, min, length, slice_get, List, [], ◌∷◌, map, Option, Some, None, refl, ap, sym, subst}
-use Rattle.std.specs.Prelude.{is_none, option_map}
-use Rattle.std.specs.List.{list_any}
-use Rattle.std.specs.Option.{option_map_or}
-use Rattle.std.proofs.lemmas.Bool.{cases_Bool, cases_lt, ne_eqb, or_parts, or_right, eq-eqb}
-use Rattle.std.proofs.lemmas.Bool.Decides.{nat_tests}
-use Rattle.dk_trace.specs.declared.ThreadId.{ThreadId}
-use Rattle.dk_trace.specs.Entries.{is_same}
-use Rattle.dk_trace.proofs.Same.{same-id, same-self}
-use Rattle.dk_mutex.specs.declared.front.Front.{Front}
-use Rattle.dk_mutex.specs.declared.row.Holder.{Holder}
-use Rattle.dk_mutex.specs.declared.row.Lockable.{Lockable}
-use Rattle.dk_mutex.specs.Rows.{ceiling_of, holder_left, is_by, is_held, is_holder, is_holder_within, joined, least, left_of}
-use Rattle.dk_mutex.specs.Table.{ceiling_at, effective_level, first_holder, given_to, hold_left, holder_at, holds_within, is_free, is_holder_at}
-use Rattle.dk_mutex.specs.Front.{IsFrontOf, IsLockable}
+use Rattle.dk_mutex.proofs.Names.{arith, inl, inr, ◌≡◌, ◌<◌, ◌≤◌, ◌∙◌, ◌⊎◌, true, false, eqb, ℕ, zero, suc, min, length, slice_get, List, [], ◌∷◌, map, Option, Some, None, refl, ap, sym, subst, is_none, option_map, list_any, option_map_or, cases_Bool, cases_lt, ne_eqb, or_parts, or_right, eq-eqb, nat_tests, ThreadId, is_same, same-id, same-self, Front, Holder, Lockable, ceiling_of, holder_left, is_by, is_held, is_holder, is_holder_within, joined, least, left_of, ceiling_at, effective_level, first_holder, given_to, hold_left, holder_at, holds_within, is_free, is_holder_at, IsFrontOf, IsLockable}
 use Rattle.dk_mutex.proofs.Lefts.{given-further}
 use Rattle.dk_mutex.proofs.Unheld.{runs-there}
 
 joined-swap : (a b c : Option ℕ) → joined a (joined b c) ≡ joined b (joined a c)
-joined-swap None b c = refl
-joined-swap (Some a) None c = refl
-joined-swap (Some a) (Some b) None = ap Some (omega arith)
-joined-swap (Some a) (Some b) (Some c) = ap Some (omega arith)
+joined-swap a b c = grind (arith, nat_tests)
 
 pub free-row : (row : Lockable) → is_none row.holder ≡ true → row.holder ≡ None
 free-row row free = go row.holder refl
@@ -35,31 +18,21 @@ given-least : (f : Lockable → Option ℕ) (h : Holder) (o : Option ℕ) → ((
     → ((row : Lockable) → slice_get rows m ≡ Some row → f (record row { holder = Some h }) ≡ o) → is_free m rows ≡ true → m < length rows
     → least (map f (given_to (Some h) m rows)) ≡ joined o (least (map f rows))
 given-least f h o frees m [] new free below = absurd (omega arith)
-given-least f h o frees zero (row ∷ rows) new free below =
-    ap (λ a. joined a (least (map f rows))) (new row refl)
-    ∙ ap (λ a. joined o (joined a (least (map f rows)))) (sym (frees row (free-row row free)))
-given-least f h o frees (suc m) (row ∷ rows) new free below =
-    rw (given-further (Some h) m row rows)
-    (ap (joined (f row)) (given-least f h o frees m rows new free (omega arith))
-    ∙ joined-swap (f row) o (least (map f rows)))
+given-least f h o frees zero (row ∷ rows) new free below = grind (arith, nat_tests, free-row, given-further, joined-swap)
+given-least f h o frees (suc m) (row ∷ rows) new free below = grind (arith, nat_tests, free-row, given-further, joined-swap, given-least f h o frees m rows)
 
 held-given : (h : Holder) (m : ℕ) (rows : List Lockable) → m < length rows → list_any is_held (given_to (Some h) m rows) ≡ true
 held-given h m [] below = absurd (omega arith)
 held-given h zero (row ∷ rows) below = refl
-held-given h (suc m) (row ∷ rows) below =
-    rw (given-further (Some h) m row rows) (or_right (is_held row) (list_any is_held (given_to (Some h) m rows)) (held-given h m rows (omega arith)))
+held-given h (suc m) (row ∷ rows) below = grind (arith, nat_tests, given-further, or_right, held-given h m rows)
 
 named-some : (all : List Lockable) (level : ℕ) (o : Option Holder) → is_holder_at all level o ≡ true → option_map (λ (h : Holder). h.thread) o ≡ None → ⊥
-named-some all level None on none = absurd (cc)
-named-some all level (Some h) on none = absurd (cc)
+named-some all level o on none = grind (arith, nat_tests)
 
 -- where nobody runs at the level the first row's holder doesn't
 none-parts : (all : List Lockable) (level : ℕ) (row : Lockable) (rows : List Lockable) → first_holder all level (row ∷ rows) ≡ None
     → (is_holder_at all level row.holder ≡ false) × (first_holder all level rows ≡ None)
-none-parts all level row rows none = elim (cases_Bool (is_holder_at all level row.holder)) [
-  | inl on ↦ let name : option_map (λ (h : Holder). h.thread) row.holder ≡ None = rw on at none in absurd (named-some all level row.holder on name)
-  | inr off ↦ (off, let later : first_holder all level rows ≡ None = rw off at none in later)
-]
+none-parts all level row rows none = grind (arith, nat_tests, named-some)
 
 -- where nobody runs at the level, nobody holds anything who would
 pub none-by : (all : List Lockable) (x : ThreadId) (level : ℕ) → least (map (ceiling_of x) all) ≡ Some level → (rows : List Lockable)
@@ -102,11 +75,7 @@ above-all x most (row ∷ rows) n far is =
     at-holder : (o : Option Holder) → is_holder_within x most o ≡ false → (a : ℕ) → holder_left x o ≡ Some a → most < a
     at-holder None off a e = absurd (cc)
     at-holder (Some h) off a e = elim (cases_Bool (is_same x h.thread)) [
-      | inl same ↦
-          let left : Some h.left ≡ Some a = rw same at e in
-          let above : leb h.left most ≡ false = rw same at off in
-          let number : h.left ≡ a = cc in
-          grind (arith, nat_tests)
+      | inl same ↦ grind (arith, nat_tests)
       | inr other ↦ let none : None ≡ Some a = rw other at e in absurd (cc)
     ]
 
@@ -151,15 +120,7 @@ module _ (h : Holder) (m : ℕ) (rows : List Lockable) (can : IsLockable h m row
       go (Some n) above = let less : h.left < n = above n refl in omega (arith, less)
 
   other-runs : (k : ℕ) (o : Option Holder) → is_holder h.thread o ≡ false → is_holder_at next k o ≡ is_holder_at rows k o
-  other-runs k None apart = refl
-  other-runs k (Some g) apart =
-      elim (cases_Bool (is_same g.thread h.thread)) [
-        | inl same ↦
-            let clash : is_same h.thread h.thread ≡ false = subst (λ y. is_same h.thread y ≡ false) (same-id g.thread h.thread same) apart in
-            let no : true ≡ false = sym (same-self h.thread) ∙ clash in
-            absurd (cc)
-        | inr other ↦ ap (λ n. eqb n k) (other-level g.thread g.level other)
-      ]
+  other-runs k o apart = grind (arith, nat_tests, same-id, same-self, other-level)
 
   module _ (level : ℕ) (runs : (own : ℕ) → effective_level h.thread own next ≡ level) where
     own-runs : (k : ℕ) (o : Option Holder) → is_holder h.thread o ≡ true → is_holder_at next k o ≡ eqb level k
@@ -167,8 +128,7 @@ module _ (h : Holder) (m : ℕ) (rows : List Lockable) (can : IsLockable h m row
     own-runs k (Some g) by = ap (λ n. eqb n k) (subst (λ y. effective_level y g.level next ≡ level) (same-id h.thread g.thread by) (runs g.level))
 
     own-name : (o : Option Holder) → is_holder h.thread o ≡ true → option_map (λ (g : Holder). g.thread) o ≡ Some h.thread
-    own-name None by = absurd (cc)
-    own-name (Some g) by = ap Some (sym (same-id h.thread g.thread by))
+    own-name o by = grind (arith, nat_tests, same-id)
 
     runs-now : is_holder_at next level (Some h) ≡ true
     runs-now = own-runs level (Some h) (same-self h.thread) ∙ eq-eqb level level refl
@@ -178,39 +138,21 @@ module _ (h : Holder) (m : ℕ) (rows : List Lockable) (can : IsLockable h m row
         → first_holder next level (given_to (Some h) j rest) ≡ Some h.thread
     first-is [] j below was = absurd (omega arith)
     first-is (row ∷ rest) zero below was = rw runs-now refl
-    first-is (row ∷ rest) (suc j) below was = rw (given-further (Some h) j row rest) (elim (cases_Bool (is_holder h.thread row.holder)) [
-      | inl own ↦ rw (own-runs level row.holder own ∙ eq-eqb level level refl) (own-name row.holder own)
-      | inr other ↦ elim (cases_Bool (is_holder_at rows level row.holder)) [
-        | inl on ↦ rw (other-runs level row.holder other ∙ on) (elim was [
-          | inl none ↦ absurd (named-some rows level row.holder on (let name : option_map (λ (g : Holder). g.thread) row.holder ≡ None = rw on at none in name))
-          | inr some ↦ (let name : option_map (λ (g : Holder). g.thread) row.holder ≡ Some h.thread = rw on at some in name)
-        ])
-        | inr off ↦ rw (other-runs level row.holder other ∙ off) (first-is rest j (omega arith) (rw off at was))
-      ]
-    ])
+    first-is (row ∷ rest) (suc j) below was = grind (arith, nat_tests, runs-now, given-further, own-runs, eq-eqb, own-name, other-runs, named-some, first-is rest j)
 
     -- nobody runs at another level where nobody did
     module _ (k : ℕ) (apart : eqb level k ≡ false) where
       still-off : (o : Option Holder) → is_holder_at rows k o ≡ false → is_holder_at next k o ≡ false
-      still-off o off = elim (cases_Bool (is_holder h.thread o)) [
-        | inl own ↦ own-runs k o own ∙ apart
-        | inr other ↦ other-runs k o other ∙ off
-      ]
+      still-off o off = grind (arith, nat_tests, own-runs, other-runs)
 
       none-rest : (rest : List Lockable) → first_holder rows k rest ≡ None → first_holder next k rest ≡ None
       none-rest [] none = refl
-      none-rest (row ∷ rest) none =
-          let parts = none-parts rows k row rest none in
-          rw (still-off row.holder parts.0) (none-rest rest parts.1)
+      none-rest (row ∷ rest) none = grind (arith, nat_tests, none-parts, still-off, none-rest rest)
 
       none-still : (rest : List Lockable) (j : ℕ) → first_holder rows k rest ≡ None → first_holder next k (given_to (Some h) j rest) ≡ None
       none-still [] j none = refl
-      none-still (row ∷ rest) zero none =
-          let off : is_holder_at next k (Some h) ≡ false = own-runs k (Some h) (same-self h.thread) ∙ apart in
-          rw off (none-rest rest (none-parts rows k row rest none).1)
-      none-still (row ∷ rest) (suc j) none =
-          let parts = none-parts rows k row rest none in
-          rw (given-further (Some h) j row rest) (rw (still-off row.holder parts.0) (none-still rest j parts.1))
+      none-still (row ∷ rest) zero none = grind (arith, nat_tests, own-runs, same-self, none-rest, none-parts, given-further, still-off)
+      none-still (row ∷ rest) (suc j) none = grind (arith, nat_tests, own-runs, same-self, none-rest, none-parts, given-further, still-off, none-still rest j)
 
   -- the front once the ceiling is below its level, or the thread is its holder
   module _ (front : Front) (was : IsFrontOf front rows) where
@@ -225,10 +167,7 @@ module _ (h : Holder) (m : ℕ) (rows : List Lockable) (can : IsLockable h m row
     joined-runs : (o : Option ℕ) → ((n : ℕ) → o ≡ Some n → front.level ≤ n)
         → (ceiling_at rows m < front.level) ⊎ (o ≡ Some front.level) → (own : ℕ)
         → option_map_or (λ n. n) (joined (Some (ceiling_at rows m)) o) own ≡ min front.level (ceiling_at rows m)
-    joined-runs None above (inl less) own = omega (arith, less)
-    joined-runs None above (inr is) own = absurd (cc)
-    joined-runs (Some n) above (inl less) own = let more : front.level ≤ n = above n refl in omega (arith, less, more)
-    joined-runs (Some n) above (inr is) own = let same : n ≡ front.level = cc in omega (arith, same)
+    joined-runs o above is own = grind (arith, nat_tests)
 
     pub front-locked : (after : Front) → (ceiling_at rows m < front.level) ⊎ (front.holder ≡ Some h.thread)
         → after ≡ record { level = min front.level (ceiling_at rows m); holder = Some h.thread; left = h.left } → IsFrontOf after next
@@ -249,10 +188,5 @@ module _ (h : Holder) (m : ℕ) (rows : List Lockable) (can : IsLockable h m row
         earlier : (holder_at (min front.level (ceiling_at rows m)) rows ≡ None) ⊎ (holder_at (min front.level (ceiling_at rows m)) rows ≡ Some h.thread)
         earlier = elim (cases_lt (ceiling_at rows m) front.level) [
           | inl less ↦ inl (was.before (min front.level (ceiling_at rows m)) (omega (arith, less)))
-          | inr more ↦ elim first [
-            | inl less ↦ absurd (omega (arith, less, more))
-            | inr named ↦
-                let level : front.level ≡ min front.level (ceiling_at rows m) = omega (arith, more) in
-                inr (subst (λ n. holder_at n rows ≡ Some h.thread) level (sym was.holder ∙ named))
-          ]
+          | inr more ↦ grind (arith, nat_tests)
         ]

@@ -1,18 +1,5 @@
 -- Who ran first before each lock, once a mutex changes hands and after a tick.
-use Rattle.std.proofs.Common.{arith, inl, inr, ◌≡◌, ◌<◌, ◌-◌, ◌∙◌, ◌++◌, true, false, ℕ, zero, suc, List, [], ◌∷◌, length, slice_get, map, Option, Some, None, refl, ap, sym, subst}
-use Rattle.std.specs.Prelude.{option_map}
-use Rattle.std.specs.List.{list_any}
-use Rattle.std.proofs.lemmas.Bool.{cases_Bool, or_parts}
-use Rattle.dk_trace.specs.declared.ThreadId.{ThreadId}
-use Rattle.dk_trace.specs.Entries.{is_same}
-use Rattle.dk_trace.proofs.Same.{same-id, same-self}
-use Rattle.dk_mutex.specs.declared.front.Front.{Front}
-use Rattle.dk_mutex.specs.declared.outer.Outer.{Outer}
-use Rattle.dk_mutex.specs.declared.row.Holder.{Holder}
-use Rattle.dk_mutex.specs.declared.row.Lockable.{Lockable}
-use Rattle.dk_mutex.specs.Rows.{freed, holder_left, is_by, spent}
-use Rattle.dk_mutex.specs.Table.{given_to, hold_left, is_free, left_at}
-use Rattle.dk_mutex.specs.Front.{AreOuter, IsFirst, IsFrontOf, IsInnermost, IsLockable, unlocked}
+use Rattle.dk_mutex.proofs.Names.{arith, inl, inr, ◌≡◌, ◌<◌, ◌-◌, ◌∙◌, ◌++◌, true, false, ℕ, zero, suc, List, [], ◌∷◌, length, slice_get, map, Option, Some, None, refl, ap, sym, subst, option_map, list_any, cases_Bool, or_parts, ThreadId, is_same, same-id, same-self, Front, Outer, Holder, Lockable, freed, holder_left, is_by, spent, given_to, hold_left, is_free, left_at, AreOuter, IsFirst, IsFrontOf, IsInnermost, IsLockable, unlocked, nat_tests}
 use Rattle.dk_mutex.proofs.Fronts.{hold-other, hold-own, same-first}
 use Rattle.dk_mutex.proofs.Lefts.{given-further}
 use Rattle.dk_mutex.proofs.Locking.{free-row, own-left}
@@ -33,25 +20,13 @@ unlocked-last (p ∷ outers) o rows = ap (given_to None p.mutex) (unlocked-last 
 pub outer-last : (outers : List Outer) (o : Outer) (rows : List Lockable) → AreOuter outers (given_to None o.mutex rows)
     → IsFirst o.level o.holder (given_to None o.mutex rows) → IsInnermost o.mutex rows → AreOuter (outers ++ o ∷ []) rows
 outer-last [] o rows were first inner = (first, inner, tt)
-outer-last (p ∷ outers) o rows were first inner = (
-  subst (IsFirst p.level p.holder) (sym (unlocked-last (p ∷ outers) o rows)) were.0,
-  subst (λ rs. IsInnermost p.mutex rs) (sym (unlocked-last outers o rows)) were.1,
-  outer-last outers o rows were.2 first inner,
-)
+outer-last (p ∷ outers) o rows were first inner = grind (arith, nat_tests, unlocked-last, outer-last outers)
 
 -- and one less
 pub outer-parts : (outers : List Outer) (o : Outer) (rows : List Lockable) → AreOuter (outers ++ o ∷ []) rows
     → AreOuter outers (given_to None o.mutex rows) × IsFirst o.level o.holder (given_to None o.mutex rows)
 outer-parts [] o rows are = (tt, are.0)
-outer-parts (p ∷ outers) o rows are =
-    let rest = outer-parts outers o rows are.2 in (
-      (
-        subst (IsFirst p.level p.holder) (unlocked-last (p ∷ outers) o rows) are.0,
-        subst (λ rs. IsInnermost p.mutex rs) (unlocked-last outers o rows) are.1,
-        rest.0,
-      ),
-      rest.1,
-    )
+outer-parts (p ∷ outers) o rows are = grind (arith, nat_tests, unlocked-last, outer-parts outers)
 
 -- the newest of these locks
 pub outer-newest : (outers : List Outer) (rows : List Lockable) → AreOuter outers rows → (n : ℕ) (o : Outer) → n ≡ length outers - 1 → slice_get outers n ≡ Some o
@@ -85,30 +60,20 @@ innermost-given h m rows can = λ x n is.
 -- a mutex that was free is so again once it is unlocked
 pub back-given : (h : Holder) (m : ℕ) (rows : List Lockable) → is_free m rows ≡ true → given_to None m (given_to (Some h) m rows) ≡ rows
 back-given h m [] free = refl
-back-given h zero (row ∷ rows) free = ap (λ (o : Option Holder). record row { holder = o } ∷ rows) (sym (free-row row free))
-back-given h (suc m) (row ∷ rows) free =
-    ap (given_to None (suc m)) (given-further (Some h) m row rows)
-    ∙ given-further None m row (given_to (Some h) m rows)
-    ∙ ap (λ rs. row ∷ rs) (back-given h m rows free)
+back-given h zero (row ∷ rows) free = grind (arith, nat_tests, free-row, given-further)
+back-given h (suc m) (row ∷ rows) free = grind (arith, nat_tests, free-row, given-further, back-given h m rows)
 
 given-spent : (x : ThreadId) (m : ℕ) (rows : List Lockable) → given_to None m (map (spent x) rows) ≡ map (spent x) (given_to None m rows)
 given-spent x m [] = refl
 given-spent x zero (row ∷ rows) = refl
-given-spent x (suc m) (row ∷ rows) =
-    given-further None m (spent x row) (map (spent x) rows)
-    ∙ ap (λ rs. spent x row ∷ rs) (given-spent x m rows)
-    ∙ sym (ap (map (spent x)) (given-further None m row rows))
+given-spent x (suc m) (row ∷ rows) = grind (arith, nat_tests, given-further, given-spent x m rows)
 
 unlocked-spent : (x : ThreadId) (outers : List Outer) (rows : List Lockable) → unlocked outers (map (spent x) rows) ≡ map (spent x) (unlocked outers rows)
 unlocked-spent x [] rows = refl
 unlocked-spent x (o ∷ outers) rows = ap (given_to None o.mutex) (unlocked-spent x outers rows) ∙ given-spent x o.mutex (unlocked outers rows)
 
 first-spent : (x : ThreadId) (level : ℕ) (first : Option ThreadId) (rows : List Lockable) → IsFirst level first rows → IsFirst level first (map (spent x) rows)
-first-spent x level first rows was = record {
-  held = was.held ∙ sym (held-spent x rows);
-  before = λ k less. same-first x rows k rows ∙ was.before k less;
-  holder = was.holder ∙ sym (same-first x rows level rows);
-}
+first-spent x level first rows was = grind (arith, nat_tests, held-spent, same-first)
 
 -- nor does it change which mutex is innermost
 innermost-spent : (x : ThreadId) (m : ℕ) (rows : List Lockable) → IsInnermost m rows → IsInnermost m (map (spent x) rows)
@@ -127,10 +92,7 @@ innermost-spent x m rows was = λ y n is. elim (cases_Bool (is_same x y)) [
     apart : (y : ThreadId) → is_same x y ≡ false → is_same y x ≡ false
     apart y other = elim (cases_Bool (is_same y x)) [
       | inr off ↦ off
-      | inl on ↦
-          let clash : is_same x x ≡ false = subst (λ z. is_same x z ≡ false) (same-id y x on) other in
-          let no : true ≡ false = sym (same-self x) ∙ clash in
-          absurd (cc)
+      | inl on ↦ grind (arith, nat_tests, same-id, same-self)
     ]
 
 -- a tick moves no holder
@@ -145,7 +107,4 @@ outer-spent x (o ∷ outers) rows were = (
 -- who holds nothing has nothing to give up
 pub freed-none : (x : ThreadId) (rows : List Lockable) → list_any (is_by x) rows ≡ false → map (freed x) rows ≡ rows
 freed-none x [] none = refl
-freed-none x (row ∷ rows) none =
-    let parts = or_parts (is_by x row) (list_any (is_by x) rows) none in
-    let one : freed x row ≡ row = rw parts.0 refl in
-    ap (λ r. r ∷ map (freed x) rows) one ∙ ap (λ rs. row ∷ rs) (freed-none x rows parts.1)
+freed-none x (row ∷ rows) none = grind (arith, nat_tests, or_parts, freed-none x rows)

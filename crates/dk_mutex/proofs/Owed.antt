@@ -1,17 +1,5 @@
 -- What is owed, once it is taken from the rows.
-use Rattle.std.proofs.Common.{arith, inl, inr, ◌≡◌, ◌∙◌, ◌-◌, ◌+◌, ◌||◌, Bool, true, false, leb, ℕ, zero, suc, List, [], ◌∷◌, length, map, Option, Some, None, refl, ap, sym, subst}
-use Rattle.std.specs.Prelude.{max, nat_le, option_map, if◌then◌else◌}
-use Rattle.std.specs.List.{list_any, position_from, refill}
-use Rattle.std.specs.Option.{option_map_or}
-use Rattle.std.proofs.lemmas.Bool.{cases_Bool}
-use Rattle.std.proofs.lemmas.List.{length-map}
-use Rattle.dk_trace.specs.declared.ThreadId.{ThreadId}
-use Rattle.dk_trace.specs.Entries.{is_same}
-use Rattle.dk_trace.proofs.Same.{same-id, same-self}
-use Rattle.dk_mutex.specs.declared.row.Holder.{Holder}
-use Rattle.dk_mutex.specs.declared.row.Lockable.{Lockable}
-use Rattle.dk_mutex.specs.Rows.{ceiling_of, holder_left, is_by_process, is_within, is_within_owed, joined, least, left_of, left_under, left_up_to, lowered, lowered_by, owed_by, spent, taken}
-use Rattle.dk_mutex.specs.Table.{at_row, given_to, hold_left, holder_at}
+use Rattle.dk_mutex.proofs.Names.{arith, inl, inr, ◌≡◌, ◌∙◌, ◌-◌, ◌+◌, Bool, true, false, leb, ℕ, zero, suc, List, [], ◌∷◌, length, map, Option, Some, None, refl, ap, sym, subst, max, nat_le, option_map, if◌then◌else◌, list_any, position_from, refill, option_map_or, cases_Bool, length-map, ThreadId, is_same, same-id, same-self, Holder, Lockable, ceiling_of, holder_left, is_by_process, is_within, is_within_owed, joined, least, left_of, left_under, left_up_to, lowered, lowered_by, owed_by, spent, taken, at_row, given_to, hold_left, holder_at, nat_tests}
 use Rattle.dk_mutex.proofs.Fronts.{same-first, same-least, within-one}
 use Rattle.dk_mutex.proofs.Giving.{rows-whole}
 use Rattle.dk_mutex.proofs.Lefts.{given-further}
@@ -20,40 +8,28 @@ less-none : (a : ℕ) → a - 0 ≡ a
 less-none a = omega arith
 
 pub lowered-none : (x : ThreadId) (o : Option Holder) → lowered_by 0 x o ≡ o
-lowered-none x None = refl
-lowered-none x (Some h) = elim (cases_Bool (is_same x h.thread)) [ inl on ↦ rw on (ap (λ l. Some (record h { left = l })) (less-none h.left)) | inr off ↦ rw off refl ]
+lowered-none x o = grind (arith, nat_tests, less-none)
 
 -- nothing is owed
 pub taken-none : (x : ThreadId) (rows : List Lockable) → map (taken 0 x) rows ≡ rows
 taken-none x [] = refl
-taken-none x (row ∷ rows) =
-    ap (λ (o : Option Holder). record row { holder = o } ∷ map (taken 0 x) rows) (lowered-none x row.holder)
-    ∙ ap (λ rs. row ∷ rs) (taken-none x rows)
+taken-none x (row ∷ rows) = grind (arith, nat_tests, lowered-none, taken-none x rows)
 
 less-more : (a n : ℕ) → a - suc n ≡ (a - n) - 1
 less-more a n = omega arith
 
 lowered-more : (n : ℕ) (x : ThreadId) (o : Option Holder) → lowered_by (suc n) x o ≡ lowered x (lowered_by n x o)
-lowered-more n x None = refl
-lowered-more n x (Some h) = elim (cases_Bool (is_same x h.thread)) [
-  | inl on ↦ rw on (rw on (ap (λ l. Some (record h { left = l })) (less-more h.left n)))
-  | inr off ↦ rw off (rw off refl)
-]
+lowered-more n x o = grind (arith, nat_tests, less-more)
 
 -- one tick more
 pub taken-more : (n : ℕ) (x : ThreadId) (rows : List Lockable) → map (taken (suc n) x) rows ≡ map (spent x) (map (taken n x) rows)
 taken-more n x [] = refl
-taken-more n x (row ∷ rows) =
-    ap (λ (o : Option Holder). record row { holder = o } ∷ map (taken (suc n) x) rows) (lowered-more n x row.holder)
-    ∙ ap (λ rs. spent x (taken n x row) ∷ rs) (taken-more n x rows)
+taken-more n x (row ∷ rows) = grind (arith, nat_tests, lowered-more, taken-more n x rows)
 
 -- what was owed is taken from the rows
 pub paid : (n later : ℕ) (x : ThreadId) (rows made : List Lockable) → later ≡ 0 → made ≡ map (taken n x) rows
     → map (taken later x) (refill (length rows) rows made) ≡ map (taken n x) rows
-paid n later x rows made none is =
-    ap (λ k. map (taken k x) (refill (length rows) rows made)) none
-    ∙ taken-none x (refill (length rows) rows made)
-    ∙ rows-whole (map (taken n x) rows) rows made is (length-map rows (taken n x))
+paid n later x rows made none is = grind (arith, nat_tests, taken-none, rows-whole, length-map)
 
 -- what each tick keeps
 pub taken-keeps : (P : List Lockable → Type 0) (x : ThreadId) (rows : List Lockable) → P rows → ((rs : List Lockable) → P rs → P (map (spent x) rs))
@@ -78,16 +54,12 @@ same-process p n x row = go row.holder
 pub any-by : (f : Lockable → Lockable) (test stands : Lockable → Bool) → ((row : Lockable) → test (f row) ≡ stands row)
     → (rows : List Lockable) → list_any test (map f rows) ≡ list_any stands rows
 any-by f test stands same [] = refl
-any-by f test stands same (row ∷ rows) =
-    ap (λ b. b || list_any test (map f rows)) (same row) ∙ ap (λ b. stands row || b) (any-by f test stands same rows)
+any-by f test stands same (row ∷ rows) = grind (arith, nat_tests, any-by f test stands same rows)
 
 pub position-by : (f : Lockable → Lockable) (test stands : Lockable → Bool) → ((row : Lockable) → test (f row) ≡ stands row)
     → (i : ℕ) (rows : List Lockable) → position_from test i (map f rows) ≡ position_from stands i rows
 position-by f test stands same i [] = refl
-position-by f test stands same i (row ∷ rows) = elim (cases_Bool (stands row)) [
-  | inl on ↦ rw (same row) (rw on refl)
-  | inr off ↦ rw (same row) (rw off (position-by f test stands same (i + 1) rows))
-]
+position-by f test stands same i (row ∷ rows) = grind (arith, nat_tests, position-by f test stands same (i + 1) rows)
 
 pub at-by : (f : Lockable → Lockable) (test stands : Lockable → Bool) → ((row : Lockable) → test (f row) ≡ stands row)
     → (rows : List Lockable) (m : ℕ) → at_row test (map f rows) m ≡ at_row stands rows m
@@ -103,28 +75,7 @@ apart-same : (y x : ThreadId) (z : ThreadId) → is_same x z ≡ true → is_sam
 apart-same y x z on apart = subst (λ t. is_same y t ≡ false) (same-id x z on) apart
 
 left-holder : (y x : ThreadId) (n : ℕ) (o : Option Holder) → holder_left y (lowered_by n x o) ≡ option_map (λ l. l - owed_by y x n) (holder_left y o)
-left-holder y x n None = refl
-left-holder y x n (Some h) = elim (cases_Bool (is_same y x)) [
-  | inl same ↦
-      let is : y ≡ x = same-id y x same in
-      elim (cases_Bool (is_same y h.thread)) [
-        | inl on ↦
-            let too : is_same x h.thread ≡ true = subst (λ t. is_same t h.thread ≡ true) is on in
-            rw (same, on, too) (rw on refl)
-        | inr off ↦
-            let too : is_same x h.thread ≡ false = subst (λ t. is_same t h.thread ≡ false) is off in
-            rw (same, off, too) (rw off refl)
-      ]
-  | inr apart ↦ elim (cases_Bool (is_same x h.thread)) [
-    | inl on ↦
-        let off : is_same y h.thread ≡ false = apart-same y x h.thread on apart in
-        rw (apart, on, off) refl
-    | inr off ↦ elim (cases_Bool (is_same y h.thread)) [
-      | inl by ↦ rw (apart, off, by) (ap Some (sym (less-none h.left)))
-      | inr other ↦ rw (apart, off, other) refl
-    ]
-  ]
-]
+left-holder y x n o = grind (arith, nat_tests, same-id, apart-same, less-none)
 
 pub left-taken : (y x : ThreadId) (n : ℕ) (row : Lockable) → left_of y (taken n x row) ≡ option_map (λ l. l - owed_by y x n) (left_of y row)
 left-taken y x n row = left-holder y x n row.holder
@@ -140,17 +91,12 @@ within-taken y x n most row =
     go (Some l) = refl
 
 less-joined : (k : ℕ) (a b : Option ℕ) → joined (option_map (λ n. n - k) a) (option_map (λ n. n - k) b) ≡ option_map (λ n. n - k) (joined a b)
-less-joined k None b = refl
-less-joined k (Some a) None = refl
-less-joined k (Some a) (Some b) = ap Some (omega arith)
+less-joined k a b = grind (arith, nat_tests)
 
 least-taken : (y x : ThreadId) (n : ℕ) (rows : List Lockable)
     → least (map (left_of y) (map (taken n x) rows)) ≡ option_map (λ l. l - owed_by y x n) (least (map (left_of y) rows))
 least-taken y x n [] = refl
-least-taken y x n (row ∷ rows) =
-    ap (λ o. joined o (least (map (left_of y) (map (taken n x) rows)))) (left-taken y x n row)
-    ∙ ap (joined (option_map (λ l. l - owed_by y x n) (left_of y row))) (least-taken y x n rows)
-    ∙ less-joined (owed_by y x n) (left_of y row) (least (map (left_of y) rows))
+least-taken y x n (row ∷ rows) = grind (arith, nat_tests, left-taken, less-joined, least-taken y x n rows)
 
 pub hold-taken : (y x : ThreadId) (n : ℕ) (rows : List Lockable) → hold_left y (map (taken n x) rows) ≡ hold_left y rows - owed_by y x n
 hold-taken y x n rows = ap (λ o. option_map_or (λ n. n) o 0) (least-taken y x n rows) ∙ go (owed_by y x n) (least (map (left_of y) rows))
@@ -183,10 +129,7 @@ pub given-taken : (n : ℕ) (x : ThreadId) (o : Option Holder) (m : ℕ) (rows :
     → map (taken n x) (given_to o m rows) ≡ given_to (lowered_by n x o) m (map (taken n x) rows)
 given-taken n x o m [] = refl
 given-taken n x o zero (row ∷ rows) = refl
-given-taken n x o (suc m) (row ∷ rows) =
-    ap (map (taken n x)) (given-further o m row rows)
-    ∙ ap (λ rs. taken n x row ∷ rs) (given-taken n x o m rows)
-    ∙ sym (given-further (lowered_by n x o) m (taken n x row) (map (taken n x) rows))
+given-taken n x o (suc m) (row ∷ rows) = grind (arith, nat_tests, given-further, given-taken n x o m rows)
 
 -- what a debtor gets is stored with what it owes
 pub lowered-back : (n : ℕ) (x : ThreadId) (h : Holder) → is_same h.thread x ≡ true → lowered_by n x (Some (record h { left = h.left + n })) ≡ Some h

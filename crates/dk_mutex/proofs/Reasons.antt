@@ -1,13 +1,6 @@
 -- Why a lock and an unlock are refused, by the row of the mutex.
-use Rattle.std.proofs.Common.{◌≡◌, ◌||◌, Bool, false, ltb, not, ℕ, List, [], ◌∷◌, Option, Some, None, ap}
+use Rattle.dk_mutex.proofs.Names.{◌≡◌, ◌||◌, Bool, false, ltb, not, ℕ, List, [], ◌∷◌, Option, Some, None, ap, option_map_or, ThreadId, Refusal, first_refusal, Lockable, is_by, is_within, lists_user, hold_left, holds_within, lock_refusal, unlock_refusal, nat_tests, arith}
 use Rattle.std.specs.Prelude.{slice_get}
-use Rattle.std.specs.Option.{option_map_or}
-use Rattle.dk_trace.specs.declared.ThreadId.{ThreadId}
-use Rattle.dk_trace.specs.declared.Refusal.{Refusal}
-use Rattle.dk_trace.specs.Refusals.{first_refusal}
-use Rattle.dk_mutex.specs.declared.row.Lockable.{Lockable}
-use Rattle.dk_mutex.specs.Rows.{is_by, is_within, lists_user}
-use Rattle.dk_mutex.specs.Table.{hold_left, holds_within, lock_refusal, unlock_refusal}
 
 pub not-none : (r : Refusal) → Some r ≡ None → ⊥
 not-none r e = cc
@@ -27,8 +20,7 @@ lock-none x m body_left rows none = ap (lock-at x body_left rows) none
 pub lock-some : (x : ThreadId) (m body_left : ℕ) (rows : List Lockable) (row : Lockable) (uses holding little : Bool) → slice_get rows m ≡ Some row
     → uses ≡ lists_user row x.process → holding ≡ is_by x row → little ≡ (ltb body_left row.hold || holds_within x row.hold rows)
     → lock_refusal x m body_left rows ≡ lock-reason uses holding little
-lock-some x m body_left rows row uses holding little some user by least =
-    rw (user, by, least) (ap (lock-at x body_left rows) some)
+lock-some x m body_left rows row uses holding little some user by least = grind (arith, nat_tests)
 
 abbrev pub unlock-reason : Bool → Bool → Option Refusal
 unlock-reason holding innermost = first_refusal ((not holding, Refusal.NotHeld) ∷ (not innermost, Refusal.NotLast) ∷ [])

@@ -1,21 +1,8 @@
 -- The table stays the recount of the past through a tick without an event.
-use Rattle.std.proofs.Common.{◌≡◌, ◌-◌, ◌∙◌, inl, inr, Bool, true, false, ℕ, zero, suc, List, [], ◌∷◌, map, Option, None, option_map, ap, sym, subst, refl, arith}
-use Rattle.std.specs.Option.{option_map_or}
-use Rattle.std.proofs.lemmas.Bool.{cases_Bool}
-use Rattle.std.proofs.Math.Bool.{and-false}
-use Rattle.dk_config.specs.Configuration.{Configuration}
-use Rattle.dk_trace.specs.declared.ThreadId.{ThreadId}
-use Rattle.dk_trace.specs.declared.Event.{Event}
-use Rattle.dk_trace.specs.declared.Entry.{Entry}
-use Rattle.dk_trace.specs.Entries.{is_same, is_of, does, stops, thread_of}
-use Rattle.dk_trace.specs.Holds.{Hold, aged, held_by, hold_left}
-use Rattle.dk_trace.proofs.Same.{same-id}
-use Rattle.dk_mutex.specs.declared.row.Lockable.{Lockable}
-use Rattle.dk_mutex.specs.Rows.{row_of, rows_of, spent}
-use Rattle.dk_mutex.specs.Table.{left_at}
-use Rattle.dk_mutex.specs.Recount.{IsRecount, counted_left, emptied, hold_at}
+use Rattle.dk_mutex.proofs.Names.{◌≡◌, ◌-◌, ◌∙◌, inl, inr, Bool, true, false, ℕ, zero, suc, List, [], ◌∷◌, map, Option, None, ap, sym, subst, refl, arith, option_map_or, cases_Bool, and-false, Configuration, ThreadId, Event, Entry, is_same, is_of, does, stops, thread_of, Hold, aged, held_by, same-id, Lockable, row_of, rows_of, spent, left_at, IsRecount, counted_left, emptied, hold_at, nat_tests}
+use Rattle.std.proofs.Common.{option_map}
+use Rattle.dk_trace.specs.Holds.{hold_left}
 use Rattle.dk_mutex.proofs.Lefts.{nothing-held}
-use Rattle.std.proofs.lemmas.Bool.Decides.{nat_tests}
 
 emptied-start : (c : Configuration) (ms : List ℕ) → map emptied (map (row_of c) ms) ≡ map (row_of c) ms
 emptied-start c [] = refl
@@ -80,10 +67,7 @@ recount-tick c past rows id e before mine none = record {
         | inl same ↦
             subst (λ y. left_at y (map (spent id) rows) m ≡ counted_left c (e ∷ past) y m) (sym (same-id x id same))
             (left-spent-own id rows m ∙ ap (option_map (λ n. n - 1)) (before.holds id m) ∙ sym (counted-own c id e past m none mine))
-        | inr apart ↦
-            left-spent-other x id apart rows m
-            ∙ before.holds x m
-            ∙ sym (counted-other c x e past m (stops-none x e (λ test y. does-nothing test y e none)) (not-of x id (thread_of e.label) apart mine))
+        | inr apart ↦ grind (arith, nat_tests, left-spent-other, counted-other, stops-none, does-nothing, not-of)
       ];
 }
 

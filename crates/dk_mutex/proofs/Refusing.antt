@@ -1,27 +1,9 @@
 -- The table refuses a lock and an unlock as the past does.
-use Rattle.std.proofs.Common.{◌≡◌, ◌<◌, ◌≤◌, ◌∙◌, inl, inr, ◌||◌, Bool, false, ltb, ℕ, List, [], ◌∷◌, length, map, Option, Some, None, refl, ap, sym, arith}
+use Rattle.dk_mutex.proofs.Names.{◌≡◌, ◌<◌, ◌≤◌, ◌∙◌, inl, inr, ◌||◌, Bool, false, ltb, ℕ, List, [], ◌∷◌, length, map, Option, Some, None, refl, ap, sym, arith, option_map_or, cases_lt, length-map-range_with_len, get_or-map-range_with_len, slice_get-get_or, slice_get-map, slice_get_past, MAX_PROCESSES, Configuration, longest_hold, is_user, Refusal, Entry, Thread, held_by, first_refusal, past_lock_refusal, past_unlock_refusal, Lockable, lists_user, row_of, rows_of, users_of, hold_of, holds_within, is_held_by, is_innermost, lock_refusal, may_lock, unlock_refusal, IsRecount, LastIsLeast, emptied, nat_tests}
 use Rattle.std.specs.Prelude.{slice_get, not}
-use Rattle.std.specs.Option.{option_map_or}
-use Rattle.std.proofs.lemmas.Bool.{cases_lt}
-use Rattle.std.proofs.lemmas.List.FromFn.{length-map-range_with_len, get_or-map-range_with_len}
-use Rattle.std.proofs.lemmas.Option.{slice_get-get_or, slice_get-map, slice_get_past}
-use Rattle.dk_config.specs.declared.TheConstants.{MAX_PROCESSES}
-use Rattle.dk_config.specs.Configuration.{Configuration}
-use Rattle.dk_config.specs.Windows.{longest_hold}
-use Rattle.dk_config.specs.Certification.{is_user}
-use Rattle.dk_trace.specs.declared.Refusal.{Refusal}
-use Rattle.dk_trace.specs.declared.Entry.{Entry}
-use Rattle.dk_trace.specs.Threads.{Thread}
 use Rattle.dk_trace.specs.Jobs.{thread_body_left}
-use Rattle.dk_trace.specs.Holds.{held_by, is_held}
-use Rattle.dk_trace.specs.Refusals.{first_refusal}
-use Rattle.dk_trace.specs.Refusals.{lock_refusal as past_lock_refusal, unlock_refusal as past_unlock_refusal}
-use Rattle.dk_mutex.specs.declared.row.Lockable.{Lockable}
-use Rattle.dk_mutex.specs.Rows.{lists_user, row_of, rows_of, users_of}
-use Rattle.dk_mutex.specs.Table.{hold_of, holds_within, is_held_by, is_innermost, lock_refusal, may_lock, unlock_refusal}
-use Rattle.dk_mutex.specs.Recount.{IsRecount, LastIsLeast, emptied}
+use Rattle.dk_trace.specs.Holds.{is_held}
 use Rattle.dk_mutex.proofs.Innermost.{held-past, test-is, within-past}
-use Rattle.std.proofs.lemmas.Bool.Decides.{nat_tests}
 
 row-at : (c : Configuration) (m : ℕ) → m < length c.mutexes → slice_get (rows_of c) m ≡ Some (row_of c m)
 row-at c m known =

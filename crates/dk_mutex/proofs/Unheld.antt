@@ -1,18 +1,5 @@
 -- Where nobody holds a mutex, or the thread holds none, no row has to be asked.
-use Rattle.std.proofs.Common.{arith, inl, inr, ◌≡◌, ◌∙◌, true, false, ℕ, min, List, [], ◌∷◌, map, Option, Some, None, refl, ap, sym, subst}
-use Rattle.std.specs.Prelude.{is_some, option_map}
-use Rattle.std.specs.List.{list_any}
-use Rattle.std.specs.Option.{option_map_or}
-use Rattle.std.proofs.lemmas.Bool.{cases_Bool, ne_eqb, eqb-true}
-use Rattle.dk_trace.specs.declared.ThreadId.{ThreadId}
-use Rattle.dk_trace.specs.Members.{Has}
-use Rattle.dk_trace.proofs.Same.{same-self}
-use Rattle.dk_mutex.specs.declared.row.Holder.{Holder}
-use Rattle.dk_mutex.specs.declared.row.Lockable.{Lockable}
-use Rattle.dk_config.specs.Configuration.{Configuration}
-use Rattle.dk_mutex.specs.Rows.{row_of, ceiling_of, is_by, is_by_at, is_held, is_held_at, is_holder, joined, least, left_of, spent}
-use Rattle.dk_mutex.specs.Table.{effective_level, first_holder, hold_left, holder_at, is_holder_at}
-use Rattle.std.proofs.lemmas.Bool.Decides.{nat_tests}
+use Rattle.dk_mutex.proofs.Names.{arith, inl, inr, ◌≡◌, ◌∙◌, true, false, ℕ, min, List, [], ◌∷◌, map, Option, Some, None, refl, ap, sym, subst, is_some, option_map, list_any, option_map_or, cases_Bool, ne_eqb, eqb-true, ThreadId, Has, same-self, Holder, Lockable, Configuration, row_of, ceiling_of, is_by, is_by_at, is_held, is_held_at, is_holder, joined, least, left_of, spent, effective_level, first_holder, hold_left, holder_at, is_holder_at, nat_tests}
 
 -- where nobody holds a mutex the thread holds none
 pub unheld-by : (x : ThreadId) (rows : List Lockable) → list_any is_held rows ≡ false → list_any (is_by x) rows ≡ false
@@ -106,9 +93,7 @@ none-runs all level row among none = go row.holder refl
 
 none-of : (all : List Lockable) (level : ℕ) (rows : List Lockable) → ((row : Lockable) → Has rows row → Has all row) → list_any (is_held_at level) all ≡ false → first_holder all level rows ≡ None
 none-of all level [] within none = refl
-none-of all level (row ∷ rows) within none =
-    let off = none-runs all level row (within row (inl refl)) none in
-    rw off (none-of all level rows (λ r h. within r (inr h)) none)
+none-of all level (row ∷ rows) within none = grind (arith, nat_tests, none-runs, none-of all level rows)
 
 pub none-there : (level : ℕ) (rows : List Lockable) → list_any (is_held_at level) rows ≡ false → holder_at level rows ≡ None
 none-there level rows none = none-of rows level rows (λ r h. h) none

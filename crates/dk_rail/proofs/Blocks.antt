@@ -1,18 +1,10 @@
 -- The layout of a block of n places, and the type arguments of what takes or gives one. Assumes `Logic`.
+use Rattle.dk_rail.proofs.Names.{◌*◌, ◌^◌, zero-mul, suc-mul, [], ◌∷◌, Ty, Args, a_type, ty_array, dcons, dnil, size, align, capped, capped_is, RattleType, param, bounded, El, elτ, Al}
 use mathlib.Core.Path.{◌≡◌, sym, ap, ◌∙◌}
-use Prim.Native.Nat.{ℕ, zero, suc, ◌*◌, ◌<◌, ◌^◌}
-use native.Mathlib.Nat.{zero-mul, suc-mul}
+use Prim.Native.Nat.{ℕ, zero, suc, ◌<◌}
 use native.Mathlib.Omega.{arith}
-use mathlib.Core.List.{[], ◌∷◌}
-use mir.Syntax.{Ty, Args, a_type, ty_array, dcons, dnil}
 use mir.Raw.{raw as bare}
-use prog.Memory.{size, align, capped}
-use prog.Capped.{capped_is}
 use prog.RawLaws.{size-raw, align-raw}
-use denote.RattleType.{RattleType}
-use denote.Param.{param, bounded}
-use Rattle.std.proofs.mem.Param.{El, elτ}
-use Rattle.std.proofs.alloc.Calls.{Al}
 use Rattle.dk_rail.proofs.Memory.{sz}
 
 -- where the product fits a word, the count is zero or the size fits too

@@ -1,3 +1,4 @@
+pub mod Names
 pub mod Rings
 pub mod Linked
 pub mod Walking

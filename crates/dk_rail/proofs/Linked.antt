@@ -1,17 +1,11 @@
 -- The queues that stand in the cells of a rail, before and after a change of the cells.
-use Rattle.std.proofs.Common.{◌≡◌, ◌≢◌, ℕ, zero, suc, ◌+◌, ◌*◌, ◌<◌, ◌≤◌, Bool, true, false, cond, not, ◌||◌, eqb, List, [], ◌∷◌, ◌++◌, map, length, get_or, set, replicate, slice_get, Some, None, IsSome, IsNone, refl, sym, ap, subst, ◌∙◌, inl, inr, arith, ext_get_or, length-set, get_or-set_same, get_or-set_other}
-use Rattle.std.specs.List.{position_from, AllByRecursion, IsDistinct}
-use Rattle.std.specs.Prelude.{nat_lt}
-use Rattle.std.proofs.lemmas.Bool.{eq-eqb, eqb-true, le-ltb, lt-ltb}
-use Rattle.std.proofs.lemmas.Bool.Decides.{eqb_tells}
-use Rattle.std.proofs.lemmas.List.{get_or-map, length-map, get_or-replicate, length-replicate}
+use Rattle.dk_rail.proofs.Names.{◌≡◌, ◌≢◌, ℕ, zero, suc, ◌+◌, ◌<◌, ◌≤◌, Bool, true, false, cond, not, ◌||◌, eqb, List, map, length, get_or, set, replicate, slice_get, Some, IsSome, IsNone, refl, sym, ap, ◌∙◌, inl, inr, arith, ext_get_or, length-set, get_or-set_same, get_or-set_other, position_from, AllByRecursion, nat_lt, eq-eqb, eqb-true, le-ltb, lt-ltb, eqb_tells, get_or-map, length-map, get_or-replicate, length-replicate, IsDistinct-head, IsDistinct-tail, IsDistinct-cons, queue_at, holds, holder, pushed, without, unlinked, next, prev, owner, follow, list_at, lists_of, IsPath, IsLinked, IsPushed, IsUnlinked, nat_tests}
+use Rattle.std.proofs.Common.{◌*◌, [], ◌∷◌, ◌++◌, None, subst}
+use Rattle.std.specs.List.{IsDistinct}
 use Rattle.std.proofs.lemmas.List.FromFn.{length-map-range_with_len, get_or-map-range_with_len}
 use Rattle.std.proofs.lemmas.List.Folds.{list_any-append}
 use Rattle.std.proofs.lemmas.Map.Views.{any-filter_same}
 use Rattle.std.proofs.lemmas.Map.Steps.{length-le_from_distinct_below}
-use Rattle.std.proofs.lemmas.Map.Keys.{IsDistinct-head, IsDistinct-tail, IsDistinct-cons}
-use Rattle.dk_rail.specs.Queues.{queue_at, holds, holder, pushed, without, unlinked}
-use Rattle.dk_rail.specs.Links.{next, prev, owner, follow, list_at, lists_of, IsPath, IsLinked, IsPushed, IsUnlinked}
 use Rattle.dk_rail.proofs.Rings.{Apart, differ, apart-holds, last_step, last_of, between, IsBetween, follow-path, path_beside, path_pushed, path_without}
 
 all_append : (P : ℕ → Type 0) (xs : List ℕ) (x : ℕ) → AllByRecursion P xs → P x → AllByRecursion P (xs ++ x ∷ [])
@@ -22,21 +16,16 @@ unequal : (x y : ℕ) → eqb x y ≡ false → eqb y x ≡ false
 unequal x y h = elim (eqb_tells y x) [ inl hit ↦ absurd (differ x y h (sym hit.1)) | inr miss ↦ miss.0 ]
 
 distinct_append : (xs : List ℕ) (x : ℕ) → IsDistinct eqb xs → Apart x xs → IsDistinct eqb (xs ++ x ∷ [])
-distinct_append [] x h apart = IsDistinct-cons eqb x [] tt h
-distinct_append (y ∷ ys) x h apart =
-    IsDistinct-cons eqb y (ys ++ x ∷ []) (all_append (λ z. eqb y z ≡ false) ys x (IsDistinct-head eqb y ys h) (unequal x y apart.0)) (distinct_append ys x (IsDistinct-tail eqb y ys h) apart.1)
+distinct_append [] x h apart = grind (arith, nat_tests, IsDistinct-cons, all_append, IsDistinct-head, unequal, IsDistinct-tail)
+distinct_append (y ∷ ys) x h apart = grind (arith, nat_tests, IsDistinct-cons, all_append, IsDistinct-head, unequal, IsDistinct-tail, distinct_append ys)
 
 all_without : (P : ℕ → Type 0) (x : ℕ) (xs : List ℕ) → AllByRecursion P xs → AllByRecursion P (without x xs)
 all_without P x [] h = tt
-all_without P x (y ∷ ys) h =
-    elim (eqb x y) as (λ t. AllByRecursion P (cond (not t) (y ∷ without x ys) (without x ys))) [ true ↦ all_without P x ys h.1 | false ↦ (h.0, all_without P x ys h.1) ]
+all_without P x (y ∷ ys) h = grind (arith, nat_tests, all_without P x ys)
 
 distinct_without : (x : ℕ) (xs : List ℕ) → IsDistinct eqb xs → IsDistinct eqb (without x xs)
 distinct_without x [] h = h
-distinct_without x (y ∷ ys) h =
-    let rest = distinct_without x ys (IsDistinct-tail eqb y ys h) in
-    elim (eqb x y) as (λ t. IsDistinct eqb (cond (not t) (y ∷ without x ys) (without x ys)))
-    [ true ↦ rest | false ↦ IsDistinct-cons eqb y (without x ys) (all_without (λ z. eqb y z ≡ false) x ys (IsDistinct-head eqb y ys h)) rest ]
+distinct_without x (y ∷ ys) h = grind (arith, nat_tests, IsDistinct-tail, IsDistinct-cons, all_without, IsDistinct-head, distinct_without x ys)
 
 holds_without : (x y : ℕ) (xs : List ℕ) → y ≢ x → holds y xs ≡ true → holds y (without x xs) ≡ true
 holds_without x y xs other h =
@@ -104,9 +93,7 @@ module _ (c : List ℕ) (n q : ℕ) (lists : ℕ → List ℕ) (linked : IsLinke
       ];
       apart = λ j h. elim (eqb j k) as (λ t. IsDistinct eqb (cond t (lists j ++ x ∷ []) (lists j))) [ true ↦ distinct_append (lists j) x (linked.apart j h) (apart_from j h) | false ↦ linked.apart j h ];
       owned = λ y j y_low own. elim (eqb_tells y x) [
-        | inl hit ↦
-            let same : j ≡ k = omega (arith, own, p.owner_node, ap (λ (i : ℕ). owner d m i) hit.1) in
-            (omega arith, rw (eq-eqb j k same) (list_any-append (λ z. eqb y z) (lists j) (x ∷ []) ∙ at_end (holds y (lists j)) (eqb y x) hit.0))
+        | inl hit ↦ grind (arith, nat_tests, eq-eqb, list_any-append)
         | inr miss ↦
             let old = linked.owned y j y_low (sym (p.owner_other y (omega (arith, linked.covers)) miss.1) ∙ own) in
             (old.0, elim (eqb j k) as (λ t. holds y (cond t (lists j ++ x ∷ []) (lists j)) ≡ true) [ true ↦ list_any-append (λ z. eqb y z) (lists j) (x ∷ []) ∙ rw old.1 refl | false ↦ old.1 ])
@@ -242,12 +229,7 @@ pub record IsFresh (c : List ℕ) (n q : ℕ) : Type 0 where
 
 pub lists_fresh : (c : List ℕ) (n q : ℕ) → IsFresh c n q → IsLinked c n q (list_at c n) × (lists_of c n q ≡ replicate q [])
 lists_fresh c n q fresh =
-    let empty : IsLinked c n q (λ k. []) = record {
-      covers = fresh.covers;
-      rings = λ k h. let both = fresh.closed (n + k) (omega arith) (omega arith) in record { after = both.0; before = both.1 };
-      apart = λ k h. none_distinct;
-      owned = λ x k low own. absurd (omega (arith, own, fresh.free x low));
-    } in (
+    let empty : IsLinked c n q (λ k. []) = grind (arith, nat_tests, none_distinct) in (
       linked_in_cells c n q (λ k. []) empty,
       ext_get_or [] (lists_of c n q) (replicate q []) (length-lists_of c n q ∙ sym (length-replicate q [])) (λ k inside.
           let h : k < q = omega (arith, length-lists_of c n q) in

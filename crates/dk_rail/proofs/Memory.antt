@@ -1,38 +1,17 @@
 -- What the walks share: a value of one pointer or of no bytes, one place taken out of the row, put back,
 -- emptied or seen, and room for an array as a row of empty places.
-use mathlib.Core.Path.{◌≡◌, refl, sym, ap, subst, ◌∙◌}
-use Prim.Native.Nat.{ℕ, zero, suc, ◌+◌, ◌*◌, ◌<◌, ◌≤◌}
+use Rattle.dk_rail.proofs.Names.{subst, ◌*◌, zero-mul, suc-mul, [], ◌∷◌, ◌++◌, take, take-append-drop, length-take, Ura, full_share, Ty, ty_array, Val, vstruct, vcons, vnil, of_list, ent, sep, emp, ex, guard, via, snd∗, id⊢, Fml, Lft, ftrue, fsep, fat, froom, Logic, sem, Item, Goal, Seq, Step, step, ‵, some, given, learn, ◌⊛◌, ◌$◌, ◌∵◌, !, qed, by, move, keep, skip, use1, use2, pick, split, check, show, frame, fsplit, fjoin, fpick, fpack, feq_i, feq_l, rewrite, done, RattleType, Valss, Typed, Is, shows, param, layout, Laws, param_laws, part_at, Ptr, RawPtr, ptr_val, nothing, peeks, Shape, Struct, within, Tuple, tuple_type, None, type_size, El, R, el_x, elτ, Good, word, slot, slots, slot_lent, slots_lent}
+use mathlib.Core.Path.{◌≡◌, refl, sym, ap, ◌∙◌}
+use Prim.Native.Nat.{ℕ, zero, suc, ◌+◌, ◌<◌, ◌≤◌}
 use native.Mathlib.Omega.{arith}
-use native.Mathlib.Nat.{zero-mul, suc-mul}
-use mathlib.Core.List.{List, [], ◌∷◌, ◌++◌}
-use lib.ListN.{length, take, drop, set, get_or, replicate, take-append-drop, length-take}
+use mathlib.Core.List.{List}
+use lib.ListN.{length, drop, set, get_or, replicate}
 use lib.Seq.{drop-cons, set_split}
-use seplogic.Ra.Ura.{Ura}
-use base.Fraction.{full_share}
-use mir.Syntax.{Ty, ty_array}
-use mir.Val.{Val, vstruct, vcons, vnil, of_list}
-use base.Logic.{ent, sep, emp, ex, guard, via, snd∗, id⊢}
-use base.Fml.{Fml, Lft, ftrue, fsep, fat, froom}
-use types.Logic.{Logic, sem}
-use types.Kit.{Item, Goal, Seq, Step, step, ‵, some, given, learn, ◌⊛◌, ◌$◌, ◌∵◌, !, qed, by, move, keep, drop as skip, use1, use2, pick, split, check, show, frame, fsplit, fjoin, fpick, fpack, feq_i, feq_l, rewrite, done}
-use denote.RattleType.{RattleType, Valss}
-use denote.Laws.{Typed, Is, shows}
-use denote.Param.{param, layout}
-use denote.Param.Laws.{Laws, param_laws}
-use denote.Memory.{part_at}
-use denote.RawPtr.{Ptr, RawPtr, ptr_val}
 use denote.Shadow.{makes_shadow}
-use denote.Steps.{nothing, peeks}
-use denote.Struct.Struct.{Shape, Struct, within}
 use denote.Struct.Owning.{shape}
 use denote.Struct.Declared as Declared
-use denote.Struct.Tuple.{Tuple, tuple_type}
 use borrow.Table.OneValue.{part_in, part_out}
-use Rattle.std.specs.Prelude.{Option, Some, None}
-use Rattle.std.specs.Mem.{type_size}
-use Rattle.std.proofs.mem.Param.{El, R, el_x, elτ}
-use Rattle.std.proofs.RcSteps.{Good, word}
-use Rattle.dk_rail.specs.Ownership.{slot, slots, slot_lent, slots_lent}
+use Rattle.std.specs.Prelude.{Option, Some}
 use Rattle.dk_rail.specs.contracts.cells.Cells as C-type
 use Rattle.dk_rail.specs.contracts.cells.Base as B-type
 

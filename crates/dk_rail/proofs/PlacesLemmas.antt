@@ -1,8 +1,6 @@
 -- What a read and a write of one place are to the numbers of a block.
-use Rattle.std.proofs.Common.{◌≡◌, ℕ, zero, suc, ◌<◌, List, ◌∷◌, map, length, get_or, set, replicate, slice_index, Option, Some, None, refl, sym, ap, ◌∙◌, arith, ext_get_or}
-use Rattle.std.proofs.lemmas.List.{get_or-map, map-set, get_or-replicate, length-replicate}
-use Rattle.std.specs.Prelude.{unwrap_or}
-use Rattle.dk_rail.specs.Places.{numbers}
+use Rattle.dk_rail.proofs.Names.{◌≡◌, ℕ, zero, suc, ◌<◌, List, map, length, get_or, set, replicate, slice_index, Option, Some, refl, sym, ap, ◌∙◌, arith, ext_get_or, get_or-map, map-set, get_or-replicate, length-replicate, unwrap_or, numbers}
+use Rattle.std.proofs.Common.{◌∷◌, None}
 
 map-replicate : {A B : Type 0} (f : A → B) (n : ℕ) (x : A) → map f (replicate n x) ≡ replicate n (f x)
 map-replicate f zero x = refl

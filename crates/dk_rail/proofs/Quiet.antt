@@ -1,11 +1,8 @@
 -- Which queues stay empty, and who stays first behind them, where a node leaves its queue.
-use Rattle.std.proofs.Common.{ℕ, ◌≡◌, ◌≢◌, false, eqb, [], ◌∷◌, List, Option, Some, None, IfSome, slice_get, inl, inr, ◌∙◌, ap, sym, arith}
+use Rattle.dk_rail.proofs.Names.{ℕ, ◌≡◌, ◌≢◌, false, eqb, List, Option, Some, IfSome, slice_get, ◌∙◌, ap, arith, eqb-false, eqb_tells, length-map, AreQuiet, queue_at, unlinked, without, nat_tests}
+use Rattle.std.proofs.Common.{[], ◌∷◌, None}
 use Rattle.std.proofs.Math.ListN.{get_or-map}
 use Rattle.std.specs.Option.{option_eq}
-use Rattle.std.proofs.lemmas.Bool.{eqb-false}
-use Rattle.std.proofs.lemmas.Bool.Decides.{eqb_tells}
-use Rattle.std.proofs.lemmas.List.{length-map}
-use Rattle.dk_rail.specs.Queues.{AreQuiet, queue_at, unlinked, without}
 use Rattle.dk_rail.specs.Waits.{IsFirst}
 
 pub quiet-unlinked : (quiet node : ℕ) (lists : List (List ℕ)) → AreQuiet quiet lists → AreQuiet quiet (unlinked lists node)
@@ -14,9 +11,7 @@ quiet-unlinked quiet node lists was k less = get_or-map (without node) lists k [
 -- whoever stands first in a queue stays there
 remains : (xs : List ℕ) (x y : ℕ) → y ≢ x → slice_get xs 0 ≡ Some y → slice_get (without x xs) 0 ≡ Some y
 remains [] x y other is = absurd (cc)
-remains (z ∷ zs) x y other is =
-    let same : z ≡ y = cc in
-    elim (eqb_tells x z) [ inl hit ↦ absurd (other (sym same ∙ sym hit.1)) | inr miss ↦ rw miss.0 is ]
+remains (z ∷ zs) x y other is = grind (arith, nat_tests, eqb_tells)
 
 -- unless it is the one that leaves
 pub first-unlinked : (lists : List (List ℕ)) (quiet node : ℕ) (first : Option ℕ) → option_eq eqb first (Some node) ≡ false

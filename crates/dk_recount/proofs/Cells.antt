@@ -1,5 +1,5 @@
 -- Lists with an item for each level, changed one level at a time.
-use Rattle.dk_recount.proofs.Names.{◌≡◌, ◌<◌, ◌≤◌, ◌+◌, ◌-◌, ◌∙◌, inl, inr, true, false, eqb, ltb, ℕ, suc, List, [], ◌∷◌, length, get_or, arith, refl, ap, sym, cases_Bool, get_or_past, nat_tests, ThreadId, Lockable, left_up_to, by_level, at_level, less, length-by_level, get_or-by_level, unblocked}
+use Rattle.dk_recount.proofs.Names.{◌≡◌, ◌<◌, ◌+◌, ◌-◌, inl, inr, false, eqb, ltb, ℕ, suc, List, [], ◌∷◌, length, get_or, arith, refl, sym, cases_Bool, get_or_past, nat_tests, ThreadId, Lockable, left_up_to, by_level, at_level, less, length-by_level, get_or-by_level, unblocked}
 pub use Rattle.dk_demand.proofs.EachLevel.{by-twice}
 
 pub by-same : (f g : ℕ → ℕ → ℕ) (ns : List ℕ) → ((j n : ℕ) → j < length ns → f j n ≡ g j n) → by_level f ns ≡ by_level g ns
@@ -13,19 +13,7 @@ by-nothing f (n ∷ ns) same = rw (same 0 n (omega arith), by-nothing (λ j. f (
 -- one more level
 next-freed : (x : ThreadId) (k : ℕ) (rows : List Lockable) (j n : ℕ)
     → at_level k (less (left_up_to x k rows)) j (unblocked x k rows j n) ≡ unblocked x (k + 1) rows j n
-next-freed x k rows j n =
-    elim (cases_Bool (eqb j k)) [
-      | inl here ↦
-          let same : j ≡ k = grind (arith, nat_tests) in
-          let off : ltb j k ≡ false = grind (arith, nat_tests) in
-          let on : ltb j (k + 1) ≡ true = grind (arith, nat_tests) in
-          rw (here, off, on) (ap (λ i. n - left_up_to x i rows) (sym same))
-      | inr apart ↦
-          elim (cases_Bool (ltb j k)) [
-            | inl low ↦ let on : ltb j (k + 1) ≡ true = grind (arith, nat_tests) in rw (apart, low, on) refl
-            | inr high ↦ let off : ltb j (k + 1) ≡ false = grind (arith, nat_tests) in rw (apart, high, off) refl
-          ]
-    ]
+next-freed x k rows j n = grind (arith, nat_tests)
 
 pub freed-more : (x : ThreadId) (k : ℕ) (rows : List Lockable) (ns : List ℕ)
     → by_level (at_level k (less (left_up_to x k rows))) (by_level (unblocked x k rows) ns) ≡ by_level (unblocked x (k + 1) rows) ns
@@ -35,17 +23,7 @@ pub freed-none : (x : ThreadId) (rows : List Lockable) (ns : List ℕ) → by_le
 freed-none x rows ns = by-nothing (unblocked x 0 rows) ns (λ j n h. let off : ltb j 0 ≡ false = grind (arith, nat_tests) in rw off refl)
 
 pub unfreed-at : (x : ThreadId) (k : ℕ) (rows : List Lockable) (ns : List ℕ) → get_or (by_level (unblocked x k rows) ns) k 0 ≡ get_or ns k 0
-unfreed-at x k rows ns =
-    elim (cases_Bool (ltb k (length ns))) [
-      | inl inside ↦
-          let h : k < length ns = grind (arith, nat_tests) in
-          let off : ltb k k ≡ false = grind (arith, nat_tests) in
-          get_or-by_level (unblocked x k rows) ns k h ∙ rw off refl
-      | inr outside ↦
-          let h : length ns ≤ k = grind (arith, nat_tests) in
-          let h' : length (by_level (unblocked x k rows) ns) ≤ k = let e = length-by_level (unblocked x k rows) ns in omega (arith, e, h) in
-          get_or_past (by_level (unblocked x k rows) ns) k 0 h' ∙ sym (get_or_past ns k 0 h)
-    ]
+unfreed-at x k rows ns = grind (arith, nat_tests, get_or-by_level, length-by_level, get_or_past)
 
 pub held-none : (level : ℕ) (ns : List ℕ) → ns ≡ by_level (at_level level (less 0)) ns
 held-none level ns = sym (by-nothing (at_level level (less 0)) ns (λ j n h. same j n))

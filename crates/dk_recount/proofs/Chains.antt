@@ -1,5 +1,5 @@
 -- Ticks that all go to one choice, through tables that are each those of one tick more.
-use Rattle.dk_recount.proofs.Names.{◌≡◌, ◌<◌, ◌≤◌, ◌+◌, ◌∙◌, ◌∷◌, ◌++◌, ℕ, zero, suc, false, List, length, Some, inl, refl, ap, sym, subst, arith, replicate, MAX_TICKS, Configuration, ThreadId, Choice, Work, Entry, quiet, thread_of, chosen, held_by, innermost_left, label_of, quiet-follows, begins_at, hold_left, HasFamilies, IsSound, Tables, IsReady, MayCharge, charged, choice_of, moved_on, TellsOf, tells-ready, IsPassed, Passes}
+use Rattle.dk_recount.proofs.Names.{◌≡◌, ◌<◌, ◌≤◌, ◌+◌, ◌∙◌, ◌∷◌, ◌++◌, ℕ, zero, suc, false, List, length, Some, inl, refl, ap, sym, subst, arith, replicate, MAX_TICKS, Configuration, ThreadId, Choice, Work, Entry, quiet, thread_of, chosen, held_by, innermost_left, label_of, quiet-follows, begins_at, hold_left, HasFamilies, IsSound, Tables, IsReady, MayCharge, charged, choice_of, moved_on, TellsOf, tells-ready, IsPassed, Passes, nat_tests}
 use Rattle.dk_recount.proofs.Stretching.{StretchLaws, passed-tick}
 
 abbrev pub HoldsAreThePasts : Type 0
@@ -57,12 +57,7 @@ module _ (laws : StretchLaws) (left : HoldsAreThePasts) (choice : Choice) (n : �
     -- the tables after so many of them are the recount of the past with their entries
     pub chain-ready : (m : ℕ) → m ≤ n → IsReady c (all m) (after m)
     chain-ready zero less = stands
-    chain-ready (suc m) less =
-        let before = chain-ready m (omega (arith, less)) in
-        let passed = one-passed m less in
-        let long = length-all m in
-        passed.ready c (all m) before (omega (arith, long, room, less))
-        (before.ruled.audited, quiet-follows c (all m) choice (passed.chosen c (all m) before) (λ y names. passed.free c (all m) y before names))
+    chain-ready (suc m) less = grind (arith, nat_tests, one-passed, length-all, quiet-follows, chain-ready m)
 
     pub chain-may : (m : ℕ) → m < n → MayCharge choice (after m)
     chain-may m less =

@@ -1,7 +1,6 @@
 -- Tables that are the recount of a past choose as the past does.
-use Rattle.dk_recount.proofs.Names.{◌≡◌, ◌<◌, ◌∙◌, ◌&&◌, Bool, true, false, cond, eqb, ltb, ℕ, List, length, get_or, Option, Some, None, option_map, refl, ap, sym, subst, arith, slice_get, find, filter, Contains, unwrap_or, option_or, and_parts, ltb-true, eqb-true, nat_tests, Configuration, below, first_of, user-mutex, length-map-numbers, at_index, front-found, first-same, ThreadId, Phase, Choice, Entry, Has, Thread, threads, job, thread_rem, kernel_rem, held_by, is_holding, fits, is_tight_at, want, is_wishing, oldest, past_source, on_budget, on_slack, past_holder_at, ready_at, work_at, wish_at, slack_at, choice_at, chosen, claims_slack_at, denied, find-has, filter-has, find-none, contains-has, has-contains, holding-some, AreFamilies, has_row, HasRow, row-there, HoldersFit, first_unfit, queue_at, first_node, is_entering, source, asking, HaveOwnNodes, Seat, new_job, seat_at, told_phase, filter-same, Tables, node_in, IsReady, kernel_part, is_ready, kernel_left, first_worker, budget_of, work_in, loan_of, slack_in, choice_in, fits_in, choice_of, claims_in, claims_slack, denial_of}
+use Rattle.dk_recount.proofs.Names.{◌≡◌, ◌<◌, ◌∙◌, ◌&&◌, Bool, true, false, cond, eqb, ltb, ℕ, List, length, Option, Some, None, option_map, refl, ap, sym, subst, arith, slice_get, find, filter, Contains, unwrap_or, option_or, and_parts, ltb-true, eqb-true, nat_tests, Configuration, below, first_of, user-mutex, length-map-numbers, at_index, front-found, first-same, ThreadId, Phase, Choice, Entry, Has, Thread, threads, thread_rem, kernel_rem, held_by, fits, is_tight_at, want, is_wishing, oldest, past_source, on_budget, on_slack, past_holder_at, ready_at, work_at, wish_at, slack_at, choice_at, chosen, claims_slack_at, denied, find-has, filter-has, find-none, contains-has, has-contains, holding-some, AreFamilies, has_row, HasRow, row-there, HoldersFit, first_unfit, queue_at, first_node, is_entering, source, asking, HaveOwnNodes, Seat, seat_at, filter-same, Tables, node_in, IsReady, kernel_part, is_ready, kernel_left, first_worker, budget_of, work_in, loan_of, slack_in, choice_in, fits_in, choice_of, claims_in, claims_slack, denial_of}
 use Rattle.std.specs.Prelude.{is_none}
-use Rattle.dk_trace.specs.Holds.{effective_level}
 use Rattle.dk_recount.specs.Needed.{ChoosingLaws as Laws}
 use Rattle.dk_recount.proofs.Stop.Present.{there-row, worker-has-row}
 use Rattle.dk_recount.proofs.Rows.{nodes-differ}
@@ -34,13 +33,10 @@ module _ (laws : Laws) (c : Configuration) (past : List Entry) (d : Tables) (rea
   worker-there x among some = worker-has-row c past (laws.absent c past ready.ruled.checked ready.ruled.accepted ready.ruled.audited) x among some
 
   pub asker-there : (x : Thread) → Has (threads c past) x → 0 < want c now past x → has_row c now x ≡ true
-  asker-there x among some =
-      there-row c now x (laws.askers c past ready.ruled.checked ready.ruled.accepted ready.ruled.audited x among some)
+  asker-there x among some = grind (arith, nat_tests, there-row)
 
   pub row-of : (x : Thread) → Has (threads c past) x → has_row c now x ≡ true → HasRow d.threads x.id
-  row-of x among there =
-      let place = laws.places c past ready.ruled.checked ready.ruled.accepted ready.ruled.audited x among in
-      row-there c now past d.threads x ready.recount.rows place.process place.among there
+  row-of x among there = grind (arith, nat_tests, row-there)
 
   pub asker : (k : ℕ) (x : Thread) → Contains (asking c now past k) x → Has (threads c past) x × (x.level ≡ k) × (0 < want c now past x)
   asker k x has =
@@ -60,38 +56,21 @@ module _ (laws : Laws) (c : Configuration) (past : List Entry) (d : Tables) (rea
   levels-are = ap length ready.recount.kernel ∙ length-map-numbers (kernel_part c now past) 0 (length c.levels)
 
   kernel-is : (k : ℕ) → k < length c.levels → kernel_left d k ≡ kernel_rem c now past k
-  kernel-is k known =
-      let at : get_or d.kernel k (new_job 0) ≡ kernel_part c now past k =
-      ap (λ parts. get_or parts k (new_job 0)) ready.recount.kernel ∙ at_index (kernel_part c now past) (length c.levels) k (new_job 0) known in
-      rw at refl
+  kernel-is k known = grind (arith, nat_tests, at_index)
 
   -- a thread with something left is told as the past tells it
   budget-is : (x : Thread) → Has (threads c past) x → 0 < thread_rem c now past x → budget_of d.jobs (node_of x.id) ≡ on_budget c past x
-  budget-is x among some =
-      let seat = ready.recount.jobs.seats x among (worker-there x among some) in
-      let left : eqb (thread_rem c now past x) 0 ≡ false = grind (arith, nat_tests) in
-      ap (λ (s : Seat). part_of s.thread (told_phase d.jobs.switch s.job)) seat
-      ∙ ap (λ W. part_of x.id (told_phase W (job c now past x))) ready.recount.jobs.switch
-      ∙ rw left refl
+  budget-is x among some = grind (arith, nat_tests, worker-there)
 
   front-is : (k : ℕ) → k < length c.levels → slice_get (queue_at d.jobs.ready.lists k) 0 ≡ option_map (λ (x : Thread). node_of x.id) (ready_at c past k)
-  front-is k known =
-      ap (λ queue. slice_get queue 0) (ready.recount.jobs.ready k known)
-      ∙ front-found (λ (x : Thread). node_of x.id) (is_ready c now past k) (threads c past)
+  front-is k known = grind (arith, nat_tests, front-found)
 
   -- whoever holds a mutex, or stands in a ready queue, has something left
   holder-left : (k : ℕ) (x : Thread) → past_holder_at c past k ≡ Some x → Has (threads c past) x × (0 < thread_rem c now past x)
-  holder-left k x is =
-      let r = find-has (λ y. is_holding (held_by y.id past) && eqb (effective_level c past y) k) (threads c past) x is in
-      let holding = (and_parts (is_holding (held_by x.id past)) (eqb (effective_level c past x) k) r.1).0 in
-      let stands = laws.stand c past ready.ruled.checked ready.ruled.accepted ready.ruled.audited x r.0 holding in
-      (r.0, stands.rem)
+  holder-left k x is = grind (arith, nat_tests, find-has, and_parts)
 
   ready-left : (k : ℕ) (x : Thread) → ready_at c past k ≡ Some x → Has (threads c past) x × (0 < thread_rem c now past x)
-  ready-left k x is =
-      let r = find-has (is_ready c now past k) (threads c past) x is in
-      let parts = and_parts (eqb x.level k) (ltb 0 (thread_rem c now past x)) r.1 in
-      (r.0, ltb-true 0 (thread_rem c now past x) parts.1)
+  ready-left k x is = grind (arith, nat_tests, find-has, and_parts, ltb-true)
 
   -- whoever sits on the first node of a queue has that node
   pub front-owned : (k node : ℕ) (x : ThreadId) → k < length c.levels → slice_get (queue_at d.jobs.ready.lists k) 0 ≡ Some node → (seat_at d.jobs node).thread ≡ x → node ≡ node_of x
@@ -141,9 +120,7 @@ module _ (laws : Laws) (c : Configuration) (past : List Entry) (d : Tables) (rea
           ∙ ap (λ o. option_map (on_budget c past) (option_or o (ready_at c past k))) (sym is)
 
   pub work-is : (k : ℕ) → k < length c.levels → work_in d k ≡ work_at c past k
-  work-is k known =
-      ap (λ n. cond (ltb 0 n) (Some (Choice.Kernel k)) (option_map (budget_of d.jobs) (first_worker d k))) (kernel-is k known)
-      ∙ ap (cond (ltb 0 (kernel_rem c now past k)) (Some (Choice.Kernel k))) (worker-is k known)
+  work-is k known = grind (arith, nat_tests, kernel-is, worker-is)
 
   -- where a level has no work, each of its threads that asks for slack wishes for it
   no-ready : (k : ℕ) → work_at c past k ≡ None → ready_at c past k ≡ None
@@ -219,9 +196,7 @@ module _ (laws : Laws) (c : Configuration) (past : List Entry) (d : Tables) (rea
       go None is = ap (λ o. option_or (work_at c past k) (cond (fits c now past) o None)) (slack-is k known is)
 
   pub chooses : choice_of d ≡ chosen c past
-  chooses =
-      ap (λ n. unwrap_or (first_of (choice_in d (fits_in d)) (below n)) Choice.Idle) levels-are
-      ∙ ap (λ o. unwrap_or o Choice.Idle) (first-same (choice_in d (fits_in d)) (choice_at c past) 0 (length c.levels) (λ k h. choice-is k (omega arith)))
+  chooses = grind (arith, nat_tests, levels-are, first-same, choice-is)
 
   claims-is : (k : ℕ) → k < length c.levels → claims_in d k ≡ claims_slack_at c past k
   claims-is k known =
@@ -240,9 +215,7 @@ module _ (laws : Laws) (c : Configuration) (past : List Entry) (d : Tables) (rea
           ∙ ap (option_or (option_map (λ (choice : Choice). false) (work_at c past k))) (asks (wish_at c past k))
 
   claims-are : claims_slack d ≡ unwrap_or (first_of (claims_slack_at c past) (below (length c.levels))) false
-  claims-are =
-      ap (λ n. unwrap_or (first_of (claims_in d) (below n)) false) levels-are
-      ∙ ap (λ o. unwrap_or o false) (first-same (claims_in d) (claims_slack_at c past) 0 (length c.levels) (λ k h. claims-is k (omega arith)))
+  claims-are = grind (arith, nat_tests, levels-are, first-same, claims-is)
 
   pub denies : (first_unfit d.demand ≡ find (is_tight_at c now past) (below (length c.levels))) → denial_of d ≡ denied c past
   denies tight =

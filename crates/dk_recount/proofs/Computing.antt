@@ -1,5 +1,5 @@
 -- Ticks one after the other of a thread that computes and holds nothing.
-use Rattle.dk_recount.proofs.Names.{◌≡◌, ◌<◌, ◌≤◌, ◌+◌, ◌-◌, ◌∙◌, ◌∷◌, ℕ, zero, suc, Bool, true, false, eqb, leb, List, [], length, take, get_or, Some, refl, ap, sym, subst, arith, All, length-map, nat_tests, MAX_TICKS, Configuration, LevelRow, length-map-numbers, ThreadId, Phase, Choice, Entry, Clock, end_at, passed, body-less, Lockable, effective_level, hold_left, Cells, dropped_cells, held_cells, adjusted, at_level, by_level, from_level, less, between-start, get_or-by_level, by-twice, Slack, counted, counted_for, Seat, Roster, seat_at, seat-then, jobs-none, jobs-more, HasFamilies, IsSound, Tables, node_in, IsReady, IsRecount, HasWork, MayBudget, MayCount, charged, counts, first_in, level_in, moved_on, Computes, EndsAfter, MayComputeFor, Passes, computed}
+use Rattle.dk_recount.proofs.Names.{◌≡◌, ◌<◌, ◌≤◌, ◌+◌, ◌-◌, ◌∙◌, ◌∷◌, ℕ, zero, suc, Bool, eqb, leb, List, [], length, take, get_or, Some, refl, ap, sym, subst, arith, All, length-map, nat_tests, MAX_TICKS, Configuration, LevelRow, length-map-numbers, ThreadId, Phase, Choice, Entry, Clock, end_at, passed, body-less, Lockable, effective_level, hold_left, Cells, dropped_cells, held_cells, adjusted, at_level, by_level, from_level, less, between-start, get_or-by_level, by-twice, Slack, counted, counted_for, Seat, Roster, seat_at, seat-then, jobs-none, jobs-more, HasFamilies, IsSound, Tables, node_in, IsReady, IsRecount, HasWork, MayBudget, MayCount, charged, counts, first_in, level_in, moved_on, Computes, EndsAfter, MayComputeFor, Passes, computed}
 use Rattle.std.specs.Prelude.{◌^◌, cond}
 use Rattle.std.proofs.lemmas.List.{length-set}
 use Rattle.dk_recount.proofs.Stretching.{StretchLaws, begins-not}
@@ -9,12 +9,10 @@ use Rattle.dk_recount.proofs.Cells.{by-nothing}
 -- The demand.
 
 less-twice : (b : Bool) (m n : ℕ) → cond b (less 1 (cond b (less m n) n)) (cond b (less m n) n) ≡ cond b (less (suc m) n) n
-less-twice true m n = omega arith
-less-twice false m n = refl
+less-twice b m n = grind (arith, nat_tests)
 
 less-none : (b : Bool) (n : ℕ) → cond b (less 0 n) n ≡ n
-less-none true n = omega arith
-less-none false n = refl
+less-none b n = grind (arith, nat_tests)
 
 pub own-more : (l m : ℕ) (ns : List ℕ) → by_level (at_level l (less 1)) (by_level (at_level l (less m)) ns) ≡ by_level (at_level l (less (suc m))) ns
 own-more l m ns = by-twice _ _ _ ns (λ j n. less-twice (eqb j l) m n)
@@ -27,16 +25,12 @@ remaining-more l m ns = by-twice _ _ _ ns (λ j n. less-twice (leb l j) m n)
 pub counted-more : (l m : ℕ) (us : List ℕ) → counted (Some l) (counted_for m (Some l) us) ≡ counted_for (suc m) (Some l) us
 counted-more zero m us = refl
 counted-more (suc l) m [] = refl
-counted-more (suc l) m (u ∷ us) =
-    let one : u + m + 1 ≡ u + suc m = omega arith in
-    ap (λ (v : ℕ). v ∷ counted (Some l) (counted_for m (Some l) us)) one ∙ ap (λ vs. (u + suc m) ∷ vs) (counted-more l m us)
+counted-more (suc l) m (u ∷ us) = grind (arith, nat_tests, counted-more l m us)
 
 pub counted-none : (l : ℕ) (us : List ℕ) → us ≡ counted_for 0 (Some l) us
 counted-none zero us = refl
 counted-none (suc l) [] = refl
-counted-none (suc l) (u ∷ us) =
-    let none : u ≡ u + 0 = omega arith in
-    ap (λ (v : ℕ). v ∷ us) none ∙ ap (λ vs. (u + 0) ∷ vs) (counted-none l us)
+counted-none (suc l) (u ∷ us) = grind (arith, nat_tests, counted-none l us)
 
 length-counted : (n l : ℕ) (us : List ℕ) → length (counted_for n (Some l) us) ≡ length us
 length-counted n zero us = refl
@@ -66,35 +60,13 @@ demand-more l l' f m e is runs =
     ∙ cells e _ _ _ _ _ _ _ _ (own-more l m e.own) (remaining-more l m e.remaining) (sym (between-start (adjusted 1 0) e.blocking l)) one
 
 pub sound-computed : (x : ThreadId) (d : Tables) → IsSound d → (m : ℕ) → IsSound (computed x m d)
-sound-computed x d sound m = record {
-  few = sound.few;
-  kernel = sound.kernel;
-  releases = sound.releases;
-  queues = sound.queues;
-  wishes = sound.wishes;
-  unclaimed = length-counted m (level_in d x) d.slack.unclaimed ∙ sound.unclaimed;
-  levels = sound.levels;
-  periods = sound.periods;
-  processes = sound.processes;
-  lenders = sound.lenders;
-  rights = sound.rights;
-  nodes = length-set d.jobs.seats (node_in d.threads x) _ ∙ sound.nodes;
-  askers = sound.askers;
-}
+sound-computed x d sound m = grind (arith, nat_tests, length-counted, length-set)
 
 own-left : (l m : ℕ) (ns : List ℕ) → l < length ns → 0 < get_or (by_level (at_level l (less m)) ns) l 0 → suc m ≤ get_or ns l 0
-own-left l m ns inside some =
-    let at = get_or-by_level (at_level l (less m)) ns l inside in
-    let here : eqb l l ≡ true = grind (arith, nat_tests) in
-    let is : at_level l (less m) l (get_or ns l 0) ≡ get_or ns l 0 - m = ap (λ b. cond b (less m (get_or ns l 0)) (get_or ns l 0)) here in
-    omega (arith, at, is, some)
+own-left l m ns inside some = grind (arith, nat_tests, get_or-by_level)
 
 rest-left : (l j m : ℕ) (ns : List ℕ) → j < length ns → l ≤ j → 0 < get_or (by_level (from_level l (less m)) ns) j 0 → suc m ≤ get_or ns j 0
-rest-left l j m ns inside after some =
-    let at = get_or-by_level (from_level l (less m)) ns j inside in
-    let here : leb l j ≡ true = grind (arith, nat_tests) in
-    let is : from_level l (less m) j (get_or ns j 0) ≡ get_or ns j 0 - m = ap (λ b. cond b (less m (get_or ns j 0)) (get_or ns j 0)) here in
-    omega (arith, at, is, some)
+rest-left l j m ns inside after some = grind (arith, nat_tests, get_or-by_level)
 
 count-left : (l m : ℕ) (us : List ℕ) → All (λ u. u + 1 < 2 ^ 32) (take l (counted_for m (Some l) us)) → All (λ u. u + suc m < 2 ^ 32) (take l us)
 count-left zero m us h k y inside = absurd (omega (arith, inside))
@@ -127,14 +99,7 @@ module _ (x : ThreadId) (d : Tables) (sound : IsSound d) (families : HasFamilies
         (ap (λ k. counts (Some k) D.slack) (level-then m) ∙ ap (λ us. record d.slack { unclaimed = us }) (counted-more level m d.slack.unclaimed))
 
     computed-none : d ≡ computed x 0 d
-    computed-none =
-        let clock : d.demand.windows.tick ≡ d.demand.windows.tick + 0 = omega arith in
-        fields d _ _ d.mutexes d.mutexes _ _ _ _
-        (jobs-none d.jobs node computes.node)
-        refl
-        (cells d.demand _ _ _ _ _ _ _ _ (sym (by-nothing (at_level level (less 0)) d.demand.own (λ j k inside. less-none (eqb j level) k)))
-        (sym (by-nothing (from_level level (less 0)) d.demand.remaining (λ j k inside. less-none (leb level j) k))) refl clock)
-        (ap (λ us. record d.slack { unclaimed = us }) (counted-none level d.slack.unclaimed))
+    computed-none = grind (arith, nat_tests, fields, jobs-none, by-nothing, less-none, counted-none)
 
     abbrev choice : Choice
     choice = Choice.Budget x Phase.Body

@@ -1,5 +1,5 @@
 -- Ticks one after the other of a thread that has slack and holds nothing.
-use Rattle.dk_recount.proofs.Names.{◌≡◌, ◌<◌, ◌≤◌, ◌+◌, ◌-◌, ◌∙◌, ℕ, suc, List, length, map, Some, None, refl, ap, sym, subst, arith, length-map, MAX_TICKS, Configuration, ThreadId, Phase, Source, Choice, Entry, end_at, Lockable, spent_row, hold_left, Wish, lowered_for, spent_wish, spent_for, counted, counted_for, counted-more, counted-none, spent-more, spent-none, HasFamilies, IsSound, Tables, node_in, IsReady, MaySlack, charged, moved_on, EndsAfter, Lends, MayCountFor, Passes, lent}
+use Rattle.dk_recount.proofs.Names.{◌≡◌, ◌<◌, ◌≤◌, ◌+◌, ◌-◌, ◌∙◌, ℕ, suc, List, length, map, Some, None, refl, ap, sym, subst, arith, length-map, MAX_TICKS, Configuration, ThreadId, Phase, Source, Choice, Entry, end_at, Lockable, spent_row, hold_left, Wish, spent_wish, spent_for, counted, counted_for, counted-more, counted-none, spent-more, spent-none, HasFamilies, IsSound, Tables, node_in, IsReady, MaySlack, charged, moved_on, EndsAfter, Lends, MayCountFor, Passes, lent, nat_tests}
 use Rattle.dk_recount.proofs.Stretching.{StretchLaws, all-more, begins-not}
 use Rattle.dk_recount.proofs.Chains.{Chain, HoldsAreThePasts, chain-may, chain-passes}
 
@@ -19,21 +19,7 @@ module _ (x : ThreadId) (d : Tables) where
       refl clock (spent-none node d.slack.wishes) (counted-none d.slack.unclaimed)
 
   pub sound-lent : IsSound d → (m : ℕ) → IsSound (lent x m d)
-  sound-lent s m = record {
-    few = s.few;
-    kernel = s.kernel;
-    releases = s.releases;
-    queues = s.queues;
-    wishes = length-map d.slack.wishes (map (lowered_for node m)) ∙ s.wishes;
-    unclaimed = length-map d.slack.unclaimed (λ u. u + m) ∙ s.unclaimed;
-    levels = s.levels;
-    periods = s.periods;
-    processes = s.processes;
-    lenders = s.lenders;
-    rights = s.rights;
-    nodes = s.nodes;
-    askers = s.askers;
-  }
+  sound-lent s m = grind (arith, nat_tests, length-map)
 
   module _ (source : Source) (sound : IsSound d) (n : ℕ) (lends : Lends x source n d) (within : EndsAfter n d) (families : HasFamilies d) where
     abbrev choice : Choice

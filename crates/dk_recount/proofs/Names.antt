@@ -16,13 +16,13 @@ pub use Rattle.dk_bound.specs.Lasting.{AskersLast}
 pub use Rattle.dk_bound.specs.Laws.{Always}
 pub use Rattle.dk_bound.specs.Moves.{AtEachEntry, AtEachTick, shares_to_come as past_to_come}
 pub use Rattle.dk_bound.specs.ReadyMoves.{ClockMovesReady, EventKeepsReady}
-pub use Rattle.dk_bound.specs.Rows.{AbsentHaveNothing, FamiliesStand, FamilyStands, IdsTellLevels, RowsAreNamed, is_gone}
+pub use Rattle.dk_bound.specs.Rows.{AbsentHaveNothing, FamiliesStand, FamilyStands, IdsTellLevels, RowsAreNamed}
 pub use Rattle.dk_bound.specs.Standing.{AskersThere, ChoiceHolds, ChosenHolds, HoldersKnown, IsPlaced, IsThere, StartsWithBudgets, StartsWithDemand, ThreadsPlaced}
 pub use Rattle.dk_bound.specs.Statements.{BlocksAtMost, HoldersStand}
 pub use Rattle.dk_bound.specs.TickMoves.{TickLowersOwn, TickLowersRem, TickLowersRemaining, TickSpends, worked, working_level}
 pub use Rattle.dk_budget.proofs.Keeping.{changed-lenders, quiet-lender, quiet-loans}
 pub use Rattle.dk_budget.proofs.Starting.{periods-sound}
-pub use Rattle.dk_budget.specs.Book.{Book, book_of, lender_of}
+pub use Rattle.dk_budget.specs.Book.{Book, book_of}
 pub use Rattle.dk_budget.specs.Calls.{all_given_back, changed_at as changed_lender, lend_refusal, lent_to, new_loan, stopped_child, stopped_process, with_loans}
 pub use Rattle.dk_budget.specs.Laws.{ChildsStopEndsLoan, CreateAddsLoan, MainsStopEndsLoans, OpeningGivesBack, QuietKeepsLoans, RefusesLoans, TellsChildShares, TellsFutureShares, TellsMainShares}
 pub use Rattle.dk_budget.specs.Loans.{is_ended_at}
@@ -53,8 +53,8 @@ pub use Rattle.dk_demand.specs.Recount.{IsRecount as AreCells, NoneIsLate, each_
 pub use Rattle.dk_isa.specs.declared.FaultKind.{FaultKind}
 pub use Rattle.dk_mutex.specs.Laws.{EventEndsHolds, OthersKeepHolds, TellsInnermost, TellsLevels, TellsWithin, TickSpendsHolds}
 pub use Rattle.dk_mutex.specs.Recount.{AreMutexes, HasLevels, HoldersFit, IsRecount as AreHolders, LastIsLeast, counted_left, emptied, hold_at, last_locked}
-pub use Rattle.dk_mutex.specs.Rows.{freed, holder_left, is_by, is_holder, left_of, left_under, left_up_to, spent as spent_row}
-pub use Rattle.dk_mutex.specs.Table.{effective_level, given_to, hold_left, hold_of, holder_at, holds_within, innermost, is_free, left_at, lock_refusal, unlock_refusal}
+pub use Rattle.dk_mutex.specs.Rows.{freed, holder_left, is_by, is_holder, left_under, left_up_to, spent as spent_row}
+pub use Rattle.dk_mutex.specs.Table.{effective_level, given_to, hold_left, hold_of, holder_at, holds_within, innermost, is_free, left_at, unlock_refusal}
 pub use Rattle.dk_mutex.specs.declared.row.Holder.{Holder}
 pub use Rattle.dk_mutex.specs.declared.row.Lockable.{Lockable}
 pub use Rattle.dk_rail.specs.Queues.{holder, holds, pushed, queue_at, unlinked}
@@ -90,7 +90,7 @@ pub use Rattle.dk_slack.specs.Laws.{AskingAddsWish, DropsWishes, OthersKeepWishe
 pub use Rattle.dk_slack.specs.Recount.{AreCounted, AreOldestFirst, HaveOwnNodes, IsRecount as AreWishes, ShutsAskers, asking, claiming_level, counted_wish, spares_of, unclaimed_of}
 pub use Rattle.dk_slack.specs.Slack.{Slack, at_start as no_wishes}
 pub use Rattle.dk_slack.specs.Unclaimed.{counted, counted_for, raised, source}
-pub use Rattle.dk_slack.specs.Wishes.{Wish, asked as asked_wish, dropped, first_node, is_entering, is_of as is_wish_of, lowered, lowered_for, spent as spent_wish, spent_for, want as want_in, want as wants, wishes_at}
+pub use Rattle.dk_slack.specs.Wishes.{Wish, asked as asked_wish, dropped, first_node, is_entering, is_of as is_wish_of, lowered, spent as spent_wish, spent_for, want as want_in, want as wants, wishes_at}
 pub use Rattle.dk_threads.proofs.Births.{begun-found, some-family}
 pub use Rattle.dk_threads.proofs.Descent.{Descend, changed-here, changed-there, process-descends, stop-descends}
 pub use Rattle.dk_threads.proofs.Finding.{RowOf, find-left, paired-sum, row-before, row-lasts, row-of-thread, row-runs, row-says, row-was, rows-apart, rows-lent, running-row, running-rows, unplaced-running}
@@ -99,8 +99,8 @@ pub use Rattle.dk_threads.proofs.Recounting.{first-at}
 pub use Rattle.dk_threads.proofs.Stops.{named, named-one, process-ends-by}
 pub use Rattle.dk_threads.specs.Laws.{ChildsEndStopsRow, CreateAddsRow, DeleteStopsRow, FreesSlots, OpeningMovesRows, TickKeepsRows}
 pub use Rattle.dk_threads.specs.Recount.{IsRecount as AreThreads, counted_row, counted_rows, end_in_row, has_row, main_id, row_at, state_of, unplaced}
-pub use Rattle.dk_threads.specs.Rows.{AreChildren, ends_at, has_slot, is_row_of, is_starting, is_stopped, is_taken, kept, started}
-pub use Rattle.dk_threads.specs.Table.{AreFamilies, Table, all_stopped, changed_at, changed_at as changed_family, child_stopped, children_at, family_ended, family_started, find_row, first_family, free_slot, has_room, has_serials, is_child, is_running, main_row, most_at, new_row, next_id, rows_of, runs, serials_at, stands, table_at_start}
+pub use Rattle.dk_threads.specs.Rows.{AreChildren, ends_at, has_slot, is_row_of, is_stopped, is_taken, kept, started}
+pub use Rattle.dk_threads.specs.Table.{AreFamilies, Table, all_stopped, changed_at, changed_at as changed_family, child_stopped, children_at, family_ended, family_started, find_row, free_slot, has_room, has_serials, is_child, is_running, most_at, new_row, next_id, rows_of, runs, serials_at, stands, table_at_start}
 pub use Rattle.dk_threads.specs.declared.family.Family.{Family}
 pub use Rattle.dk_threads.specs.declared.row.State.{State}
 pub use Rattle.dk_threads.specs.declared.row.ThreadRow.{ThreadRow}
@@ -120,12 +120,12 @@ pub use Rattle.dk_trace.proofs.Windows.{unclaimed-few, window-stays}
 pub use Rattle.dk_trace.specs.Audit.{Audited, Follows, HasChosenLabel, HasNextSerial, MayHave, ThreadFollows, done_refusal, label_of, row_of, work_of}
 pub use Rattle.dk_trace.specs.Choices.{choice_at, chosen, claims_slack_at, denied, holder_at as past_holder_at, on_budget, on_slack, ready_at, slack_at, wish_at, work_at}
 pub use Rattle.dk_trace.specs.Demand.{fits, is_tight_at, kernel_demand, own_demand, remaining_demand, sum_starts, thread_demand, windows_left}
-pub use Rattle.dk_trace.specs.Entries.{borrower, does, has_event, is_budget_of, is_delete_of, is_end, is_kernel_at, is_of, is_out_of, is_same, is_wait, kernel_level, main_of, payer, quiet, stops, thread_of, window}
+pub use Rattle.dk_trace.specs.Entries.{borrower, does, has_event, is_budget_of, is_delete_of, is_end, is_of, is_out_of, is_same, is_wait, kernel_level, main_of, payer, quiet, stops, thread_of, window}
 pub use Rattle.dk_trace.specs.Holds.{Hold, aged, blocking, effective_level as past_level, ends_hold, given_back, greatest_left, held_after, held_by, hold_left as past_left, innermost_left, is_held, is_holding, is_innermost as is_past_innermost, least_ceiling, level_holding, thread_blocking}
 pub use Rattle.dk_trace.specs.JobSteps.{spent}
-pub use Rattle.dk_trace.specs.Jobs.{Job, body_left, is_closed, is_stopped_in, job, kernel_rem, rem, thread_body_left, thread_rem}
+pub use Rattle.dk_trace.specs.Jobs.{Job, is_closed, is_stopped_in, job, kernel_rem, rem, thread_body_left, thread_rem}
 pub use Rattle.dk_trace.specs.Members.{Has}
-pub use Rattle.dk_trace.specs.Refusals.{create_refusal, delete_refusal, first_refusal, is_running_child, least_share, lock_refusal as past_lock_refusal, standing_children, unlock_refusal as past_unlock_refusal}
+pub use Rattle.dk_trace.specs.Refusals.{create_refusal, delete_refusal, first_refusal, is_running_child, lock_refusal as past_lock_refusal, standing_children, unlock_refusal as past_unlock_refusal}
 pub use Rattle.dk_trace.specs.Slack.{Request, is_claimed_up_to, is_entering as is_past_entering, is_wishing, last_request, level_of, no_request, older, oldest, request, source as past_source, unclaimed, want, want as past_want}
 pub use Rattle.dk_trace.specs.Threads.{Thread, after_entry, child_share, end_of, family, is_ended_by, is_main, is_stopped_before, is_void, lent_at, made_by, main_share, new_rows, share, threads}
 pub use Rattle.dk_trace.specs.declared.Choice.{Choice}
@@ -141,7 +141,7 @@ pub use Rattle.dk_windows.specs.Clock.{Clock, begins_at, clock_at, end_at, passe
 pub use Rattle.std.proofs.Common.{Bool, List, None, Option, Some, [], add-one, ap, arith, cond, drop, eqb, false, get_or, inl, inr, is_none, leb, length, length-set, ltb, map, max, option_map, refl, set, subst, suc, sym, take, true, zero, ℕ, ◌%◌, ◌&&◌, ◌*◌, ◌++◌, ◌+◌, ◌-◌, ◌/◌, ◌<◌, ◌^◌, ◌||◌, ◌∙◌, ◌∷◌, ◌≡◌, ◌≢◌, ◌≤◌, ◌⊎◌}
 pub use Rattle.std.proofs.Math.Bool.{and-false, and-true, or-false, or-true}
 pub use Rattle.std.proofs.Math.Nat.{mod-add-mod, mod-eq_of_lt, mod-le, mod-lt}
-pub use Rattle.std.proofs.lemmas.Bool.{and_parts, both_ways, cases_Bool, cases_eq, cases_lt, cond-false, cond-true, eq-eqb, eqb-true, leb-false, leb-true, lt-ltb, ltb-false, ltb-true, ne_eqb, not-false, or_parts}
+pub use Rattle.std.proofs.lemmas.Bool.{and_parts, both_ways, cases_Bool, cases_lt, cond-false, cond-true, eq-eqb, eqb-true, leb-false, leb-true, lt-ltb, ltb-false, ltb-true, ne_eqb, not-false, or_parts}
 pub use Rattle.std.proofs.lemmas.Bool.Decides.{nat_tests}
 pub use Rattle.std.proofs.lemmas.List.{append-nil, append_assoc, get_or-set_same, get_or_past, length-map, length-replicate, map-append}
 pub use Rattle.std.proofs.lemmas.List.Elements.{filter-append}

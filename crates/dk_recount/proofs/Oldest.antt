@@ -1,17 +1,12 @@
 -- The first wish of a level is that of the thread that has asked for longest.
-use Rattle.dk_recount.proofs.Names.{◌≡◌, ◌<◌, ◌⊎◌, inl, inr, true, false, leb, ℕ, List, [], ◌∷◌, map, Option, Some, None, option_map, refl, ap, sym, subst, arith, slice_get, Contains, ◌↔◌, cases_Bool, nat_tests, Configuration, ThreadId, Entry, Has, Thread, request, older, oldest, contains-has, has-contains, Wish, AreCounted, AreOldestFirst, asking, counted_wish}
+use Rattle.dk_recount.proofs.Names.{◌≡◌, ◌<◌, ◌⊎◌, inl, inr, false, leb, ℕ, List, [], ◌∷◌, map, Option, Some, None, option_map, refl, ap, sym, arith, slice_get, Contains, ◌↔◌, nat_tests, Configuration, ThreadId, Entry, Has, Thread, request, older, oldest, contains-has, has-contains, Wish, AreCounted, AreOldestFirst, asking, counted_wish}
 
 module _ (c : Configuration) (now : ℕ) (past : List Entry) where
   age : Thread → ℕ
   age x = (request c now past x).age
 
   older-has : (y x : Thread) (xs : List Thread) (o : Option Thread) → ((z : Thread) → o ≡ Some z → Has xs z) → older c now past y o ≡ Some x → Has (y ∷ xs) x
-  older-has y x xs None rest is = inl (cc)
-  older-has y x xs (Some z) rest is =
-      elim (cases_Bool (leb (request c now past z).age (request c now past y).age)) [
-        | inl first ↦ let e : Some y ≡ Some x = rw first at is in inl (cc)
-        | inr later ↦ let e : Some z ≡ Some x = rw later at is in let same : z ≡ x = cc in inr (subst (Has xs) same (rest z refl))
-      ]
+  older-has y x xs o rest is = grind (arith, nat_tests, age)
 
   pub oldest-has : (xs : List Thread) (x : Thread) → oldest c now past xs ≡ Some x → Has xs x
   oldest-has [] x is = absurd (cc)
@@ -38,15 +33,8 @@ module _ (c : Configuration) (now : ℕ) (past : List Entry) where
       go None at same = ap Some same
       go (Some z) at same =
           elim (first z (inr (oldest-has xs z at))) [
-            | inl too ↦
-                elim (cases_Bool (leb (request c now past z).age (request c now past y).age)) [
-                  | inl on ↦ rw on (ap Some same)
-                  | inr off ↦ rw off (ap Some too)
-                ]
-            | inr less ↦
-                let e : (request c now past y).age ≡ (request c now past x).age = ap (λ w. (request c now past w).age) same in
-                let on : leb (request c now past z).age (request c now past y).age ≡ true = grind (arith, nat_tests) in
-                rw on (ap Some same)
+            | inl too ↦ grind (arith, nat_tests, age)
+            | inr less ↦ grind (arith, nat_tests, age)
           ]
 
   pub first-oldest : (node_of : ThreadId → ℕ) (k : ℕ) (wishes : List Wish) → AreCounted node_of c now past k wishes

@@ -1,5 +1,5 @@
 -- What the tables tell of their rows and holds.
-use Rattle.dk_recount.proofs.Names.{◌≡◌, ◌∙◌, true, ℕ, List, ◌∷◌, ap, sym, Configuration, ThreadId, Entry, Has, Thread, threads, job, body_left, thread_body_left, held_by, innermost_left, Always, HoldsNest, nested-quiet, has_row, Lockable, hold_left, innermost, LastIsLeast, last_locked, AreHolders, Seat, Tables, IsRecount, body_in, TellsOf, ready, booked}
+use Rattle.dk_recount.proofs.Names.{◌≡◌, true, ℕ, List, ◌∷◌, Configuration, ThreadId, Entry, Has, Thread, threads, thread_body_left, held_by, innermost_left, Always, HoldsNest, nested-quiet, has_row, Lockable, hold_left, innermost, LastIsLeast, last_locked, AreHolders, Tables, IsRecount, body_in, TellsOf, ready, booked, nat_tests, arith}
 use Rattle.dk_recount.specs.Questions.{charged}
 use Rattle.dk_recount.proofs.Holding.{last-least}
 
@@ -7,10 +7,7 @@ use Rattle.dk_recount.proofs.Holding.{last-least}
 
 pub rows-body : (c : Configuration) (now : ℕ) (past : List Entry) (d : Tables) (x : ThreadId) (y : Thread) → IsRecount c now past d → Has (threads c past) y → y.id ≡ x → has_row c now y ≡ true
     → body_in d x ≡ thread_body_left c now past y
-rows-body c now past d x y r among is there =
-    ap (body_in d) (sym is)
-    ∙ ap (λ (s : Seat). body_left d.jobs.switch s.job) (r.jobs.seats y among there)
-    ∙ ap (λ w. body_left w (job c now past y)) r.jobs.switch
+rows-body c now past d x y r among is there = grind (arith, nat_tests)
 
 -- Holds.
 
@@ -20,9 +17,7 @@ least-told nest d c (e ∷ past) x (charged {label = label} r) = last-least c 0 
 least-told nest d c (e ∷ past) x (booked b audited) = last-least c 1 (held_by x (e ∷ past)) (nest c (e ∷ past) b.ruled.checked b.ruled.accepted audited x)
 
 held-told : (d : Tables) (c : Configuration) (past : List Entry) → TellsOf d c past → AreHolders c past d.mutexes
-held-told d c past (ready r) = r.recount.holders
-held-told d c (e ∷ past) (charged r) = r.recount.holders
-held-told d c (e ∷ past) (booked b audited) = b.recount.holders
+held-told d c past is = grind (arith, nat_tests)
 
 -- what the law of the mutexes says
 abbrev pub LeftIs : Type 0

@@ -1,24 +1,10 @@
 -- Ticks one after the other of nobody.
-use Rattle.dk_recount.proofs.Names.{◌≡◌, ◌<◌, ◌≤◌, ◌+◌, ◌∙◌, ◌∷◌, ℕ, zero, suc, List, [], length, map, Some, None, inl, refl, ap, sym, subst, arith, length-map, MAX_TICKS, Configuration, ThreadId, Choice, Work, Label, Entry, chosen, label_of, end_at, HasFamilies, IsSound, Tables, IsReady, MayCharge, MayCount, EndsAfter, MayCountFor, Passes, Rests, rested}
+use Rattle.dk_recount.proofs.Names.{◌≡◌, ◌<◌, ◌≤◌, ◌+◌, ◌∙◌, ◌∷◌, ℕ, zero, suc, List, [], length, map, Some, None, inl, refl, ap, sym, subst, arith, length-map, MAX_TICKS, Configuration, ThreadId, Choice, Work, Label, Entry, chosen, label_of, end_at, HasFamilies, IsSound, Tables, IsReady, MayCharge, MayCount, EndsAfter, MayCountFor, Passes, Rests, rested, nat_tests}
 use Rattle.dk_recount.proofs.Stretching.{StretchLaws, all-more, begins-not, nobody-chosen}
 use Rattle.dk_recount.proofs.Chains.{Chain, HoldsAreThePasts, chain-may, chain-passes}
 
 sound-rested : (n : ℕ) (d : Tables) → IsSound d → IsSound (rested n d)
-sound-rested n d s = record {
-  few = s.few;
-  kernel = s.kernel;
-  releases = s.releases;
-  queues = s.queues;
-  wishes = s.wishes;
-  unclaimed = length-map d.slack.unclaimed (λ u. u + n) ∙ s.unclaimed;
-  levels = s.levels;
-  periods = s.periods;
-  processes = s.processes;
-  lenders = s.lenders;
-  rights = s.rights;
-  nodes = s.nodes;
-  askers = s.askers;
-}
+sound-rested n d s = grind (arith, nat_tests, length-map)
 
 -- so many ticks and one more are one more of them
 rested-more : (n : ℕ) (d : Tables) → rested 1 (rested n d) ≡ rested (suc n) d

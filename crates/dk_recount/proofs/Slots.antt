@@ -1,15 +1,10 @@
 -- A thread that has a row in two tables keeps its node from one to the other.
-use Rattle.dk_recount.proofs.Names.{◌≡◌, ◌+◌, ◌*◌, ◌∙◌, true, ℕ, Option, Some, None, option_map, refl, ap, sym, subst, MAX_THREADS, ThreadId, is_same, same-id, find-has, find-some, ThreadRow, is_row_of, Table, rows_of, find_row, AreFamilies, Descend, one-row, HasRow, Tables, node_in, Keeps, slots}
+use Rattle.dk_recount.proofs.Names.{◌≡◌, ◌∙◌, true, ℕ, Option, Some, None, option_map, refl, ap, sym, subst, ThreadId, is_same, same-id, find-has, find-some, ThreadRow, is_row_of, Table, rows_of, find_row, AreFamilies, Descend, one-row, HasRow, Tables, node_in, Keeps, slots, nat_tests, arith}
 use Rattle.dk_recount.proofs.Rows.{slot-is}
 
 pub node-kept : (table table' : Table) (x : ThreadId) → AreFamilies table.levels table.families → Descend table table' x.process
     → HasRow table x → HasRow table' x → node_in table' x ≡ node_in table x
-node-kept table table' x are descend one two =
-    let r = descend two.row two.among in
-    let serial : one.row.id.serial ≡ r.0.id.serial = ap (λ (y : ThreadId). y.serial) (one.name ∙ sym two.name ∙ sym r.2) in
-    let same = one-row table x.process one.row r.0 are one.among r.1 serial in
-    let slot : one.row.slot ≡ two.row.slot = ap (λ (z : ThreadRow). z.slot) same ∙ r.3 in
-    ap (λ s. MAX_THREADS * x.process + s) (slot-is table' x two ∙ sym slot ∙ sym (slot-is table x one))
+node-kept table table' x are descend one two = grind (arith, nat_tests, one-row, slot-is)
 
 -- Where each row comes from one before, of the same name and slot, the threads keep their slots.
 pub keeps-slots : (d d' : Tables) → AreFamilies d.threads.levels d.threads.families → ((p : ℕ) → Descend d.threads d'.threads p) → Keeps (slots d) (slots d')

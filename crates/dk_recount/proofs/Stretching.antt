@@ -1,7 +1,6 @@
 -- Ticks one after the other that all go to one choice.
-use Rattle.dk_recount.proofs.Names.{◌≡◌, ◌<◌, ◌≤◌, ◌+◌, ◌-◌, ◌%◌, ◌^◌, ◌∙◌, ◌∷◌, ℕ, zero, suc, true, false, List, [], length, map, Option, None, inl, inr, ap, sym, subst, arith, if◌then◌else◌, ◌==◌, unwrap_or, option_or, cases_Bool, nat_tests, mod-add-mod, mod-eq_of_lt, mod-le, mod-lt, MAX_TICKS, Configuration, first-none, Choice, Work, Label, Event, Entry, quiet, chosen, Audited, HasChosenLabel, label_of, Clock, begins_at, end_at, passed, period_at, first_node, HasFamilies, IsSound, Tables, IsBooked, IsCharged, IsClosed, IsReady, MayCharge, charged, HasNoWish, HasNoWork, choice_in, choice_of, fits_in, loan_of, slack_in, work_in, moved_on, IsUntold, entry_of, begun, due, opened, WhereClosed, WhereReady}
+use Rattle.dk_recount.proofs.Names.{◌≡◌, ◌<◌, ◌≤◌, ◌+◌, ◌-◌, ◌%◌, ◌^◌, ◌∙◌, ◌∷◌, ℕ, zero, suc, true, false, List, [], length, map, Option, None, inl, ap, sym, subst, arith, if◌then◌else◌, ◌==◌, nat_tests, mod-add-mod, mod-eq_of_lt, mod-le, mod-lt, MAX_TICKS, Configuration, first-none, Choice, Work, Label, Event, Entry, quiet, chosen, Audited, HasChosenLabel, label_of, Clock, begins_at, end_at, passed, period_at, first_node, HasFamilies, IsSound, Tables, IsBooked, IsCharged, IsClosed, IsReady, MayCharge, charged, HasNoWish, HasNoWork, choice_in, choice_of, fits_in, work_in, moved_on, IsUntold, entry_of, begun, due, opened, WhereClosed, WhereReady}
 use Rattle.std.proofs.Common.{All}
-use Rattle.std.specs.Prelude.{option_map}
 use Rattle.dk_recount.proofs.Closing.{booked-closed}
 
 -- the laws of one tick
@@ -17,17 +16,10 @@ pub record StretchLaws : Type 0 where
 
 -- a level without work and, where slack fits, without a wish asks for nothing
 pub asks-nothing : (d : Tables) (k : ℕ) → work_in d k ≡ None → (fits_in d ≡ true → first_node k d.slack.wishes ≡ None) → choice_in d (fits_in d) k ≡ None
-asks-nothing d k work wish = elim (cases_Bool (fits_in d)) [
-  | inl on ↦
-      let slack : slack_in d k ≡ None = ap (option_map (loan_of d)) (wish on) in
-      ap (λ w. option_or w (if fits_in d then slack_in d k else None)) work ∙ ap (λ b. if b then slack_in d k else None) on ∙ slack
-  | inr off ↦ ap (λ w. option_or w (if fits_in d then slack_in d k else None)) work ∙ ap (λ b. if b then slack_in d k else None) off
-]
+asks-nothing d k work wish = grind (arith, nat_tests)
 
 pub nobody-chosen : (d : Tables) → HasNoWork d (length d.kernel) → (fits_in d ≡ true → HasNoWish d (length d.kernel)) → choice_of d ≡ Choice.Idle
-nobody-chosen d work wish =
-    ap (λ o. unwrap_or o Choice.Idle)
-    (first-none (choice_in d (fits_in d)) (length d.kernel) (λ j less. asks-nothing d j (work j less) (λ on. wish on j less)))
+nobody-chosen d work wish = grind (arith, nat_tests, first-none, asks-nothing)
 
 -- no window begins before the present one ends
 not-begun : (t n p : ℕ) → 0 < n → t + n < (t - t % p) + p → ((t + n) - (t + n) % p == t + n) ≡ false

@@ -1,5 +1,5 @@
 -- What the tables tell of their jobs, ready queues, holders and wishes.
-use Rattle.dk_recount.proofs.Names.{◌≡◌, ◌≢◌, ◌<◌, ◌∙◌, inl, inr, ◌&&◌, true, eqb, ltb, ℕ, zero, suc, List, [], ◌∷◌, length, map, Some, option_map, refl, ap, sym, arith, slice_get, filter, Contains, and_parts, eq-eqb, nat_tests, Configuration, ThreadId, Entry, Has, Thread, threads, job, rem, thread_rem, past_want, is_past_entering, past_holder_at, filter-has, has-contains, has-filter, has_row, holder_at, Slack, is_entering, asking, HaveOwnNodes, AreWishes, Seat, seat_at, told_phase, Tables, HasFamilies, node_in, IsReady, IsRecount, is_ready, phase_in, ready_in, ready_thread, rem_in}
+use Rattle.dk_recount.proofs.Names.{◌≡◌, ◌≢◌, ◌<◌, ◌∙◌, inl, inr, ◌&&◌, true, eqb, ltb, ℕ, zero, suc, List, [], ◌∷◌, length, map, Some, option_map, refl, ap, sym, arith, slice_get, filter, Contains, and_parts, eq-eqb, nat_tests, Configuration, ThreadId, Entry, Has, Thread, threads, job, thread_rem, past_want, is_past_entering, past_holder_at, filter-has, has-contains, has-filter, has_row, holder_at, Slack, is_entering, asking, HaveOwnNodes, AreWishes, Seat, seat_at, told_phase, Tables, HasFamilies, node_in, IsReady, IsRecount, is_ready, phase_in, ready_in, ready_thread, rem_in}
 use Rattle.dk_slack.specs.Wishes.{want}
 use Rattle.dk_recount.specs.Needed.{ChoosingLaws as Laws}
 use Rattle.dk_recount.proofs.Rows.{nodes-differ}
@@ -9,17 +9,11 @@ use Rattle.dk_recount.proofs.Choosing.{holders-fit, worker-there, asker-there, r
 
 pub rem-told : (c : Configuration) (now : ℕ) (past : List Entry) (d : Tables) (x : ThreadId) (y : Thread) → IsRecount c now past d → Has (threads c past) y → y.id ≡ x → has_row c now y ≡ true
     → rem_in d x ≡ thread_rem c now past y
-rem-told c now past d x y r among is there =
-    ap (rem_in d) (sym is)
-    ∙ ap (λ (s : Seat). rem d.jobs.switch s.job) (r.jobs.seats y among there)
-    ∙ ap (λ w. rem w (job c now past y)) r.jobs.switch
+rem-told c now past d x y r among is there = grind (arith, nat_tests)
 
 pub phase-told : (c : Configuration) (now : ℕ) (past : List Entry) (d : Tables) (x : ThreadId) (y : Thread) → IsRecount c now past d → Has (threads c past) y → y.id ≡ x → has_row c now y ≡ true
     → phase_in d x ≡ told_phase c.costs.switch (job c now past y)
-phase-told c now past d x y r among is there =
-    ap (phase_in d) (sym is)
-    ∙ ap (λ (s : Seat). told_phase d.jobs.switch s.job) (r.jobs.seats y among there)
-    ∙ ap (λ w. told_phase w (job c now past y)) r.jobs.switch
+phase-told c now past d x y r among is there = grind (arith, nat_tests)
 
 -- what the law of the wishes says
 abbrev pub AmountIs : Type 0
@@ -60,9 +54,7 @@ module _ (laws : Laws) (c : Configuration) (past : List Entry) (d : Tables) (rea
       some-of n h = grind (arith, nat_tests)
 
   pub ready-told : (k index : ℕ) → k < length c.levels → ready_in d k index ≡ ready_thread c past k index
-  ready-told k index known =
-      ap (λ queue. option_map (λ node. (seat_at d.jobs node).thread) (slice_get queue index)) (ready.recount.jobs.ready k known)
-      ∙ at-place (λ node. (seat_at d.jobs node).thread) (λ (x : Thread). node_of x.id) (filter (is_ready c now past k) (threads c past)) index (sits-there k)
+  ready-told k index known = grind (arith, nat_tests, at-place, sits-there)
 
   pub holder-told : (k : ℕ) → holder_at k d.mutexes ≡ option_map (λ (x : Thread). x.id) (past_holder_at c past k)
   holder-told k = laws.holder c past d.mutexes k ready.recount.holders ready.recount.own_levels (holders-fit laws c past d ready families)

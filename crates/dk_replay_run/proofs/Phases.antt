@@ -1,23 +1,13 @@
--- The parts of a window in turn: the switch in, the work, the wait, the switch out, and nothing.
-use Rattle.dk_alone.proofs.Names.{ℕ, zero, suc, ◌≡◌, ◌+◌, ◌-◌, ◌%◌, ◌<◌, ◌≤◌, Bool, true, false, eqb, ltb, List, ◌∷◌, ◌++◌, length, None, refl, sym, ap, ◌∙◌, subst, arith, replicate, add-mod-mod, mod_self, nat_tests, Configuration, period, main_level, budget, window_start, Phase, Choice, Label, Entry, phase, rem, the_job, main_id, Context, Outcome, KernelCall, body_tick, Trap, World, quiet_entry, alone, choice_alone}
-use Rattle.std.specs.Prelude.{◌==◌, if◌then◌else◌}
-use Rattle.dk_cpu.specs.State.{RunsFor, replied}
+-- The parts of a window beside its body: the switch in, the switch out behind a wait, and nothing.
+use Rattle.dk_alone.proofs.Names.{ℕ, zero, suc, ◌≡◌, ◌+◌, ◌-◌, ◌%◌, ◌<◌, ◌≤◌, Bool, true, false, eqb, ltb, List, ◌++◌, length, refl, sym, ap, ◌∙◌, subst, arith, replicate, add-mod-mod, mod_self, nat_tests, Configuration, period, main_level, budget, window_start, Phase, Choice, Label, Entry, phase, rem, the_job, main_id, Context, World, quiet_entry, alone, choice_alone}
 use Rattle.dk_alone.proofs.Own.{Own, own, after-other, own-begins}
 use Rattle.dk_alone.proofs.Steps.{alone-rests}
 use Rattle.dk_alone.proofs.Ties.{alone-long}
 use Rattle.dk_alone.proofs.Again.{on, on-is}
-use Rattle.dk_replay.specs.Laws.{IsAt, left_behind, standing}
-use Rattle.dk_replay.proofs.Calls.{call_takes}
-use Rattle.dk_replay_run.proofs.Turns.{At, going, own_from, waits, after-in, after-run, after-call, after-out, after-wait, here, chosen, quiet, run-tick, call-tick, wait-tick}
+use Rattle.dk_replay_run.proofs.Turns.{At, going, own_from, after-in, after-out, here, chosen, quiet}
 
 is-in : (B u o W : ℕ) → u < W → phase W (the_job B u o false) ≡ Phase.In
 is-in B u o W early = let test : ltb u W ≡ true = grind (arith, nat_tests) in rw test refl
-
-is-body : (B u o W : ℕ) → W ≤ u → u + W < B → phase W (the_job B u o false) ≡ Phase.Body
-is-body B u o W late more =
-    let first : ltb u W ≡ false = grind (arith, nat_tests) in
-    let second : ltb u (B - W) ≡ true = grind (arith, nat_tests) in
-    rw (first, second) refl
 
 left-open : (B u o W : ℕ) → u < B → 0 < rem W (the_job B u o false)
 left-open B u o W more = omega arith
@@ -32,9 +22,6 @@ module _ (c : Configuration) (p : ℕ) (program : List ℕ) (positive : 0 < peri
 
   abbrev W : ℕ
   W = c.costs.switch
-
-  abbrev K : ℕ
-  K = c.costs.call
 
   abbrev B : ℕ
   B = budget c p
@@ -60,59 +47,6 @@ module _ (c : Configuration) (p : ℕ) (program : List ℕ) (positive : 0 < peri
       chosen c p program positive s begins (on j s) o x m before early some ∙ ap (Choice.Budget (main_id p)) (is-in B j 0 W (omega arith)) in
       subst (λ (z : Own). Now (suc (on j s)) z x m) (after-in p B j 0 false so_far)
       (quiet c p program positive s begins (on j s) o x m (Choice.Budget (main_id p) Phase.In) (Label.In (main_id p)) before early refl choice)
-
-  -- ticks that are none of a call's
-  pub runs : (n t u : ℕ) (es : List Entry) (x y : Context) (m l : List ℕ) → W ≤ u → u + n + W ≤ B → t + n ≤ s + P
-      → Now t (going es B u 0 false) x m → RunsFor K program n x m y l
-      → Now (on n t) (going (replicate n (quiet_entry (Label.Run (main_id p))) ++ es) B (on n u) 0 false) y l
-  runs zero t u es x y m l low room high a took =
-      subst (λ (z : Context). Now t (going es B u 0 false) z l) took.0 (subst (λ (z : List ℕ). Now t (going es B u 0 false) x z) took.1 a)
-  runs (suc n) t u es x y m l low room high a took =
-      let so_far : List Entry = replicate n (quiet_entry (Label.Run (main_id p))) ++ es in
-      let o : Own = going so_far B (on n u) 0 false in
-      let before : Now (on n t) o took.0 took.1 = runs n t u es x took.0 m took.1 low (omega arith) (omega arith) a took.2 in
-      let place = on-is n t in
-      let used = on-is n u in
-      subst (λ (z : Own). Now (suc (on n t)) z y l) (after-run p B (on n u) 0 false so_far)
-      (run-tick c p program positive s begins (on n t) o took.0 y took.1 l before (omega (arith, place, high)) (left-open B (on n u) 0 W (omega (arith, used, room)))
-      (is-body B (on n u) 0 W (omega (arith, used, low)) (omega (arith, used, room))) refl took.3)
-
-  -- the ticks of a wait but the last
-  pub calls : (j t u at : ℕ) (es : List Entry) (regs m : List ℕ) → IsAt program at (Trap 1) → j < K → W ≤ u → u + j + W ≤ B → t + j ≤ s + P
-      → Now t (going es B u 0 false) (standing regs at 0) m
-      → Now (on j t) (going (replicate j (quiet_entry (Label.Call (main_id p))) ++ es) B (on j u) 0 false) (standing regs at (left_behind K j)) m
-  calls zero t u at es regs m is few low room high a = a
-  calls (suc j) t u at es regs m is few low room high a =
-      let so_far : List Entry = replicate j (quiet_entry (Label.Call (main_id p))) ++ es in
-      let o : Own = going so_far B (on j u) 0 false in
-      let before : Now (on j t) o (standing regs at (left_behind K j)) m = calls j t u at es regs m is (omega arith) low (omega arith) (omega arith) a in
-      let place = on-is j t in
-      let used = on-is j u in
-      let later : (suc j == K) ≡ false = grind (arith, nat_tests) in
-      let tick : body_tick K program (standing regs at (left_behind K j)) m ≡ record { outcome = Outcome.InCall; context = standing regs at (left_behind K (suc j)); memory = m } =
-      call_takes K program m regs at 1 j KernelCall.Wait is refl (omega arith)
-      ∙ ap (λ (b : Bool). if b
-      then record { outcome = Outcome.CallDone KernelCall.Wait; context = standing regs (at + 1) 0; memory = m }
-      else record { outcome = Outcome.InCall; context = standing regs at (left_behind K (suc j)); memory = m }) later in
-      subst (λ (z : Own). Now (suc (on j t)) z (standing regs at (left_behind K (suc j))) m) (after-call p B (on j u) 0 false so_far)
-      (call-tick c p program positive s begins (on j t) o (standing regs at (left_behind K j)) (standing regs at (left_behind K (suc j))) m m before (omega (arith, place, high))
-      (left-open B (on j u) 0 W (omega (arith, used, room))) (is-body B (on j u) 0 W (omega (arith, used, low)) (omega (arith, used, room))) refl tick)
-
-  -- and the last
-  pub waited : (j t u at : ℕ) (es : List Entry) (regs m : List ℕ) → IsAt program at (Trap 1) → suc j ≡ K → W ≤ u → u + W < B → t < s + P
-      → Now t (going es B u 0 false) (standing regs at (left_behind K j)) m
-      → Now (suc t) (going (waits p ∷ es) B (suc u) 0 true) (replied (standing regs (at + 1) 0) 0 None) m
-  waited j t u at es regs m is all low room high a =
-      let o : Own = going es B u 0 false in
-      let last : (suc j == K) ≡ true = grind (arith, nat_tests) in
-      let tick : body_tick K program (standing regs at (left_behind K j)) m ≡ record { outcome = Outcome.CallDone KernelCall.Wait; context = standing regs (at + 1) 0; memory = m } =
-      call_takes K program m regs at 1 j KernelCall.Wait is refl (omega (arith, all))
-      ∙ ap (λ (b : Bool). if b
-      then record { outcome = Outcome.CallDone KernelCall.Wait; context = standing regs (at + 1) 0; memory = m }
-      else record { outcome = Outcome.InCall; context = standing regs at (left_behind K (suc j)); memory = m }) last in
-      subst (λ (z : Own). Now (suc t) z (replied (standing regs (at + 1) 0) 0 None) m) (after-wait p B u 0 false es)
-      (wait-tick c p program positive s begins t o (standing regs at (left_behind K j)) (standing regs (at + 1) 0) m m a high
-      (left-open B u 0 W (omega arith)) (is-body B u 0 W low room) refl tick)
 
   -- the switch out
   pub outs : (j t u : ℕ) (es : List Entry) (x : Context) (m : List ℕ) → j ≤ W → 0 < u → t + j ≤ s + P → Now t (going es B u 0 true) x m

@@ -1,17 +1,17 @@
--- What the premises give in numbers: a budget fits into a window, and so does each job.
-use Rattle.std.proofs.Common.{◌≡◌, ◌∙◌, refl, ap, ◌<◌, ◌≤◌, ◌+◌, ◌*◌, ◌/◌, ◌^◌, ℕ, zero, suc, true, List, [], ◌∷◌, length, arith}
-use Rattle.std.specs.Prelude.{◌==◌, if◌then◌else◌, slice_get, slice_index_or, sum_by}
+-- What the premises give in numbers: a budget fits into a window, and there is a job.
+use Rattle.std.proofs.Common.{◌≡◌, ◌∙◌, refl, ap, ◌<◌, ◌≤◌, ◌+◌, ◌*◌, ◌/◌, ℕ, zero, suc, true, List, [], ◌∷◌, length, arith}
+use Rattle.std.specs.Prelude.{◌==◌, if◌then◌else◌, slice_get, sum_by}
 use Rattle.std.specs.Option.{option_map_or}
 use Rattle.std.proofs.Math.Nat.{div_self}
 use Rattle.std.proofs.lemmas.Bool.Decides.{nat_tests}
 use Rattle.std.proofs.lemmas.List.Sums.{sum_by-cons}
 use Rattle.dk_config.specs.Configuration.{Configuration}
 use Rattle.dk_config.specs.declared.rows.ProcessRow.{ProcessRow}
-use Rattle.dk_config.specs.Checked.{IsAccepted, IsChecked, IsWithinLimits}
+use Rattle.dk_config.specs.Checked.{IsAccepted, IsChecked}
 use Rattle.dk_config.specs.Certification.{budgets_at, level_blocking, level_demand}
 use Rattle.dk_config.specs.Windows.{budget, main_level, period, release}
 use Rattle.dk_config.proofs.Sums.{sum_from-term}
-use Rattle.dk_replay_run.specs.Jobs.{BeginsWithWork, HaveRoom}
+use Rattle.dk_replay_run.specs.Jobs.{HaveSomeWork}
 
 -- the budgets of a row's level have its own
 row-counted : (rows : List ProcessRow) (p j : ℕ) → option_map_or (λ (row : ProcessRow). row.level) (slice_get rows p) 0 ≡ j
@@ -43,19 +43,6 @@ budget-fits c p checked accepted known =
     let own : budget c p ≤ budgets_at c j = row-counted c.processes p j refl in
     omega (arith, whole, term, one, own)
 
-pub room-at : (c : Configuration) (p : ℕ) (times : List ℕ) (i : ℕ) → i < length times → HaveRoom c p times
-    → slice_index_or times i 0 + c.costs.call + 2 * c.costs.switch ≤ budget c p
-room-at c p [] i within room = absurd (omega arith)
-room-at c p (n ∷ times) zero within room = room.0
-room-at c p (n ∷ times) (suc i) within room = room-at c p times i (omega arith) room.1
-
-pub fit : (c : Configuration) (p : ℕ) (times : List ℕ) → IsWithinLimits c → HaveRoom c p times
-    → (i : ℕ) → i < length times → slice_index_or times i 0 < 2 ^ 32
-fit c p times limits room i within =
-    let much = room-at c p times i within room in
-    let least = limits.budgets p in
-    omega (arith, much, least)
-
-pub some-job : (times : List ℕ) → BeginsWithWork times → 0 < length times
-some-job [] works = absurd works
-some-job (n ∷ times) works = omega arith
+pub some-timed : (times : List ℕ) → HaveSomeWork times → 0 < length times
+some-timed [] works = absurd works
+some-timed (n ∷ times) works = omega arith

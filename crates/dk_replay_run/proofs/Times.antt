@@ -6,9 +6,9 @@ use Rattle.std.proofs.lemmas.Bool.Decides.{nat_tests}
 use Rattle.dk_config.specs.Configuration.{Configuration}
 use Rattle.dk_profile.specs.declared.steps.Step.{Step}
 use Rattle.dk_profile.specs.declared.steps.Step.TheVariants as kind
-use Rattle.dk_replay_run.specs.Jobs.{BeginsWithWork, FitWindows, HaveRoom, job_steps, job_time, steps_of_jobs, work_times}
+use Rattle.dk_replay_run.specs.Jobs.{FitWindows, HaveRoom, HaveSomeWork, job_steps, job_time, steps_of_jobs, work_times}
 use Rattle.dk_times.specs.Table.{job_of}
-use Rattle.dk_replay_run.proofs.Room.{some-job}
+use Rattle.dk_replay_run.proofs.Room.{some-timed}
 
 one-same : (call ticks n : ℕ) → ticks - call ≡ n → job_of call ticks ≡ job_steps n
 one-same call ticks zero is =
@@ -45,11 +45,11 @@ index-of call [] i = omega arith
 index-of call (ticks ∷ times) zero = refl
 index-of call (ticks ∷ times) (suc i) = index-of call times i
 
-pub whole-time : (c : Configuration) (p k : ℕ) (times : List ℕ) → BeginsWithWork (work_times c.costs.call times) → FitWindows c p times
+pub whole-time : (c : Configuration) (p k : ℕ) (times : List ℕ) → HaveSomeWork (work_times c.costs.call times) → FitWindows c p times
     → job_time (work_times c.costs.call times) k + c.costs.call + 2 * c.costs.switch ≡ slice_index_or times (k % length times) 0 + 2 * c.costs.switch
 whole-time c p k times begins fits =
     let long : length (work_times c.costs.call times) ≡ length times = as-many c.costs.call times in
-    let some : 0 < length (work_times c.costs.call times) = some-job (work_times c.costs.call times) begins in
+    let some : 0 < length (work_times c.costs.call times) = some-timed (work_times c.costs.call times) begins in
     let some' : 0 < length times = omega (arith, long, some) in
     let least = long-enough c p times (k % length times) (mod-lt k some') fits in
     let time : job_time (work_times c.costs.call times) k ≡ slice_index_or times (k % length times) 0 - c.costs.call =

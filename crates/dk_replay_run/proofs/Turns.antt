@@ -2,7 +2,6 @@
 use Rattle.dk_alone.proofs.Names.{ℕ, suc, ◌≡◌, ◌+◌, ◌-◌, ◌/◌, ◌%◌, ◌<◌, ◌≤◌, inl, inr, Bool, true, false, eqb, List, [], ◌∷◌, length, Option, Some, None, refl, sym, ap, ◌∙◌, subst, arith, add-mod-mod, cases_Bool, nat_tests, is_some, Configuration, period, main_level, window_start, Phase, Choice, Label, Event, Entry, Hold, held_by, phase, rem, label_of, same-job, the_job, job_at, main_id, main_row, main_stop, Context, Tick, Outcome, KernelCall, FaultKind, body_tick, Effect, effect, or_refused, done, held-quiet, Image, Turn, World, quiet_entry, step_of, thread_turn, breaks_hold, image_after, with_reply, work_done, tick_in, update-same, alone, choice_alone, is_of_process, entries_of}
 use Rattle.std.specs.Prelude.{if◌then◌else◌}
 use Rattle.std.proofs.Math.Nat.{mod-eq_of_lt}
-use Rattle.dk_cpu.specs.Machine.{ran}
 use Rattle.dk_cpu.specs.State.{replied}
 use Rattle.dk_world.specs.Calls.{Reply}
 use Rattle.dk_world.specs.Run.{turned, thread_at}
@@ -23,20 +22,6 @@ pub after-in : (p share used outs : ℕ) (shut : Bool) (es : List Entry)
     → after p (quiet_entry (Label.In (main_id p))) (going es share used outs shut)
     ≡ going (quiet_entry (Label.In (main_id p)) ∷ es) share (suc used) outs shut
 after-in p share used outs shut es =
-    let self = same-self p in
-    rw self (same-own _ _ _ _ _ _ _ _ refl (same-job _ _ _ _ _ _ _ _ refl (omega arith) (omega arith) refl) refl refl)
-
-pub after-run : (p share used outs : ℕ) (shut : Bool) (es : List Entry)
-    → after p (quiet_entry (Label.Run (main_id p))) (going es share used outs shut)
-    ≡ going (quiet_entry (Label.Run (main_id p)) ∷ es) share (suc used) outs shut
-after-run p share used outs shut es =
-    let self = same-self p in
-    rw self (same-own _ _ _ _ _ _ _ _ refl (same-job _ _ _ _ _ _ _ _ refl (omega arith) (omega arith) refl) refl refl)
-
-pub after-call : (p share used outs : ℕ) (shut : Bool) (es : List Entry)
-    → after p (quiet_entry (Label.Call (main_id p))) (going es share used outs shut)
-    ≡ going (quiet_entry (Label.Call (main_id p)) ∷ es) share (suc used) outs shut
-after-call p share used outs shut es =
     let self = same-self p in
     rw self (same-own _ _ _ _ _ _ _ _ refl (same-job _ _ _ _ _ _ _ _ refl (omega arith) (omega arith) refl) refl refl)
 
@@ -78,15 +63,19 @@ plain-more p e past event plain =
       | inr other ↦ subst Plain (sym (filter-out p e past other)) plain
     ]
 
--- the turn of a main with these holds
-abbrev turn_with : Configuration → Label → Image → Tick → List Hold → Effect → Turn
-turn_with c label image tick held given =
-    if breaks_hold c held (image.contexts 0) tick.outcome
+-- the turn of a main whose hold breaks, or not
+abbrev turn_of : Label → Image → Tick → Effect → Bool → Turn
+turn_of label image tick given breaks =
+    if breaks
     then record { entry = record { label = label; event = Some (Event.Fault FaultKind.Hold) }; image = image }
     else record { entry = record { label = label; event = given.event }; image = image_after image 0 tick given }
 
+-- the turn of a main with these holds
+abbrev turn_with : Configuration → Label → Image → Tick → List Hold → Effect → Turn
+turn_with c label image tick held given = turn_of label image tick given (breaks_hold c held (image.contexts 0) tick.outcome)
+
 -- an effect with no child
-abbrev effect_of : Option Event → Option Reply → Effect
+abbrev pub effect_of : Option Event → Option Reply → Effect
 effect_of event reply = record { event = event; reply = reply; child = None }
 
 module _ (c : Configuration) (p : ℕ) (program : List ℕ) (positive : 0 < period c (main_level c p)) (s : ℕ) (begins : s % period c (main_level c p) ≡ 0) where
@@ -156,15 +145,15 @@ module _ (c : Configuration) (p : ℕ) (program : List ℕ) (positive : 0 < peri
       (ap (λ (w : World). (w.images p).memory) next ∙ a.memory)
       (ap (λ (w : World). (w.images p).code) next ∙ a.code)
 
-  -- a tick of the body
-  body : (t : ℕ) (o : Own) (x : Context) (m : List ℕ) (tick : Tick) (event : Option Event) (reply : Option Reply) → At c p program s t o x m → t < s + P
-      → 0 < rem W o.job → phase W o.job ≡ Phase.Body → o.held ≡ [] → body_tick c.costs.call program x m ≡ tick
+  -- a tick of the body, in which no hold breaks
+  pub body : (t : ℕ) (o : Own) (x : Context) (m : List ℕ) (tick : Tick) (event : Option Event) (reply : Option Reply) → At c p program s t o x m → t < s + P
+      → 0 < rem W o.job → phase W o.job ≡ Phase.Body → breaks_hold c o.held x tick.outcome ≡ false → body_tick c.costs.call program x m ≡ tick
       → effect c (length (v t).past) (quiet_entry (label_of (Choice.Budget (main_id p) Phase.Body) (work_done tick.outcome)) ∷ (v t).past) (main_row c p (v t).past) (length program / 4) tick.context tick.outcome
       ≡ effect_of event reply
       → IsPlainEvent event
       → At c p program s (suc t) (after p (record { label = label_of (Choice.Budget (main_id p) Phase.Body) (work_done tick.outcome); event = event }) o)
       (with_reply tick.context reply) tick.memory
-  body t o x m tick event reply a early some in-body empty is gives plain =
+  body t o x m tick event reply a early some in-body whole is gives plain =
       let w = v t in
       let image : Image = w.images p in
       let choice : Choice = Choice.Budget (main_id p) Phase.Body in
@@ -176,14 +165,15 @@ module _ (c : Configuration) (p : ℕ) (program : List ℕ) (positive : 0 < peri
       ap (λ (code : List ℕ). body_tick c.costs.call code (image.contexts 0) image.memory) a.code
       ∙ ap (λ (z : Context). body_tick c.costs.call program z image.memory) a.context
       ∙ ap (λ (l : List ℕ). body_tick c.costs.call program x l) a.memory ∙ is in
-      let held : held_by (main_id p) w.past ≡ [] = ap (λ (z : Own). z.held) a.own ∙ empty in
+      let held : held_by (main_id p) w.past ≡ o.held = ap (λ (z : Own). z.held) a.own in
+      let stays : breaks_hold c o.held (image.contexts 0) tick.outcome ≡ false = ap (λ (z : Context). breaks_hold c o.held z tick.outcome) a.context ∙ whole in
       let given : Effect = effect c (length w.past) (quiet_entry label ∷ w.past) (thread_at c w.past (main_id p)) (length image.code / 4) tick.context tick.outcome in
       let effects : given ≡ effect_of event reply =
       ap (λ row. effect c (length w.past) (quiet_entry label ∷ w.past) row (length image.code / 4) tick.context tick.outcome) (row-at c p w.past)
       ∙ ap (λ (code : List ℕ). effect c (length w.past) (quiet_entry label ∷ w.past) (main_row c p w.past) (length code / 4) tick.context tick.outcome) a.code
       ∙ gives in
       let turn : thread_turn c w.past choice (main_id p) image tick ≡ record { entry = e; image = after-image } =
-      ap (λ (hs : List Hold). turn_with c label image tick hs given) held ∙ ap (turn_with c label image tick []) effects in
+      ap (λ (hs : List Hold). turn_with c label image tick hs given) held ∙ ap (turn_of label image tick given) stays ∙ ap (λ (g : Effect). turn_of label image tick g false) effects in
       let next : v (suc t) ≡ turned w p (record { entry = e; image = after-image }) =
       ap (step_of c w) choose ∙ ap (λ (z : Tick). turned w p (thread_turn c w.past choice (main_id p) image z)) ticks ∙ ap (turned w p) turn in
       let there : (v (suc t)).images p ≡ after-image = ap (λ (z : World). z.images p) next ∙ update-same p after-image w.images in
@@ -191,20 +181,6 @@ module _ (c : Configuration) (p : ℕ) (program : List ℕ) (positive : 0 < peri
       (ap (λ (i : Image). i.contexts 0) there)
       (ap (λ (i : Image). i.memory) there)
       (ap (λ (i : Image). i.code) there ∙ a.code)
-
-  -- a tick that is no call's
-  pub run-tick : (t : ℕ) (o : Own) (x y : Context) (m l : List ℕ) → At c p program s t o x m → t < s + P
-      → 0 < rem W o.job → phase W o.job ≡ Phase.Body → o.held ≡ [] → body_tick c.costs.call program x m ≡ ran y l
-      → At c p program s (suc t) (after p (quiet_entry (Label.Run (main_id p))) o) y l
-  run-tick t o x y m l a early some in-body empty is = body t o x m (ran y l) None None a early some in-body empty is refl tt
-
-  -- a tick of a call that isn't its last
-  pub call-tick : (t : ℕ) (o : Own) (x y : Context) (m l : List ℕ) → At c p program s t o x m → t < s + P
-      → 0 < rem W o.job → phase W o.job ≡ Phase.Body → o.held ≡ []
-      → body_tick c.costs.call program x m ≡ record { outcome = Outcome.InCall; context = y; memory = l }
-      → At c p program s (suc t) (after p (quiet_entry (Label.Call (main_id p))) o) y l
-  call-tick t o x y m l a early some in-body empty is =
-      body t o x m (record { outcome = Outcome.InCall; context = y; memory = l }) None None a early some in-body empty is refl tt
 
   -- the last of a wait, which is granted since the main holds nothing
   pub wait-tick : (t : ℕ) (o : Own) (x y : Context) (m l : List ℕ) → At c p program s t o x m → t < s + P
@@ -218,5 +194,5 @@ module _ (c : Configuration) (p : ℕ) (program : List ℕ) (positive : 0 < peri
       let aged : held_by (main_id p) (quiet_entry (Label.Call (main_id p)) ∷ past) ≡ [] =
       held-quiet (main_id p) (Label.Call (main_id p)) past ∙ (rw (self, held) refl) in
       body t o x m (record { outcome = Outcome.CallDone KernelCall.Wait; context = y; memory = l }) (Some Event.Wait) (Some (record { r0 = 0; r1 = None }))
-      a early some in-body empty is
+      a early some in-body (ap (λ (hs : List Hold). breaks_hold c hs x (Outcome.CallDone KernelCall.Wait)) empty) is
       (ap (λ (hs : List Hold). or_refused (wait_with hs) (done Event.Wait)) aged) tt

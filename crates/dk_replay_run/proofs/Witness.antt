@@ -1,5 +1,5 @@
 -- The premises can be met all at once, with switch costs and a call of two ticks: a process of three jobs beside one that never waits, and beside any other. Three of its windows, computed.
-use Rattle.dk_alone.proofs.Names.{ℕ, ◌≡◌, ◌*◌, false, List, [], ◌∷◌, None, refl, arith, reverse, slice_index_or, Configuration, IsChecked, IsAccepted, first_broken, checked, ThreadId, Label, Event, Entry, trace, accepted, alone, entries_of, own_window, bytes_of, Jmp, flat_map}
+use Rattle.dk_alone.proofs.Names.{ℕ, ◌≡◌, ◌*◌, inl, false, List, [], ◌∷◌, None, refl, arith, reverse, slice_index_or, Configuration, IsChecked, IsAccepted, first_broken, checked, ThreadId, Label, Event, Entry, trace, accepted, alone, entries_of, own_window, bytes_of, Jmp, flat_map}
 use Rattle.std.specs.Prelude.{Option, Some}
 use Rattle.dk_config.specs.Checked.{IsWithinLimits}
 use Rattle.dk_config.specs.Rules.{all_tests, version_tests, count_tests, range_tests, period_tests, name_tests, again_tests, level_tests, budget_tests, user_tests, slowest_tests}
@@ -85,4 +85,4 @@ worked-beside-spinner = refl
 -- so each of its windows has the entries of its job, for ever, whatever the other process does
 worker-replays : Replays → (others : List (List ℕ)) (k : ℕ) → slice_index_or others 1 [] ≡ worker
     → own_window pair others 1 (k * 24) ≡ job_window pair 1 (job_time times k)
-worker-replays law others k is = law pair others 1 k times pair-limits pair-checked pair-accepted (omega arith) refl refl (omega arith) worker-fits is
+worker-replays law others k is = law pair others 1 k times pair-limits pair-checked pair-accepted (omega arith) refl refl (inl (omega arith)) worker-fits is

@@ -1,5 +1,5 @@
 -- Jobs of a work and a wait: their steps, where each of them begins, and what a window with one has.
-use Rattle.std.specs.Prelude.{ℕ, zero, suc, ◌≡◌, ◌+◌, ◌-◌, ◌*◌, ◌%◌, ◌<◌, ◌≤◌, false, List, [], ◌∷◌, ◌++◌, length, map, take, replicate, slice_index_or, sum_by, Some}
+use Rattle.std.specs.Prelude.{ℕ, zero, suc, ◌≡◌, ◌⊎◌, ◌+◌, ◌-◌, ◌*◌, ◌%◌, ◌<◌, ◌≤◌, false, List, [], ◌∷◌, ◌++◌, length, map, take, replicate, slice_index_or, sum_by, Some}
 use Rattle.dk_config.specs.Configuration.{Configuration}
 use Rattle.dk_config.specs.Windows.{budget}
 use Rattle.dk_trace.specs.declared.ThreadId.{ThreadId}
@@ -27,6 +27,11 @@ steps_of_jobs (n ∷ times) = job_steps n ++ steps_of_jobs times
 abbrev pub BeginsWithWork : List ℕ → Type 0
 BeginsWithWork [] = ⊥
 BeginsWithWork (n ∷ times) = 0 < n
+
+-- one of the jobs has a tick of work
+abbrev pub HaveSomeWork : List ℕ → Type 0
+HaveSomeWork [] = ⊥
+HaveSomeWork (n ∷ times) = (0 < n) ⊎ HaveSomeWork times
 
 -- the ticks of work of job k, where the jobs come in turn for ever
 abbrev pub job_time : List ℕ → ℕ → ℕ

@@ -4,3 +4,4 @@ mod FewNames
 pub mod TrueReasons
 pub mod OneLine
 mod Rows
+pub mod SimpleApps

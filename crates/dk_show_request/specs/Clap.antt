@@ -1,8 +1,10 @@
 -- What `clap` is given for a command, and what it makes of words.
-use Rattle.std.specs.Prelude.{ℕ, Bool, true, false, ◌==◌, codes, length, List, Option, Some, None, if◌then◌else◌}
+use Rattle.std.specs.Prelude.{ℕ, Bool, true, false, ◌==◌, codes, length, List, [], ◌∷◌, Option, Some, None, if◌then◌else◌}
 use Rattle.std.specs.Str.{bytes_eq}
 use Rattle.clap.specs.Words.{App, Row, Rule, Text, first_of, fault_of, matches_of, new_app, new_rule, with_rule}
 use Rattle.clap.specs.declared.builder.action.ArgAction.TheVariants.{Append, Set, SetTrue}
+use Rattle.dk_show_request.specs.declared.clap_commands.Argument.{Argument}
+use Rattle.dk_show_request.specs.declared.clap_commands.Argument.TheVariants as kind
 use Rattle.dk_show_request.specs.declared.commands.Command.{Command}
 use Rattle.dk_show_request.specs.declared.commands.Command.TheVariants as command
 use Rattle.dk_show_request.specs.Commands.{word_of}
@@ -23,56 +25,68 @@ flag name = record (new_rule name) { long = Some name; action = Some SetTrue }
 abbrev pub option : List ℕ → Rule
 option name = record (new_rule name) { long = Some name; action = Some Set }
 
--- for each form what `clap` is given for a command of this word
+-- what `clap` is told of an argument
+abbrev pub rule_for : Argument → Rule
+rule_for (kind.One name required) = argument name.now required
+rule_for (kind.Many name required) = many_argument name.now required
+rule_for (kind.Flag name) = flag name.now
+rule_for (kind.Value name) = option name.now
 
-abbrev pub range_app : List ℕ → App
-range_app word = with_rule (with_rule (with_rule (new_app word) (argument (codes "LEDGER") true))
-    (argument (codes "FROM") false)) (argument (codes "TO") false)
+-- for each form what `clap` is told of its arguments, flags and options
 
-abbrev pub windows_app : List ℕ → App
-windows_app word = with_rule (with_rule (with_rule (with_rule (with_rule (new_app word) (argument (codes "LEDGER") true))
-    (flag (codes "strict"))) (flag (codes "sparing"))) (flag (codes "all"))) (flag (codes "csv"))
+abbrev pub range_rules : List Rule
+range_rules = argument (codes "LEDGER") true ∷ argument (codes "FROM") false ∷ argument (codes "TO") false ∷ []
 
-abbrev pub holds_app : List ℕ → App
-holds_app word = with_rule (with_rule (new_app word) (argument (codes "LEDGER") true)) (argument (codes "FILE") false)
+abbrev pub windows_rules : List Rule
+windows_rules = argument (codes "LEDGER") true ∷ flag (codes "strict") ∷ flag (codes "sparing") ∷ flag (codes "all")
+    ∷ flag (codes "csv") ∷ []
 
-abbrev pub file_app : List ℕ → App
-file_app word = with_rule (new_app word) (argument (codes "FILE") true)
+abbrev pub holds_rules : List Rule
+holds_rules = argument (codes "LEDGER") true ∷ argument (codes "FILE") false ∷ []
 
-abbrev pub telling_app : List ℕ → App
-telling_app word = with_rule (with_rule (new_app word) (argument (codes "FILE") true)) (flag (codes "csv"))
+abbrev pub file_rules : List Rule
+file_rules = argument (codes "FILE") true ∷ []
 
-abbrev pub chain_app : List ℕ → App
-chain_app word = with_rule (with_rule (with_rule (new_app word) (argument (codes "FILE") true))
-    (many_argument (codes "NAME") true)) (option (codes "ledger"))
+abbrev pub telling_rules : List Rule
+telling_rules = argument (codes "FILE") true ∷ flag (codes "csv") ∷ []
 
-abbrev pub change_app : List ℕ → App
-change_app word = with_rule (with_rule (with_rule (with_rule (new_app word) (argument (codes "OLD") true))
-    (argument (codes "NEW") true)) (many_argument (codes "NAME") false)) (flag (codes "csv"))
+abbrev pub chain_rules : List Rule
+chain_rules = argument (codes "FILE") true ∷ many_argument (codes "NAME") true ∷ option (codes "ledger") ∷ []
 
-abbrev pub ticks_app : List ℕ → App
-ticks_app word = with_rule (with_rule (new_app word) (argument (codes "FILE") true)) (argument (codes "TICKS") true)
+abbrev pub change_rules : List Rule
+change_rules = argument (codes "OLD") true ∷ argument (codes "NEW") true ∷ many_argument (codes "NAME") false
+    ∷ flag (codes "csv") ∷ []
 
-abbrev pub check_app : List ℕ → App
-check_app word = with_rule (with_rule (with_rule (with_rule (with_rule (new_app word) (argument (codes "FILE") true))
-    (argument (codes "NEEDS") true)) (argument (codes "LEDGER") false)) (flag (codes "csv"))) (flag (codes "junit"))
+abbrev pub ticks_rules : List Rule
+ticks_rules = argument (codes "FILE") true ∷ argument (codes "TICKS") true ∷ []
 
-abbrev pub replay_app : List ℕ → App
-replay_app word = with_rule (with_rule (with_rule (new_app word) (argument (codes "PROFILE") true))
-    (argument (codes "NAME") true)) (argument (codes "FILE") true)
+abbrev pub check_rules : List Rule
+check_rules = argument (codes "FILE") true ∷ argument (codes "NEEDS") true ∷ argument (codes "LEDGER") false
+    ∷ flag (codes "csv") ∷ flag (codes "junit") ∷ []
 
+abbrev pub replay_rules : List Rule
+replay_rules = argument (codes "PROFILE") true ∷ argument (codes "NAME") true ∷ argument (codes "FILE") true ∷ []
+
+abbrev pub rules_for : Command → List Rule
+rules_for command.Picture = range_rules
+rules_for (command.Draw d) = range_rules
+rules_for command.Windows = windows_rules
+rules_for command.Holds = holds_rules
+rules_for command.Faults = file_rules
+rules_for (command.Tell t) = telling_rules
+rules_for command.Chain = chain_rules
+rules_for command.Impact = change_rules
+rules_for command.Repeats = ticks_rules
+rules_for command.Check = check_rules
+rules_for command.Replay = replay_rules
+
+abbrev pub with_rules : App → List Rule → App
+with_rules app [] = app
+with_rules app (rule ∷ rules) = with_rules (with_rule app rule) rules
+
+-- what `clap` is given for a command
 abbrev pub app_for : Command → App
-app_for command.Picture = range_app (word_of command.Picture)
-app_for (command.Draw d) = range_app (word_of (command.Draw d))
-app_for command.Windows = windows_app (word_of command.Windows)
-app_for command.Holds = holds_app (word_of command.Holds)
-app_for command.Faults = file_app (word_of command.Faults)
-app_for (command.Tell t) = telling_app (word_of (command.Tell t))
-app_for command.Chain = chain_app (word_of command.Chain)
-app_for command.Impact = change_app (word_of command.Impact)
-app_for command.Repeats = ticks_app (word_of command.Repeats)
-app_for command.Check = check_app (word_of command.Check)
-app_for command.Replay = replay_app (word_of command.Replay)
+app_for c = with_rules (new_app (word_of c)) (rules_for c)
 
 -- the text of a flag is "true" or "false"
 abbrev pub is_true : Option Text → Bool

@@ -1,150 +1,133 @@
-//! For each form what `clap` is given for a command of this word.
-ghost use Rattle.std.specs.Prelude.{◌≡◌, codes, IfOk};
-ghost use Rattle.clap.specs.Words.{app_of, with_rule};
-ghost use Rattle.dk_show_request.specs.Clap.{argument, chain_app, change_app, check_app, file_app, flag, holds_app, many_argument, option, range_app, replay_app, telling_app, ticks_app, windows_app};
+//! What `clap` is given for each command.
+ghost use Rattle.std.specs.Prelude.{◌≡◌, IfOk, false, map};
+ghost use Rattle.clap.specs.Words.{app_of, rule_of, with_rule};
+ghost use Rattle.dk_show_request.specs.Clap.{app_for, rule_for, rules_for};
+ghost use Rattle.dk_show_request.specs.Commands.{word_of};
 
+use crate::commands::Command;
 use clap::{Arg, ArgAction, Command as ClapCommand};
 use std::alloc::{AllocError, Global};
 
-/// The command with one argument more.
-fn add_argument<'a>(
+/// What stands behind a command word, and its name.
+#[derive(Clone, Copy)]
+enum Argument {
+    /// A word, and whether it must stand.
+    One(&'static str, bool),
+    /// One word or several, and whether they must stand.
+    Many(&'static str, bool),
+    Flag(&'static str),
+    /// An option, which stands before its word.
+    Value(&'static str),
+}
+
+const RANGE: &[Argument] = &[
+    Argument::One("LEDGER", true),
+    Argument::One("FROM", false),
+    Argument::One("TO", false),
+];
+
+const WINDOWS: &[Argument] = &[
+    Argument::One("LEDGER", true),
+    Argument::Flag("strict"),
+    Argument::Flag("sparing"),
+    Argument::Flag("all"),
+    Argument::Flag("csv"),
+];
+
+const HOLDS: &[Argument] = &[Argument::One("LEDGER", true), Argument::One("FILE", false)];
+
+const FILE: &[Argument] = &[Argument::One("FILE", true)];
+
+const TELLING: &[Argument] = &[Argument::One("FILE", true), Argument::Flag("csv")];
+
+const CHAIN: &[Argument] = &[
+    Argument::One("FILE", true),
+    Argument::Many("NAME", true),
+    Argument::Value("ledger"),
+];
+
+const CHANGE: &[Argument] = &[
+    Argument::One("OLD", true),
+    Argument::One("NEW", true),
+    Argument::Many("NAME", false),
+    Argument::Flag("csv"),
+];
+
+const TICKS: &[Argument] = &[Argument::One("FILE", true), Argument::One("TICKS", true)];
+
+const CHECK: &[Argument] = &[
+    Argument::One("FILE", true),
+    Argument::One("NEEDS", true),
+    Argument::One("LEDGER", false),
+    Argument::Flag("csv"),
+    Argument::Flag("junit"),
+];
+
+const REPLAY: &[Argument] = &[
+    Argument::One("PROFILE", true),
+    Argument::One("NAME", true),
+    Argument::One("FILE", true),
+];
+
+/// What stands behind the word of a command, in order.
+fn arguments_of(command: Command) -> &'static [Argument]
+    ensures { map rule_for result.now ≡ rules_for command }
+{
+    match command {
+        Command::Picture | Command::Draw(_) => RANGE,
+        Command::Windows => WINDOWS,
+        Command::Holds => HOLDS,
+        Command::Faults => FILE,
+        Command::Tell(_) => TELLING,
+        Command::Chain => CHAIN,
+        Command::Impact => CHANGE,
+        Command::Repeats => TICKS,
+        Command::Check => CHECK,
+        Command::Replay => REPLAY,
+    }
+}
+
+/// The argument, flag or option as `clap` has it.
+fn made_of<'a>(alloc: Global, argument: Argument) -> Arg<'a>
+    ensures rule { rule_of result ≡ rule_for argument }
+    ensures local { result.global ≡ false }
+{
+    match argument {
+        Argument::One(name, required) => Arg::new(alloc, name)
+            .required(required)
+            .action(ArgAction::Set),
+        Argument::Many(name, required) => Arg::new(alloc, name)
+            .required(required)
+            .action(ArgAction::Append),
+        Argument::Flag(name) => Arg::new(alloc, name).long(name).action(ArgAction::SetTrue),
+        Argument::Value(name) => Arg::new(alloc, name).long(name).action(ArgAction::Set),
+    }
+}
+
+/// The command with one argument, flag or option more.
+fn add<'a>(
     alloc: Global,
     command: ClapCommand<'a>,
-    name: &'a str,
-    required: bool,
+    argument: Argument,
 ) -> Result<ClapCommand<'a>, AllocError>
-    ensures { IfOk result (λ c. app_of c ≡ with_rule (app_of command.entry) (argument name.entry.now required)) }
+    ensures { IfOk result (λ c. app_of c ≡ with_rule (app_of command.entry) (rule_for argument)) }
 {
-    let argument = Arg::new(alloc, name)
-        .required(required)
-        .action(ArgAction::Set);
-    command.arg(argument)
+    command.arg(made_of(alloc, argument))
 }
 
-/// The command with names, one or several.
-fn add_names<'a>(
+/// What `clap` is given for a command, of its word.
+pub fn command_for<'a>(
     alloc: Global,
-    command: ClapCommand<'a>,
-    required: bool,
+    command: Command,
+    word: &'a str,
 ) -> Result<ClapCommand<'a>, AllocError>
-    ensures { IfOk result (λ c. app_of c ≡ with_rule (app_of command.entry) (many_argument (codes "NAME") required)) }
+    requires { word.now ≡ word_of command }
+    ensures { IfOk result (λ c. app_of c ≡ app_for command) }
 {
-    let names = Arg::new(alloc, "NAME")
-        .required(required)
-        .action(ArgAction::Append);
-    command.arg(names)
-}
-
-/// The command with a flag more.
-fn add_flag<'a>(
-    alloc: Global,
-    command: ClapCommand<'a>,
-    name: &'a str,
-) -> Result<ClapCommand<'a>, AllocError>
-    ensures { IfOk result (λ c. app_of c ≡ with_rule (app_of command.entry) (flag name.entry.now)) }
-{
-    let flag = Arg::new(alloc, name).long(name).action(ArgAction::SetTrue);
-    command.arg(flag)
-}
-
-/// The command with an option more, which stands before its word.
-fn add_option<'a>(
-    alloc: Global,
-    command: ClapCommand<'a>,
-    name: &'a str,
-) -> Result<ClapCommand<'a>, AllocError>
-    ensures { IfOk result (λ c. app_of c ≡ with_rule (app_of command.entry) (option name.entry.now)) }
-{
-    let option = Arg::new(alloc, name).long(name).action(ArgAction::Set);
-    command.arg(option)
-}
-
-pub fn range_command<'a>(alloc: Global, word: &'a str) -> Result<ClapCommand<'a>, AllocError>
-    ensures { IfOk result (λ c. app_of c ≡ range_app word.entry.now) }
-{
-    let command = ClapCommand::new(alloc, word);
-    let command = add_argument(alloc, command, "LEDGER", true)?;
-    let command = add_argument(alloc, command, "FROM", false)?;
-    add_argument(alloc, command, "TO", false)
-}
-
-pub fn windows_command<'a>(alloc: Global, word: &'a str) -> Result<ClapCommand<'a>, AllocError>
-    ensures { IfOk result (λ c. app_of c ≡ windows_app word.entry.now) }
-{
-    let command = ClapCommand::new(alloc, word);
-    let command = add_argument(alloc, command, "LEDGER", true)?;
-    let command = add_flag(alloc, command, "strict")?;
-    let command = add_flag(alloc, command, "sparing")?;
-    let command = add_flag(alloc, command, "all")?;
-    add_flag(alloc, command, "csv")
-}
-
-pub fn holds_command<'a>(alloc: Global, word: &'a str) -> Result<ClapCommand<'a>, AllocError>
-    ensures { IfOk result (λ c. app_of c ≡ holds_app word.entry.now) }
-{
-    let command = ClapCommand::new(alloc, word);
-    let command = add_argument(alloc, command, "LEDGER", true)?;
-    add_argument(alloc, command, "FILE", false)
-}
-
-pub fn file_command<'a>(alloc: Global, word: &'a str) -> Result<ClapCommand<'a>, AllocError>
-    ensures { IfOk result (λ c. app_of c ≡ file_app word.entry.now) }
-{
-    let command = ClapCommand::new(alloc, word);
-    add_argument(alloc, command, "FILE", true)
-}
-
-pub fn telling_command<'a>(alloc: Global, word: &'a str) -> Result<ClapCommand<'a>, AllocError>
-    ensures { IfOk result (λ c. app_of c ≡ telling_app word.entry.now) }
-{
-    let command = ClapCommand::new(alloc, word);
-    let command = add_argument(alloc, command, "FILE", true)?;
-    add_flag(alloc, command, "csv")
-}
-
-pub fn chain_command<'a>(alloc: Global, word: &'a str) -> Result<ClapCommand<'a>, AllocError>
-    ensures { IfOk result (λ c. app_of c ≡ chain_app word.entry.now) }
-{
-    let command = ClapCommand::new(alloc, word);
-    let command = add_argument(alloc, command, "FILE", true)?;
-    let command = add_names(alloc, command, true)?;
-    add_option(alloc, command, "ledger")
-}
-
-pub fn change_command<'a>(alloc: Global, word: &'a str) -> Result<ClapCommand<'a>, AllocError>
-    ensures { IfOk result (λ c. app_of c ≡ change_app word.entry.now) }
-{
-    let command = ClapCommand::new(alloc, word);
-    let command = add_argument(alloc, command, "OLD", true)?;
-    let command = add_argument(alloc, command, "NEW", true)?;
-    let command = add_names(alloc, command, false)?;
-    add_flag(alloc, command, "csv")
-}
-
-pub fn ticks_command<'a>(alloc: Global, word: &'a str) -> Result<ClapCommand<'a>, AllocError>
-    ensures { IfOk result (λ c. app_of c ≡ ticks_app word.entry.now) }
-{
-    let command = ClapCommand::new(alloc, word);
-    let command = add_argument(alloc, command, "FILE", true)?;
-    add_argument(alloc, command, "TICKS", true)
-}
-
-pub fn check_command<'a>(alloc: Global, word: &'a str) -> Result<ClapCommand<'a>, AllocError>
-    ensures { IfOk result (λ c. app_of c ≡ check_app word.entry.now) }
-{
-    let command = ClapCommand::new(alloc, word);
-    let command = add_argument(alloc, command, "FILE", true)?;
-    let command = add_argument(alloc, command, "NEEDS", true)?;
-    let command = add_argument(alloc, command, "LEDGER", false)?;
-    let command = add_flag(alloc, command, "csv")?;
-    add_flag(alloc, command, "junit")
-}
-
-pub fn replay_command<'a>(alloc: Global, word: &'a str) -> Result<ClapCommand<'a>, AllocError>
-    ensures { IfOk result (λ c. app_of c ≡ replay_app word.entry.now) }
-{
-    let command = ClapCommand::new(alloc, word);
-    let command = add_argument(alloc, command, "PROFILE", true)?;
-    let command = add_argument(alloc, command, "NAME", true)?;
-    add_argument(alloc, command, "FILE", true)
+    let arguments = arguments_of(command);
+    let mut made = ClapCommand::new(alloc, word);
+    for argument in arguments {
+        made = add(alloc, made, *argument)?;
+    }
+    Ok(made)
 }

@@ -1,7 +1,5 @@
 //! What the words ask for.
 ghost use Rattle.std.specs.Prelude.{◌≡◌, IfOk, IfSome, drop, map, string_bytes};
-ghost use Rattle.dk_show_request.specs.Clap.{app_for, given_by};
-ghost use Rattle.dk_show_request.specs.Commands.{word_of};
 ghost use Rattle.dk_show_request.specs.Meaning.{HasFewNames, asked, asked_by, meaning};
 ghost use Rattle.dk_show_request.specs.Words.{word_at};
 
@@ -9,11 +7,7 @@ use crate::arguments::fits;
 use crate::asked::asked;
 use crate::commands::{Command, Drawing, Telling};
 use crate::forms::form_of;
-use crate::given::Given;
-use crate::reading::{
-    read_chain, read_change, read_check, read_file, read_holds, read_range, read_replay,
-    read_telling, read_ticks, read_windows,
-};
+use crate::reading::read_words;
 use dk_config::{NoMemory, Text};
 use std::alloc::Global;
 use std::marker::Model;
@@ -142,30 +136,6 @@ pub enum Request {
     Check(CheckRequest),
     /// The source of a program that takes the times of a profile.
     Replay(ReplayRequest),
-}
-
-/// What the words from the command word on give.
-fn read_words<'a>(
-    alloc: Global,
-    command: Command,
-    word: &'a str,
-    words: &'a [String],
-) -> Result<Option<Given<'a>>, NoMemory>
-    requires { word.now ≡ word_of command }
-    ensures { IfOk result (λ o. o ≡ given_by (app_for command) (map string_bytes words.entry.now)) }
-{
-    match command {
-        Command::Picture | Command::Draw(_) => read_range(alloc, word, words),
-        Command::Windows => read_windows(alloc, word, words),
-        Command::Holds => read_holds(alloc, word, words),
-        Command::Faults => read_file(alloc, word, words),
-        Command::Tell(_) => read_telling(alloc, word, words),
-        Command::Chain => read_chain(alloc, word, words),
-        Command::Impact => read_change(alloc, word, words),
-        Command::Repeats => read_ticks(alloc, word, words),
-        Command::Check => read_check(alloc, word, words),
-        Command::Replay => read_replay(alloc, word, words),
-    }
 }
 
 /// What a command is asked by the words from its own on.

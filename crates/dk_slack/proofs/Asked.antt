@@ -1,17 +1,5 @@
 -- What a look for a thread's wish finds in a table that is the recount of a past.
-use Rattle.std.proofs.Common.{◌≡◌, ◌≢◌, ℕ, zero, suc, ◌-◌, ◌*◌, ◌<◌, ◌⊎◌, Bool, false, List, [], ◌∷◌, map, length, get_or, refl, sym, ap, ◌∙◌, inl, inr, arith}
-use Rattle.std.specs.Prelude.{nat_lt, find, Contains, Option, Some, None}
-use Rattle.std.specs.Option.{option_map_or}
-use Rattle.std.proofs.lemmas.Bool.Decides.{eqb_tells, nat_tests}
-use Rattle.dk_config.specs.Configuration.{Configuration}
-use Rattle.dk_config.specs.Sums.{first_of}
-use Rattle.dk_trace.specs.declared.ThreadId.{ThreadId}
-use Rattle.dk_trace.specs.declared.Entry.{Entry}
-use Rattle.dk_trace.specs.Threads.{Thread}
-use Rattle.dk_trace.specs.Slack.{request, want as past_want, is_entering as is_past_entering}
-use Rattle.dk_slack.specs.Slack.{Slack}
-use Rattle.dk_slack.specs.Wishes.{Wish, wishes_at, is_of, wish_of, want, is_entering}
-use Rattle.dk_slack.specs.Recount.{IsRecount, HaveOwnNodes, asking, counted_wish}
+use Rattle.dk_slack.proofs.Names.{◌≡◌, ◌≢◌, ℕ, zero, suc, ◌-◌, ◌*◌, ◌<◌, ◌⊎◌, Bool, false, List, [], ◌∷◌, map, length, get_or, refl, sym, ap, ◌∙◌, inl, inr, arith, nat_lt, find, Contains, Option, Some, None, option_map_or, eqb_tells, nat_tests, Configuration, first_of, ThreadId, Entry, Thread, request, past_want, is_past_entering, Slack, Wish, wishes_at, is_of, wish_of, want, is_entering, IsRecount, HaveOwnNodes, asking, counted_wish}
 
 -- a look through all levels
 module _ (p : Wish → Bool) (w : Wish) where

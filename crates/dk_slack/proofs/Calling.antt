@@ -1,30 +1,10 @@
 -- The wishes once a thread has asked for slack at the end of a tick.
-use Rattle.std.proofs.Common.{◌≡◌, ◌≢◌, ℕ, zero, suc, ◌+◌, ◌-◌, ◌*◌, ◌<◌, ◌≤◌, ◌⊎◌, Bool, true, false, not, ◌&&◌, ◌||◌, cond, eqb, List, [], ◌∷◌, ◌++◌, map, take, length, get_or, refl, sym, ap, subst, ◌∙◌, inl, inr, arith, Contains, get_or-set_same, get_or-set_other}
-use Rattle.std.specs.Prelude.{nat_le, nat_lt, filter, Some, None}
-use Rattle.std.specs.Option.{option_map_or}
-use Rattle.std.specs.List.{list_any}
-use Rattle.std.proofs.lemmas.Bool.{eq-eqb, eqb-true, not-true}
-use Rattle.std.proofs.lemmas.Bool.Decides.{eqb_tells}
-use Rattle.std.proofs.lemmas.List.{get_or-map, length-map, map-append}
-use Rattle.std.proofs.Math.Bool.{and-false}
-use Rattle.dk_config.specs.Configuration.{Configuration}
-use Rattle.dk_config.specs.Windows.{period, window_start}
-use Rattle.dk_trace.specs.declared.ThreadId.{ThreadId}
-use Rattle.dk_trace.specs.declared.Label.{Label}
-use Rattle.dk_trace.specs.declared.Event.{Event}
-use Rattle.dk_trace.specs.declared.Entry.{Entry}
-use Rattle.dk_trace.specs.Entries.{is_of, is_same, is_slack_of, is_wait, does, thread_of, window}
-use Rattle.dk_trace.specs.Threads.{Thread, threads}
-use Rattle.dk_trace.specs.Jobs.{is_closed}
-use Rattle.dk_trace.specs.Slack.{Request, aged, no_request, last_request, request, want as past_want}
-use Rattle.dk_slack.specs.Slack.{Slack}
-use Rattle.dk_slack.specs.Wishes.{Wish, wishes_at, is_of as is_wish_of, dropped, asked}
-use Rattle.dk_slack.specs.Recount.{IsRecount, HaveOwnNodes, AreCounted, AreOldestFirst, asking, counted_wish}
+use Rattle.dk_slack.proofs.Names.{◌≡◌, ◌≢◌, ℕ, zero, suc, ◌+◌, ◌-◌, ◌*◌, ◌<◌, ◌≤◌, ◌⊎◌, Bool, true, false, not, ◌&&◌, ◌||◌, cond, eqb, List, [], ◌∷◌, ◌++◌, map, take, length, get_or, refl, sym, ap, subst, ◌∙◌, inl, inr, arith, get_or-set_same, get_or-set_other, nat_le, nat_lt, filter, Some, None, option_map_or, list_any, eq-eqb, eqb-true, not-true, eqb_tells, get_or-map, length-map, map-append, and-false, Configuration, period, window_start, ThreadId, Label, Event, Entry, is_same, is_slack_of, is_wait, does, thread_of, window, Thread, threads, is_closed, Request, aged, no_request, last_request, request, past_want, Slack, Wish, wishes_at, is_wish_of, dropped, asked, IsRecount, HaveOwnNodes, AreCounted, AreOldestFirst, asking, counted_wish, same-id, same-self, nat_tests}
+use Rattle.std.proofs.Common.{Contains}
+use Rattle.dk_trace.specs.Entries.{is_of}
 use Rattle.dk_slack.proofs.Asked.{later}
 use Rattle.dk_slack.proofs.Ticks.{silent, request-aged, threads-same}
-use Rattle.dk_trace.proofs.Same.{same-id, same-self}
 use Rattle.dk_slack.proofs.Spending.{asking-is, is-asking, from-filter, to-filter}
-use Rattle.std.proofs.lemmas.Bool.Decides.{nat_tests}
 
 module _ (label : Label) (amount : ℕ) where
   abbrev pub call : Entry

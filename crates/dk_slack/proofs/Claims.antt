@@ -1,19 +1,5 @@
 -- The unclaimed ticks of each level once one more tick is past.
-use Rattle.std.proofs.Common.{◌≡◌, ℕ, zero, suc, ◌+◌, ◌-◌, ◌<◌, ◌≤◌, Bool, false, not, cond, List, [], ◌∷◌, ◌++◌, map, take, drop, length, get_or, refl, sym, ap, ◌∙◌, arith}
-use Rattle.std.specs.Prelude.{nat_le, count_by, Contains, Option, Some}
-use Rattle.std.specs.Option.{option_map_or}
-use Rattle.std.proofs.lemmas.Bool.Decides.{nat_tests}
-use Rattle.std.proofs.lemmas.List.Sums.{sum_by-cons}
-use Rattle.dk_config.specs.Configuration.{Configuration}
-use Rattle.dk_config.specs.Sums.{numbers, below}
-use Rattle.dk_config.specs.Windows.{window_start}
-use Rattle.dk_trace.specs.declared.ThreadId.{ThreadId}
-use Rattle.dk_trace.specs.declared.Entry.{Entry}
-use Rattle.dk_trace.specs.Entries.{payer}
-use Rattle.dk_trace.specs.Threads.{Thread, threads}
-use Rattle.dk_trace.specs.Slack.{level_of, is_claimed_up_to, unclaimed}
-use Rattle.dk_slack.specs.Unclaimed.{counted}
-use Rattle.dk_slack.specs.Recount.{claiming_level, KeepsLevels, unclaimed_of}
+use Rattle.dk_slack.proofs.Names.{◌≡◌, ℕ, zero, suc, ◌+◌, ◌-◌, ◌<◌, ◌≤◌, Bool, false, not, cond, List, [], ◌∷◌, ◌++◌, map, take, drop, length, get_or, refl, sym, ap, ◌∙◌, arith, nat_le, count_by, Contains, Option, Some, option_map_or, nat_tests, sum_by-cons, Configuration, numbers, below, window_start, ThreadId, Entry, payer, Thread, threads, level_of, is_claimed_up_to, unclaimed, counted, claiming_level, KeepsLevels, unclaimed_of}
 
 all_raised : (f g : ℕ → ℕ) (low n : ℕ) → ((j : ℕ) → low ≤ j → g j ≡ f j + 1) → map (λ m. m + 1) (map f (numbers low n)) ≡ map g (numbers low n)
 all_raised f g low zero more = refl

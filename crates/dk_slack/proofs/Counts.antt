@@ -1,11 +1,5 @@
 -- The first level that has used its spare up.
-use Rattle.std.proofs.Common.{◌≡◌, ℕ, suc, ◌+◌, ◌-◌, ◌<◌, ◌≤◌, inl, inr, Bool, true, false, cond, ltb, List, length, refl, sym, arith, add-one}
-use Rattle.std.specs.Prelude.{slice_index}
-use Rattle.std.specs.Option.{option_map_or}
-use Rattle.std.proofs.lemmas.Bool.{cases_Bool, le-ltb, lt-ltb, ltb-true, ltb-false}
-use Rattle.dk_config.specs.Sums.{numbers, first_of}
-use Rattle.dk_trace.specs.declared.Source.{Source}
-use Rattle.dk_slack.specs.Unclaimed.{overdrawn_at}
+use Rattle.dk_slack.proofs.Names.{◌≡◌, ℕ, suc, ◌+◌, ◌-◌, ◌<◌, ◌≤◌, inl, inr, Bool, true, false, cond, ltb, List, length, refl, sym, arith, add-one, slice_index, option_map_or, cases_Bool, le-ltb, lt-ltb, ltb-true, ltb-false, numbers, first_of, Source, overdrawn_at}
 
 -- where slack comes from by the levels from one on
 abbrev pub source_from : List ℕ → List ℕ → ℕ → Source

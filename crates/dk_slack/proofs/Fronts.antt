@@ -1,12 +1,7 @@
 -- Who stands first in a queue is whose wish is the oldest.
-use Rattle.std.proofs.Common.{◌≡◌, ◌∙◌, ℕ, List, [], Option, Some, None, ap, map, refl, slice_get, sym}
+use Rattle.dk_slack.proofs.Names.{◌≡◌, ◌∙◌, ℕ, List, [], ap, map, refl, slice_get, sym, slice_get-map, option_map, queue_at, wish_at, wishes_in, Wish, first_node, Wanted}
+use Rattle.std.proofs.Common.{Option, Some, None}
 use Rattle.std.proofs.Math.ListN.{get_or-map}
-use Rattle.std.proofs.lemmas.Option.{slice_get-map}
-use Rattle.std.specs.Option.{option_map}
-use Rattle.dk_rail.specs.Queues.{queue_at}
-use Rattle.dk_slack.specs.Kept.{wish_at, wishes_in}
-use Rattle.dk_slack.specs.Wishes.{Wish, first_node}
-use Rattle.dk_slack.specs.declared.wanted.Wanted.{Wanted}
 
 module _ (rows : List Wanted) (lists : List (List ℕ)) (level : ℕ) where
   pub front : slice_get (queue_at lists level) 0 ≡ first_node level (wishes_in rows lists)

@@ -1,11 +1,6 @@
 -- For how long slack comes from where it does now.
-use Rattle.std.proofs.Common.{◌≡◌, ◌+◌, ◌-◌, ◌<◌, ◌≤◌, ◌∙◌, ℕ, List, [], ◌∷◌, length, get_or, refl, ap, sym, arith}
-use Rattle.std.specs.Prelude.{None, Option, Some}
-use Rattle.std.proofs.lemmas.List.{get_or-map}
-use Rattle.dk_trace.specs.declared.Source.{Source}
+use Rattle.dk_slack.proofs.Names.{◌≡◌, ◌+◌, ◌-◌, ◌<◌, ◌≤◌, ◌∙◌, ℕ, List, [], ◌∷◌, length, get_or, refl, ap, sym, arith, None, Option, Some, get_or-map, Source, counted_for, source, Lasts}
 use Rattle.dk_slack.specs.declared.unclaimed.Lasting.{Lasting}
-use Rattle.dk_slack.specs.Unclaimed.{counted_for, source}
-use Rattle.dk_slack.specs.Lasting.{Lasts}
 use Rattle.dk_slack.proofs.Counts.{source_from, source-hit, source-miss}
 use Rattle.dk_slack.proofs.Running.{all-counted}
 

@@ -1,12 +1,7 @@
 -- The wishes after so many ticks of slack of a node, after which something of its own is left.
-use Rattle.std.proofs.Common.{◌≡◌, ◌∙◌, ◌-◌, ◌<◌, ℕ, suc, false, List, [], ◌∷◌, map, Option, Some, None, option_map, inl, inr, refl, ap, arith, slice_get, get_or}
-use Rattle.std.specs.Prelude.{◌==◌, if◌then◌else◌, find, nat_lt}
-use Rattle.std.specs.Option.{option_map_or, option_or}
+use Rattle.dk_slack.proofs.Names.{◌≡◌, ◌∙◌, ◌-◌, ◌<◌, ℕ, suc, false, List, [], ◌∷◌, map, inl, inr, refl, ap, arith, slice_get, get_or, ◌==◌, if◌then◌else◌, find, nat_lt, option_map_or, option_or, cases_Bool, nat_tests, slice_get-map, Wish, dropped, first_node, is_entering, is_of, lowered, lowered_for, spent, spent_for, want, wish_of}
+use Rattle.std.proofs.Common.{Option, Some, None, option_map}
 use Rattle.std.proofs.Math.ListN.{get_or-map}
-use Rattle.std.proofs.lemmas.Bool.{cases_Bool}
-use Rattle.std.proofs.lemmas.Bool.Decides.{nat_tests}
-use Rattle.std.proofs.lemmas.Option.{slice_get-map}
-use Rattle.dk_slack.specs.Wishes.{Wish, dropped, first_node, is_entering, is_of, lowered, lowered_for, spent, spent_for, want, wish_of}
 
 module _ (node n : ℕ) where
   -- its wish, so much lower

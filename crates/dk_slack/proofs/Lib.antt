@@ -1,3 +1,4 @@
+pub mod Names
 pub mod Queued
 pub mod Wished
 pub mod Fronts

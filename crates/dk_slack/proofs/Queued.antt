@@ -1,15 +1,7 @@
 -- Which nodes are queued after a change of the queues and of a row.
-use Rattle.std.proofs.Common.{◌≡◌, ◌≢◌, ℕ, zero, suc, ◌+◌, ◌<◌, Bool, true, false, cond, not, ◌&&◌, ◌||◌, eqb, List, [], ◌∷◌, length, set, refl, sym, ap, ◌∙◌, inl, inr, arith, get_or-set_same, get_or-set_other}
-use Rattle.std.specs.Prelude.{nat_lt, Some}
-use Rattle.std.specs.Option.{is_some}
-use Rattle.std.specs.List.{list_any, position_from}
-use Rattle.std.proofs.lemmas.Bool.{eq-eqb, lt-ltb, eqb-true}
-use Rattle.std.proofs.lemmas.Bool.Decides.{eqb_tells}
+use Rattle.dk_slack.proofs.Names.{◌≡◌, ◌≢◌, ℕ, zero, suc, ◌+◌, ◌<◌, Bool, true, false, cond, not, ◌&&◌, ◌||◌, eqb, List, [], ◌∷◌, length, set, refl, sym, ap, ◌∙◌, inl, inr, arith, get_or-set_same, get_or-set_other, nat_lt, Some, is_some, list_any, position_from, eq-eqb, lt-ltb, eqb-true, eqb_tells, holds, holder, pushed, without, unlinked, Wanted, row_of, is_queued, AreTied}
 use Rattle.std.proofs.lemmas.List.Folds.{list_any-append}
 use Rattle.std.proofs.lemmas.Map.Views.{any-filter_same}
-use Rattle.dk_rail.specs.Queues.{holds, holder, pushed, without, unlinked}
-use Rattle.dk_slack.specs.declared.wanted.Wanted.{Wanted}
-use Rattle.dk_slack.specs.Kept.{row_of, is_queued, AreTied}
 
 -- a node has a queue exactly where it is queued
 some_passes : (p : List ℕ → Bool) (i : ℕ) (lists : List (List ℕ)) → is_some (position_from p i lists) ≡ list_any p lists

@@ -1,20 +1,8 @@
 -- A table that is the recount of a past: at the start, its source, and its fronts.
-use Rattle.std.proofs.Common.{◌≡◌, ℕ, zero, suc, ◌+◌, ◌-◌, ◌<◌, ◌≤◌, ◌&&◌, List, [], ◌∷◌, map, length, get_or, replicate, refl, sym, ap, subst, ◌∙◌, arith}
-use Rattle.std.specs.Prelude.{nat_lt, filter, slice_get, ◌↔◌, Contains, MatchOption, Option, ◌==◌}
-use Rattle.std.specs.Option.{option_map}
-use Rattle.std.proofs.lemmas.List.{length-map, length-replicate, get_or_default}
-use Rattle.dk_config.specs.Configuration.{Configuration}
-use Rattle.dk_config.specs.Sums.{numbers, below, first_of}
+use Rattle.dk_slack.proofs.Names.{◌≡◌, ℕ, zero, suc, ◌+◌, ◌-◌, ◌<◌, ◌≤◌, ◌&&◌, List, [], ◌∷◌, map, length, get_or, replicate, refl, sym, ap, subst, ◌∙◌, arith, nat_lt, filter, ◌↔◌, Contains, MatchOption, Option, ◌==◌, option_map, length-map, length-replicate, get_or_default, Configuration, numbers, below, first_of, ThreadId, Entry, Thread, threads, last_request, request, unclaimed, past_source, at_start, Wish, wishes_at, source, IsRecount, IsOldestNode, AreCounted, AreOldestFirst, asking, counted_wish, spares_of, nat_tests}
+use Rattle.std.specs.Prelude.{slice_get}
 use Rattle.dk_config.proofs.Counting.{length-numbers, get_or-map-numbers}
-use Rattle.dk_trace.specs.declared.ThreadId.{ThreadId}
-use Rattle.dk_trace.specs.declared.Entry.{Entry}
-use Rattle.dk_trace.specs.Threads.{Thread, threads}
-use Rattle.dk_trace.specs.Slack.{last_request, request, want, unclaimed, source as past_source}
-use Rattle.dk_slack.specs.Slack.{at_start}
-use Rattle.dk_slack.specs.Wishes.{Wish, wishes_at}
-use Rattle.dk_slack.specs.Unclaimed.{source}
-use Rattle.dk_slack.specs.Recount.{IsRecount, IsOldestNode, AreCounted, AreOldestFirst, asking, counted_wish, spares_of}
-use Rattle.std.proofs.lemmas.Bool.Decides.{nat_tests}
+use Rattle.dk_trace.specs.Slack.{want}
 
 pub spent_nothing : (x : ThreadId) (es : List Entry) → es ≡ [] → (last_request x es).amount - (last_request x es).spent ≡ 0
 spent_nothing x es none = grind (arith, nat_tests)

@@ -1,13 +1,7 @@
 -- Counters that run on, and what they have run since the marks.
-use Rattle.std.proofs.Common.{◌≡◌, ◌<◌, ◌≤◌, ◌+◌, ◌%◌, ◌^◌, ◌∙◌, ℕ, zero, suc, List, [], ◌∷◌, ◌++◌, All, length, get_or, map, set, take, drop, replicate, refl, ap, subst, arith}
-use Rattle.std.specs.Prelude.{Option, Some, None, sum}
-use Rattle.std.specs.List.{refill}
+use Rattle.dk_slack.proofs.Names.{◌≡◌, ◌<◌, ◌≤◌, ◌+◌, ◌%◌, ◌^◌, ◌∙◌, ℕ, zero, suc, List, [], ◌∷◌, ◌++◌, All, length, get_or, map, set, take, drop, replicate, refl, ap, subst, arith, Option, Some, None, sum, refill, take_all, sum_by-cons, sum_by-set, raised, counted_for, since, run_of_slower, unclaimed_by}
 use Rattle.std.proofs.Math.ListN.{length-set}
 use Rattle.dk_config.proofs.Refills.{refill-whole}
-use Rattle.std.proofs.lemmas.List.{take_all}
-use Rattle.std.proofs.lemmas.List.Sums.{sum_by-cons, sum_by-set}
-use Rattle.dk_slack.specs.Unclaimed.{raised, counted_for}
-use Rattle.dk_slack.specs.Counters.{since, run_of_slower, unclaimed_by}
 
 -- the counter runs on by so many ticks
 pub since-more : (k mark counter next : ℕ) → next % 2 ^ 32 ≡ (counter + k) % 2 ^ 32 → since mark counter + k < 2 ^ 32
@@ -101,8 +95,7 @@ pub marked : (nobodys level v : ℕ) (counters marks : List ℕ) → v ≡ run_o
 marked nobodys level v [] marks is inside = absurd (omega arith)
 marked nobodys zero v (n ∷ counters) [] is inside = refl
 marked nobodys (suc level) v (n ∷ counters) [] is inside = refl
-marked nobodys zero v (n ∷ counters) (mark ∷ marks) is inside =
-    rw (since-now v (nobodys + sum counters) (omega arith)) refl
+marked nobodys zero v (n ∷ counters) (mark ∷ marks) is inside = rw (since-now v (nobodys + sum counters) (omega arith)) refl
 marked nobodys (suc level) v (n ∷ counters) (mark ∷ marks) is inside =
     ap (λ us. since mark (nobodys + sum counters) ∷ us) (marked nobodys level v counters marks is (omega arith))
 

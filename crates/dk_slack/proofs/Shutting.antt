@@ -1,18 +1,9 @@
 -- The wishes once the threads that an event shuts have none.
-use Rattle.std.proofs.Common.{◌≡◌, ◌<◌, ◌-◌, ◌*◌, ◌∙◌, inl, inr, ◌&&◌, not, Bool, true, false, eqb, ℕ, zero, suc, List, [], ◌∷◌, length, map, refl, ap, sym, subst, arith}
-use Rattle.std.specs.Prelude.{filter, Contains, ◌↔◌, nat_lt}
-use Rattle.std.proofs.lemmas.Bool.{cases_Bool, and_parts, not-true}
-use Rattle.dk_config.specs.Configuration.{Configuration}
-use Rattle.dk_trace.specs.declared.ThreadId.{ThreadId}
-use Rattle.dk_trace.specs.declared.Entry.{Entry}
+use Rattle.dk_slack.proofs.Names.{◌≡◌, ◌<◌, ◌-◌, ◌*◌, ◌∙◌, inl, inr, ◌&&◌, not, Bool, true, false, eqb, ℕ, zero, suc, List, [], ◌∷◌, length, map, refl, ap, sym, subst, arith, filter, Contains, ◌↔◌, nat_lt, cases_Bool, and_parts, not-true, Configuration, ThreadId, Entry, Thread, threads, after_entry, Request, request, Wish, is_of, wishes_at, dropped, AreCounted, AreOldestFirst, ShutsAskers, asking, counted_wish, nat_tests}
 use Rattle.dk_trace.specs.Members.{Has}
-use Rattle.dk_trace.specs.Threads.{Thread, threads, after_entry}
 use Rattle.dk_trace.specs.Audit.{without_event}
-use Rattle.dk_trace.specs.Slack.{Request, request, want}
+use Rattle.dk_trace.specs.Slack.{want}
 use Rattle.dk_trace.proofs.Members.{has-map, filter-has, map-has, contains-has, has-contains, has-filter}
-use Rattle.dk_slack.specs.Wishes.{Wish, is_of, wishes_at, dropped}
-use Rattle.dk_slack.specs.Recount.{AreCounted, AreOldestFirst, ShutsAskers, asking, counted_wish}
-use Rattle.std.proofs.lemmas.Bool.Decides.{nat_tests}
 
 -- Members of lists.
 

@@ -1,25 +1,9 @@
 -- The wishes once a tick of slack is past in which nothing happened.
-use Rattle.std.proofs.Common.{◌≡◌, ◌≢◌, ℕ, zero, suc, ◌+◌, ◌-◌, ◌*◌, ◌<◌, Bool, true, false, not, ◌&&◌, cond, eqb, List, [], ◌∷◌, map, length, get_or, refl, sym, ap, subst, ◌∙◌, inl, inr, arith, Contains}
-use Rattle.std.specs.Prelude.{nat_lt, ◌==◌, ◌↔◌, filter, None}
-use Rattle.std.proofs.lemmas.Bool.{lt-ltb, and_parts}
-use Rattle.std.proofs.lemmas.Bool.Decides.{eqb_tells}
-use Rattle.std.proofs.lemmas.List.{get_or-map}
-use Rattle.dk_config.specs.Configuration.{Configuration}
-use Rattle.dk_trace.specs.declared.ThreadId.{ThreadId}
-use Rattle.dk_trace.specs.declared.Source.{Source}
+use Rattle.dk_slack.proofs.Names.{◌≡◌, ◌≢◌, ℕ, zero, suc, ◌+◌, ◌-◌, ◌*◌, ◌<◌, Bool, true, false, not, ◌&&◌, cond, eqb, List, [], ◌∷◌, map, length, get_or, refl, sym, ap, subst, ◌∙◌, inl, inr, arith, nat_lt, ◌==◌, ◌↔◌, filter, None, lt-ltb, and_parts, eqb_tells, get_or-map, Configuration, ThreadId, Source, Label, Entry, is_same, Thread, threads, same-id, same-self, Request, aged, no_request, request, past_want, Slack, Wish, wishes_at, is_of, want, lowered, spent, IsRecount, HaveOwnNodes, AreCounted, AreOldestFirst, asking, counted_wish, nat_tests}
+use Rattle.std.proofs.Common.{Contains}
 use Rattle.dk_trace.specs.declared.Work.{Work}
-use Rattle.dk_trace.specs.declared.Label.{Label}
-use Rattle.dk_trace.specs.declared.Entry.{Entry}
-use Rattle.dk_trace.specs.Entries.{is_same}
-use Rattle.dk_trace.specs.Threads.{Thread, threads}
-use Rattle.dk_trace.proofs.Same.{same-id, same-self}
-use Rattle.dk_trace.specs.Slack.{Request, aged, no_request, request, want as past_want}
-use Rattle.dk_slack.specs.Slack.{Slack}
-use Rattle.dk_slack.specs.Wishes.{Wish, wishes_at, is_of, want, lowered, spent}
-use Rattle.dk_slack.specs.Recount.{IsRecount, HaveOwnNodes, AreCounted, AreOldestFirst, asking, counted_wish}
 use Rattle.dk_slack.proofs.Asked.{later, want-counted}
 use Rattle.dk_slack.proofs.Ticks.{filter-passes, some-of, request-aged, threads-same}
-use Rattle.std.proofs.lemmas.Bool.Decides.{nat_tests}
 
 -- an item of a filtered list
 pub from-filter : (p : Thread → Bool) (xs : List Thread) (y : Thread) → Contains (filter p xs) y → Contains xs y × (p y ≡ true)

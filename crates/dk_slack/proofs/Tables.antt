@@ -1,14 +1,5 @@
 -- The fields of a table, and what contracts see of it, after each change.
-use Rattle.std.proofs.Common.{◌≡◌, ℕ, zero, suc, ◌-◌, ◌*◌, ◌<◌, ◌≤◌, true, false, ◌&&◌, List, [], ◌∷◌, map, length, set, replicate, IsSome, IsNone, refl, sym, ap, ◌∙◌, arith, length-set}
-use Rattle.std.specs.Prelude.{nat_lt, None}
-use Rattle.std.proofs.lemmas.Bool.{le-ltb, lt-ltb}
-use Rattle.std.proofs.lemmas.List.{length-map, length-replicate}
-use Rattle.dk_config.specs.declared.TheConstants.{MAX_COST, MAX_LEVELS}
-use Rattle.dk_rail.specs.Queues.{Queues, holder, pushed, unlinked, without}
-use Rattle.dk_slack.specs.declared.wanted.Wanted.{Wanted}
-use Rattle.dk_slack.specs.Wishes.{wish_of, want, is_entering, dropped, put_last, lowered_for}
-use Rattle.dk_slack.specs.Slack.{Slack}
-use Rattle.dk_slack.specs.Kept.{row_of, wish_at, wishes_in, is_queued, IsSound}
+use Rattle.dk_slack.proofs.Names.{◌≡◌, ℕ, zero, suc, ◌-◌, ◌*◌, ◌<◌, ◌≤◌, true, false, ◌&&◌, List, [], ◌∷◌, map, length, set, replicate, IsSome, IsNone, refl, sym, ap, ◌∙◌, arith, length-set, nat_lt, None, le-ltb, lt-ltb, length-map, length-replicate, MAX_COST, MAX_LEVELS, Queues, holder, pushed, unlinked, without, Wanted, wish_of, want, is_entering, dropped, put_last, lowered_for, Slack, row_of, wish_at, wishes_in, is_queued, IsSound}
 use Rattle.dk_slack.proofs.Queued.{holder-queued, tied-removed, tied-put, tied-lowered}
 use Rattle.dk_slack.proofs.Wished.{wishes-removed, wishes-put, wishes-lowered, want-in, no_wish-in, entering-in, free-in, low-in, queued-in}
 

@@ -1,30 +1,11 @@
 -- The wishes of a level at the next tick, and once a tick is past in which nothing happened and nobody had slack.
-use Rattle.std.proofs.Common.{◌≡◌, ℕ, suc, ◌+◌, ◌-◌, ◌*◌, ◌<◌, ◌≤◌, Bool, true, false, ◌&&◌, ◌||◌, cond, List, [], ◌∷◌, map, take, length, refl, sym, ap, subst, ◌∙◌, inl, inr, arith}
-use Rattle.std.specs.Prelude.{nat_le, nat_lt, ◌==◌, filter, flat_map, All, Contains, ◌↔◌, Option, None}
-use Rattle.std.specs.Option.{option_map_or}
-use Rattle.std.specs.List.{list_any}
-use Rattle.std.proofs.lemmas.Bool.{eqb-true, and_parts}
-use Rattle.std.proofs.lemmas.Bool.Decides.{eqb_tells}
-use Rattle.std.proofs.lemmas.List.{append-nil}
+use Rattle.dk_slack.proofs.Names.{◌≡◌, ℕ, suc, ◌+◌, ◌-◌, ◌*◌, ◌<◌, ◌≤◌, Bool, true, false, ◌&&◌, ◌||◌, cond, List, [], ◌∷◌, map, take, length, refl, sym, ap, subst, ◌∙◌, inl, inr, arith, nat_le, nat_lt, ◌==◌, filter, flat_map, Contains, ◌↔◌, Option, None, option_map_or, list_any, eqb-true, and_parts, eqb_tells, append-nil, and-false, Configuration, below, period, window_start, ThreadId, Label, Entry, Event, does, is_wait, is_same, is_slack_of, borrower, window, Thread, after_entry, family, threads, is_closed, Request, aged, no_request, last_request, request, Wish, AreCounted, AreOldestFirst, asking, counted_wish, nat_tests}
+use Rattle.std.specs.Prelude.{All}
 use Rattle.std.proofs.lemmas.List.Concat.{flat_map-cons}
-use Rattle.std.proofs.Math.Bool.{and-false}
-use Rattle.dk_config.specs.Configuration.{Configuration}
-use Rattle.dk_config.specs.Sums.{below}
-use Rattle.dk_config.specs.Windows.{period, window_start}
-use Rattle.dk_trace.specs.declared.ThreadId.{ThreadId}
-use Rattle.dk_trace.specs.declared.Label.{Label}
-use Rattle.dk_trace.specs.declared.Entry.{Entry}
-use Rattle.dk_trace.specs.declared.Event.{Event}
-use Rattle.dk_trace.specs.Entries.{is_of, does, is_wait, is_same, is_slack_of, borrower}
-use Rattle.dk_trace.specs.Entries.{window}
-use Rattle.dk_trace.specs.Threads.{Thread, after_entry, family, threads}
-use Rattle.dk_trace.specs.Jobs.{is_closed}
-use Rattle.dk_trace.specs.Slack.{Request, aged, no_request, last_request, request, want}
-use Rattle.dk_slack.specs.Wishes.{Wish}
+use Rattle.dk_trace.specs.Entries.{is_of}
+use Rattle.dk_trace.specs.Slack.{want}
 use Rattle.dk_slack.proofs.Asked.{later}
 use Rattle.dk_slack.proofs.Recounts.{spent_nothing}
-use Rattle.dk_slack.specs.Recount.{AreCounted, AreOldestFirst, asking, counted_wish}
-use Rattle.std.proofs.lemmas.Bool.Decides.{nat_tests}
 
 map-same : (f g : Thread → Wish) (xs : List Thread) → ((y : Thread) → Contains xs y → f y ≡ g y) → map f xs ≡ map g xs
 map-same f g [] same = refl

@@ -1,14 +1,5 @@
 -- The wishes of the queued nodes, after a change of the queues and of a row, and what a look for one finds.
-use Rattle.std.proofs.Common.{◌≡◌, ℕ, zero, suc, ◌-◌, ◌<◌, Bool, true, false, cond, not, ◌&&◌, ◌||◌, eqb, List, [], ◌∷◌, ◌++◌, map, length, get_or, set, refl, sym, ap, ◌∙◌, inl, inr, arith, get_or-set_same, get_or-set_other}
-use Rattle.std.specs.Prelude.{nat_lt, filter, find, Option, Some, None}
-use Rattle.std.specs.Option.{option_or, option_map_or}
-use Rattle.std.proofs.lemmas.Bool.{lt-ltb, or_parts}
-use Rattle.std.proofs.lemmas.Bool.Decides.{eqb_tells}
-use Rattle.std.proofs.lemmas.List.{map-append, map-set, get_or-map}
-use Rattle.dk_rail.specs.Queues.{queue_at, holds, pushed, without, unlinked}
-use Rattle.dk_slack.specs.declared.wanted.Wanted.{Wanted}
-use Rattle.dk_slack.specs.Wishes.{Wish, is_of, wish_of, want, is_entering, dropped, put_last, lowered_for}
-use Rattle.dk_slack.specs.Kept.{row_of, wish_at, wishes_in, is_queued, AreTied}
+use Rattle.dk_slack.proofs.Names.{◌≡◌, ℕ, zero, suc, ◌-◌, ◌<◌, Bool, true, false, cond, not, ◌&&◌, ◌||◌, eqb, List, [], ◌∷◌, ◌++◌, map, length, get_or, set, refl, sym, ap, ◌∙◌, inl, inr, arith, get_or-set_same, get_or-set_other, nat_lt, filter, find, Option, Some, None, option_or, option_map_or, lt-ltb, or_parts, eqb_tells, map-append, map-set, get_or-map, queue_at, holds, pushed, without, unlinked, Wanted, Wish, is_of, wish_of, want, is_entering, dropped, put_last, lowered_for, row_of, wish_at, wishes_in, is_queued, AreTied}
 use Rattle.dk_slack.proofs.Queued.{asks_low, unlinked-itself}
 
 module _ (rows : List Wanted) (x : ℕ) where

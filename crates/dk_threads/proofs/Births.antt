@@ -1,30 +1,7 @@
 -- How the recount goes on where a child is made.
-use Rattle.std.proofs.Common.{◌≡◌, ◌≢◌, ◌<◌, ◌∙◌, ◌==◌, ◌++◌, ℕ, zero, suc, ◌+◌, Bool, true, false, List, [], ◌∷◌, length, map, set, refl, ap, sym, subst, arith, inl, inr, length-append}
-use Rattle.std.specs.Prelude.{Option, Some, None, if◌then◌else◌, filter_map, slice_get, find}
-use Rattle.std.specs.List.{cons_option}
-use Rattle.std.specs.Option.{option_map_or}
-use Rattle.std.proofs.lemmas.Bool.Decides.{nat_tests}
-use Rattle.std.proofs.lemmas.List.{append-nil, map-append}
-use Rattle.std.proofs.lemmas.List.Elements.{filter_map-append}
+use Rattle.dk_threads.proofs.Names.{◌≡◌, ◌≢◌, ◌<◌, ◌∙◌, ◌==◌, ◌++◌, ℕ, zero, suc, ◌+◌, Bool, true, false, List, [], ◌∷◌, length, map, set, refl, ap, sym, subst, arith, inl, inr, length-append, Some, None, if◌then◌else◌, slice_get, find, option_map_or, nat_tests, append-nil, map-append, filter_map-append, and-false, cases_Bool, Configuration, IsChecked, window_end, ThreadId, Label, Event, Entry, without_event, stops, is_of, is_same, thread_of, Thread, family, after_entry, same-self, ThreadRow, Family, Table, serials_at, changed_at, begun, new_row, free_slot, is_running, stands, next_id, AreFamilies, children_at, find_row, IsRecount, IsCharged, IsBooked, counted_rows, row_at, unplaced, main_id, entry_of, is_row_of, AreChildren}
+use Rattle.std.specs.Prelude.{Option}
 use Rattle.std.proofs.Math.ListN.{length-set}
-use Rattle.std.proofs.Math.Bool.{and-false}
-use Rattle.std.proofs.lemmas.Bool.{cases_Bool}
-use Rattle.dk_config.specs.Configuration.{Configuration}
-use Rattle.dk_config.specs.Checked.{IsChecked}
-use Rattle.dk_config.specs.Windows.{window_end}
-use Rattle.dk_trace.specs.declared.ThreadId.{ThreadId}
-use Rattle.dk_trace.specs.declared.Label.{Label}
-use Rattle.dk_trace.specs.declared.Event.{Event}
-use Rattle.dk_trace.specs.declared.Entry.{Entry}
-use Rattle.dk_trace.specs.Audit.{without_event}
-use Rattle.dk_trace.specs.Entries.{stops, is_of, is_same, thread_of}
-use Rattle.dk_trace.specs.Threads.{Thread, family, after_entry, made_by}
-use Rattle.dk_trace.proofs.Same.{same-self}
-use Rattle.dk_threads.specs.declared.row.ThreadRow.{ThreadRow}
-use Rattle.dk_threads.specs.declared.family.Family.{Family}
-use Rattle.dk_threads.specs.Table.{Table, serials_at, changed_at, begun, new_row, free_slot, is_running, stands, next_id, AreFamilies, children_at, find_row}
-use Rattle.dk_threads.specs.Recount.{IsRecount, IsCharged, IsBooked, counted_rows, row_at, unplaced, main_id, entry_of}
-use Rattle.dk_threads.specs.Rows.{is_row_of, AreChildren}
 use Rattle.dk_threads.proofs.Recounting.{family-same, eq-true, eq-false}
 use Rattle.dk_threads.proofs.Descent.{changed-here}
 
@@ -111,33 +88,18 @@ born c label past table p serial level quota checked known level_known of next i
     let (old, at) = some-at table.families p within in
     let new : Thread = record { id = record { process = p; serial = serial }; level = level; quota = quota; start = start; stop = None } in
     let before : (q : ℕ) → family c q (without_event e ∷ past) ≡ family c q past = λ q. family-same c q (without_event e) past refl in
-    let kept : (q : ℕ) → map (after_entry e tick) (family c q past) ≡ family c q past =
-    λ q. unstopped e tick (family c q past) (λ x. create-stops x label serial level quota) in
-    let here : family c p (e ∷ past) ≡ family c p (without_event e ∷ past) ++ new ∷ [] =
-    ap (λ (xs : List Thread). map (after_entry e tick) (family c p past) ++ xs) (made-here _ (new ∷ []) (of-thread (main_id p) (main_id p) e of ∙ same-main p))
-    ∙ ap (λ (xs : List Thread). xs ++ new ∷ []) (kept p ∙ sym (before p)) in
-    let others : (q : ℕ) → q ≢ p → family c q (e ∷ past) ≡ family c q (without_event e ∷ past) =
-    λ q apart.
-    ap (λ (xs : List Thread). map (after_entry e tick) (family c q past) ++ xs)
-    (made-other _ (made_by c q tick e.event) (of-thread (main_id q) (main_id p) e of ∙ other-main q p apart))
-    ∙ append-nil (map (after_entry e tick) (family c q past)) ∙ kept q ∙ sym (before q) in
+    let kept : (q : ℕ) → map (after_entry e tick) (family c q past) ≡ family c q past = grind (arith, nat_tests, unstopped, create-stops) in
+    let here : family c p (e ∷ past) ≡ family c p (without_event e ∷ past) ++ new ∷ [] = grind (arith, nat_tests, made-here, of-thread, same-main) in
+    let others : (q : ℕ) → q ≢ p → family c q (e ∷ past) ≡ family c q (without_event e ∷ past) = grind (arith, nat_tests, made-other, of-thread, other-main, append-nil) in
     let given : serial ≡ old.serials + 1 = next ∙ ap (λ (o : Option Family). serials_in o + 1) at in
-    let rows_before : map unplaced (old.main ∷ old.children) ≡ counted_rows c tick (without_event e ∷ past) p =
-    sym (ap (λ (o : Option Family). map unplaced (rows_in o)) at) ∙ is.rows p known in
+    let rows_before : map unplaced (old.main ∷ old.children) ≡ counted_rows c tick (without_event e ∷ past) p = grind (arith, nat_tests) in
     let serials_before : old.serials + 1 ≡ length (family c p (without_event e ∷ past)) =
     sym (ap (λ (o : Option Family). serials_in o + 1) at) ∙ is.serials p known in
     let longer : length (family c p (e ∷ past)) ≡ length (family c p (without_event e ∷ past)) + 1 =
     ap length here ∙ length-append (family c p (without_event e ∷ past)) (new ∷ []) in
     let row : ThreadRow = new_row (record { process = p; serial = old.serials + 1 }) level (free_slot old.children) start in
-    let at_tick : row_at c tick new ≡ Some (unplaced row) =
-    new-at c tick p serial level quota (serial == 0) refl (ends-later c level tick checked level_known)
-    ∙ ap (λ (n : ℕ). Some (new_row (record { process = p; serial = n }) level 0 start)) given in
-    let rows_after : map unplaced (old.main ∷ (old.children ++ row ∷ [])) ≡ counted_rows c tick (e ∷ past) p =
-    map-append unplaced (old.main ∷ old.children) (row ∷ [])
-    ∙ ap (λ (rows : List ThreadRow). rows ++ unplaced row ∷ []) rows_before
-    ∙ ap (λ (o : Option ThreadRow). counted_rows c tick (without_event e ∷ past) p ++ cons_option o []) (sym at_tick)
-    ∙ sym (filter_map-append (row_at c tick) (family c p (without_event e ∷ past)) (new ∷ []))
-    ∙ ap (filter_map (row_at c tick)) (sym here) in
+    let at_tick : row_at c tick new ≡ Some (unplaced row) = grind (arith, nat_tests, new-at, ends-later) in
+    let rows_after : map unplaced (old.main ∷ (old.children ++ row ∷ [])) ≡ counted_rows c tick (e ∷ past) p = grind (arith, nat_tests, map-append, filter_map-append) in
     recount-changed c tick (without_event e ∷ past) (e ∷ past) table p (begun p level start) old at others refl (omega arith) rows_after is known
 
 -- a row of another serial isn't that of the name
@@ -167,8 +129,7 @@ begun-found table p level start are is =
     let main = family.main_serial in
     let x : ThreadId = record { process = p; serial = f.serials + 1 } in
     let row : ThreadRow = new_row x level (free_slot f.children) start in
-    let found : find (is_row_of x) (f.main ∷ (f.children ++ row ∷ [])) ≡ Some row =
-    rw (other-row x f.main (omega (arith, main))) (found-last x table.levels 0 f.serials f.children row family.children (omega arith) (same-self x)) in
+    let found : find (is_row_of x) (f.main ∷ (f.children ++ row ∷ [])) ≡ Some row = grind (arith, nat_tests, other-row, found-last, same-self) in
     ap (λ o. find (is_row_of (next_id table p)) (option_map_or (λ (z : Family). z.main ∷ z.children) o [])) (changed-here (begun p level start) p table f r.1)
     ∙ ap (λ s. find (is_row_of (record { process = p; serial = s + 1 })) (f.main ∷ (f.children ++ row ∷ []))) serials
     ∙ found

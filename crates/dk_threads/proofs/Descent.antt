@@ -1,18 +1,7 @@
 -- Where the rows of a changed table come from: each from one of the old table, of the same name and slot.
-use Rattle.std.proofs.Common.{◌≡◌, ℕ, ◌∙◌, Some, ap, refl, None, Option, eqb, false, subst, inr, sym, inl, ◌∷◌, arith, List, []}
-use Rattle.std.proofs.lemmas.Bool.Decides.{nat_tests}
-use Rattle.std.proofs.lemmas.Bool.{cases_Bool}
-use Rattle.std.specs.Prelude.{slice_set, slice_get, filter_map}
-use Rattle.std.specs.Option.{option_map_or}
-use Rattle.std.specs.List.{cons_option}
+use Rattle.dk_threads.proofs.Names.{◌≡◌, ℕ, ◌∙◌, ap, refl, Option, eqb, false, subst, inr, sym, inl, ◌∷◌, arith, List, [], nat_tests, cases_Bool, slice_get, filter_map, cons_option, Has, ThreadId, Clock, rows_of, Table, changed_at, child_stopped, all_stopped, ThreadRow, Family, stopped, stopped_child, is_row_of, stopped_with_main, is_stopped}
+use Rattle.std.proofs.Common.{Some, None}
 use Rattle.dk_config.proofs.Lists.{get-set-same, get-set-other}
-use Rattle.dk_trace.specs.Members.{Has}
-use Rattle.dk_trace.specs.declared.ThreadId.{ThreadId}
-use Rattle.dk_windows.specs.Clock.{Clock}
-use Rattle.dk_threads.specs.Table.{rows_of, Table, changed_at, child_stopped, all_stopped}
-use Rattle.dk_threads.specs.declared.row.ThreadRow.{ThreadRow}
-use Rattle.dk_threads.specs.declared.family.Family.{Family}
-use Rattle.dk_threads.specs.Rows.{stopped, stopped_child, is_row_of, stopped_with_main, is_stopped}
 use Rattle.dk_threads.proofs.NamedRows.{rows-are}
 
 -- each row of the process in the new table comes from one of the old table, of the same name and slot
@@ -34,10 +23,7 @@ pub descends : (change : Family → Family) (p q : ℕ) (table : Table)
 descends change p q table keeps r' has =
     elim (cases_Bool (eqb q p)) [
       | inl here ↦ let e : p ≡ q = grind (arith, nat_tests) in at-own e
-      | inr apart ↦
-          let same : rows_of (changed_at change p table) q ≡ rows_of table q =
-          ap (λ o. option_map_or (λ (family : Family). family.main ∷ family.children) o []) (changed-there change p q table apart) in
-          (r', subst (λ rows. Has rows r') same has, refl, refl)
+      | inr apart ↦ grind (arith, nat_tests, changed-there)
     ]
   where
     at-own : p ≡ q → (r : ThreadRow) × Has (rows_of table q) r × (r.id ≡ r'.id) × (r.slot ≡ r'.slot)
@@ -46,9 +32,7 @@ descends change p q table keeps r' has =
         go : (o : Option Family) → slice_get table.families p ≡ o → (r : ThreadRow) × Has (rows_of table p) r × (r.id ≡ r'.id) × (r.slot ≡ r'.slot)
         go None at =
             let has' : Has (rows_of (changed_at change p table) p) r' = subst (λ k. Has (rows_of (changed_at change p table) k) r') (sym e) has in
-            let same : rows_of (changed_at change p table) p ≡ [] =
-            ap (λ o. rows_of (record table { families = option_map_or (λ family. slice_set table.families p (change family)) o table.families }) p) at
-            ∙ ap (λ o. option_map_or (λ (family : Family). family.main ∷ family.children) o []) at in
+            let same : rows_of (changed_at change p table) p ≡ [] = grind (arith, nat_tests) in
             absurd (let none : Has [] r' = subst (λ rows. Has rows r') same has' in none)
         go (Some f) at =
             let has' : Has (rows_of (changed_at change p table) p) r' = subst (λ k. Has (rows_of (changed_at change p table) k) r') (sym e) has in

@@ -1,22 +1,6 @@
 -- What every change leaves of a family, and of the list of families.
-use Rattle.std.proofs.Common.{◌≡◌, ◌<◌, ◌≤◌, ◌∙◌, ◌==◌, ◌++◌, ℕ, zero, suc, ◌+◌, add-one, Bool, true, false, List, [], ◌∷◌, length, get_or, set, take, drop, map, refl, ap, sym, subst, arith, inl, inr, length-append}
-use Rattle.std.specs.Prelude.{Option, Some, None, slice_get, filter_map, All, nat_lt, ◌⊎◌, option_map, find, if◌then◌else◌}
-use Rattle.std.specs.List.{cons_option, range_with_len}
-use Rattle.std.specs.Option.{option_map_or}
-use Rattle.std.proofs.lemmas.List.Folds.{list_any-append}
-use Rattle.std.proofs.lemmas.Bool.Decides.{nat_tests}
-use Rattle.std.proofs.lemmas.Option.{slice_get-map, slice_get-get_or, slice_get_within}
-use Rattle.std.proofs.lemmas.Bool.{or_parts}
-use Rattle.dk_config.specs.declared.TheConstants.{MAX_CHILDREN, MAX_TICKS}
-use Rattle.dk_config.specs.Configuration.{Configuration}
-use Rattle.dk_config.specs.Checked.{IsWithinLimits}
-use Rattle.dk_trace.specs.declared.ThreadId.{ThreadId}
-use Rattle.dk_windows.specs.Clock.{Clock, end_at}
-use Rattle.dk_threads.specs.declared.row.State.{State}
-use Rattle.dk_threads.specs.declared.row.ThreadRow.{ThreadRow}
-use Rattle.dk_threads.specs.declared.family.Family.{Family}
-use Rattle.dk_threads.specs.Rows.{IsChild, AreChildren, is_taken, is_row_of, is_stopped, started, stopped, stopped_child, stopped_with_main, kept, ends_at, is_starting}
-use Rattle.dk_threads.specs.Table.{IsFamily, AreFamilies, family_started, family_ended, child_stopped, all_stopped, begun, new_row, free_slot, first_family, Table, stands, runs, is_running, changed_at, has_room, has_serials, serials_at}
+use Rattle.dk_threads.proofs.Names.{◌≡◌, ◌<◌, ◌≤◌, ◌==◌, ◌++◌, ℕ, zero, suc, ◌+◌, Bool, true, false, List, [], ◌∷◌, length, get_or, set, take, drop, map, refl, ap, sym, subst, arith, inl, inr, length-append, Some, None, slice_get, filter_map, All, nat_lt, ◌⊎◌, option_map, find, if◌then◌else◌, cons_option, range_with_len, option_map_or, list_any-append, nat_tests, slice_get-map, slice_get-get_or, slice_get_within, or_parts, MAX_CHILDREN, MAX_TICKS, Configuration, IsWithinLimits, ThreadId, Clock, end_at, State, ThreadRow, Family, IsChild, AreChildren, is_taken, is_row_of, is_stopped, started, stopped, stopped_child, stopped_with_main, kept, ends_at, is_starting, IsFamily, AreFamilies, family_started, family_ended, child_stopped, all_stopped, begun, new_row, free_slot, first_family, Table, stands, runs, is_running, changed_at, has_room, has_serials, serials_at}
+use Rattle.std.specs.Prelude.{Option}
 use Rattle.dk_threads.proofs.Slots.{free}
 use Rattle.dk_threads.proofs.Turns.{filter_map-some}
 
@@ -30,73 +14,33 @@ Keeps f = (row next : ThreadRow) → f row ≡ Some next → IsSame row next
 
 taken-cons : (o : Option ThreadRow) (rows : List ThreadRow) (slot : ℕ) → ((next : ThreadRow) → o ≡ Some next → (next.slot == slot) ≡ false)
     → is_taken rows slot ≡ false → is_taken (cons_option o rows) slot ≡ false
-taken-cons None rows slot apart rest = rest
-taken-cons (Some next) rows slot apart rest = rw (apart next refl, rest) refl
+taken-cons o rows slot apart rest = grind (arith, nat_tests)
 
 is_taken-kept : (f : ThreadRow → Option ThreadRow) → Keeps f → (rows : List ThreadRow) (slot : ℕ) → is_taken rows slot ≡ false
     → is_taken (filter_map f rows) slot ≡ false
 is_taken-kept f keeps [] slot apart = refl
-is_taken-kept f keeps (row ∷ rows) slot apart =
-    let parts = or_parts (row.slot == slot) (is_taken rows slot) apart in
-    let here : (row.slot == slot) ≡ false = parts.0 in
-    let rest = is_taken-kept f keeps rows slot parts.1 in
-    taken-cons (f row) (filter_map f rows) slot (λ next is. ap (λ (s : ℕ). s == slot) (keeps row next is).2 ∙ here) rest
+is_taken-kept f keeps (row ∷ rows) slot apart = grind (arith, nat_tests, or_parts, taken-cons, is_taken-kept f keeps rows)
 
 AreChildren-lower : (levels low later high : ℕ) (rows : List ThreadRow) → low ≤ later → AreChildren levels later high rows → AreChildren levels low high rows
 AreChildren-lower levels low later high [] below h = tt
-AreChildren-lower levels low later high (row ∷ rows) below h =
-    let child = h.0 in
-    let after : later < row.id.serial = child.later in
-    (record { later = omega arith; given = child.given; level = child.level; some_slot = child.some_slot; last_slot = child.last_slot }, h.1, h.2)
+AreChildren-lower levels low later high (row ∷ rows) below h = grind (arith, nat_tests)
 
 children-cons : (levels low high : ℕ) (o : Option ThreadRow) (rows : List ThreadRow)
     → ((next : ThreadRow) → o ≡ Some next → IsChild levels low high next × (is_taken rows next.slot ≡ false) × AreChildren levels next.id.serial high rows)
     → AreChildren levels low high rows → AreChildren levels low high (cons_option o rows)
-children-cons levels low high None rows some none = none
-children-cons levels low high (Some next) rows some none = some next refl
+children-cons levels low high o rows some none = grind (arith, nat_tests)
 
 -- the children that are left are children as before
 pub AreChildren-kept : (f : ThreadRow → Option ThreadRow) → Keeps f → (levels low high : ℕ) (rows : List ThreadRow)
     → AreChildren levels low high rows → AreChildren levels low high (filter_map f rows)
 AreChildren-kept f keeps levels low high [] h = tt
-AreChildren-kept f keeps levels low high (row ∷ rows) h =
-    let child = h.0 in
-    let later : low < row.id.serial = child.later in
-    let rest : AreChildren levels row.id.serial high (filter_map f rows) = AreChildren-kept f keeps levels row.id.serial high rows h.2 in
-    let apart = is_taken-kept f keeps rows row.slot h.1 in
-    children-cons levels low high (f row) (filter_map f rows)
-    (λ next is.
-    let same = keeps row next is in (
-      record {
-        later = subst (λ (n : ℕ). low < n) (sym same.0) child.later;
-        given = subst (λ (n : ℕ). n ≤ high) (sym same.0) child.given;
-        level = subst (λ (n : ℕ). n < levels) (sym same.1) child.level;
-        some_slot = subst (λ (n : ℕ). 1 ≤ n) (sym same.2) child.some_slot;
-        last_slot = subst (λ (n : ℕ). n ≤ MAX_CHILDREN) (sym same.2) child.last_slot;
-      },
-      subst (λ (n : ℕ). is_taken (filter_map f rows) n ≡ false) (sym same.2) apart,
-      subst (λ (n : ℕ). AreChildren levels n high (filter_map f rows)) (sym same.0) rest,
-    ))
-    (AreChildren-lower levels low row.id.serial high (filter_map f rows) (omega arith) rest)
+AreChildren-kept f keeps levels low high (row ∷ rows) h = grind (arith, nat_tests, is_taken-kept, children-cons, AreChildren-lower, AreChildren-kept f keeps levels row.id.serial high rows)
 
 -- a child of the next serial, in a slot that no other has, comes last
 pub AreChildren-push : (levels low high : ℕ) (rows : List ThreadRow) (row : ThreadRow) → AreChildren levels low high rows → low ≤ high
     → IsChild levels high (high + 1) row → is_taken rows row.slot ≡ false → AreChildren levels low (high + 1) (rows ++ row ∷ [])
-AreChildren-push levels low high [] row h below child apart =
-    let after : high < row.id.serial = child.later in
-    (record { later = omega arith; given = child.given; level = child.level; some_slot = child.some_slot; last_slot = child.last_slot }, refl, tt)
-AreChildren-push levels low high (r ∷ rs) row h below child apart =
-    let first = h.0 in
-    let given : r.id.serial ≤ high = first.given in
-    let parts = or_parts (r.slot == row.slot) (is_taken rs row.slot) apart in
-    let here : (r.slot == row.slot) ≡ false = parts.0 in
-    let rest : is_taken rs row.slot ≡ false = parts.1 in
-    let other : (row.slot == r.slot) ≡ false = grind (arith, nat_tests) in
-    let alone : is_taken (rs ++ row ∷ []) r.slot ≡ false = rw list_any-append (rw (h.1, other) refl) in (
-      record { later = first.later; given = omega arith; level = first.level; some_slot = first.some_slot; last_slot = first.last_slot },
-      alone,
-      AreChildren-push levels r.id.serial high rs row h.2 given child rest,
-    )
+AreChildren-push levels low high [] row h below child apart = grind (arith, nat_tests, or_parts, list_any-append)
+AreChildren-push levels low high (r ∷ rs) row h below child apart = grind (arith, nat_tests, or_parts, list_any-append, AreChildren-push levels r.id.serial high rs)
 
 level-of : (levels low high : ℕ) (rows : List ThreadRow) → AreChildren levels low high rows
     → (k : ℕ) (d : ThreadRow) → k < length rows → (get_or rows k d).level < levels
@@ -109,37 +53,20 @@ pub levels-of : (levels : ℕ) (family : Family) → IsFamily levels family → 
 levels-of levels family is k d below = level-of levels 0 family.serials family.children is.children k d below
 
 length-cons-le : (o : Option ThreadRow) (rows : List ThreadRow) → length (cons_option o rows) ≤ suc (length rows)
-length-cons-le None rows = omega arith
-length-cons-le (Some row) rows = omega arith
+length-cons-le o rows = grind (arith, nat_tests)
 
 fewer : (f : ThreadRow → Option ThreadRow) (rows : List ThreadRow) → length (filter_map f rows) ≤ length rows
 fewer f [] = omega arith
-fewer f (row ∷ rows) =
-    let rest = fewer f rows in
-    let more = length-cons-le (f row) (filter_map f rows) in
-    omega arith
+fewer f (row ∷ rows) = grind (arith, nat_tests, length-cons-le, fewer f rows)
 
 -- a family whose rows change so is one as before
 pub IsFamily-kept : (f : ThreadRow → Option ThreadRow) → Keeps f → (levels : ℕ) (family : Family) (main : ThreadRow) → IsFamily levels family
     → main.slot ≡ family.main.slot → main.id ≡ family.main.id → main.end ≡ family.main.end → is_starting main.state ≡ false
     → IsFamily levels (record family { main = main; children = filter_map f family.children })
-IsFamily-kept f keeps levels family main is slot id end live =
-    let less = fewer f family.children in
-    let room : length family.children ≤ family.most = is.room in
-    record {
-      main_slot = slot ∙ is.main_slot;
-      main_serial = ap (λ (x : ThreadId). x.serial) id ∙ is.main_serial;
-      main_end = end ∙ is.main_end;
-      main_state = live;
-      room = omega arith;
-      few = is.few;
-      children = AreChildren-kept f keeps levels 0 family.serials family.children is.children;
-    }
+IsFamily-kept f keeps levels family main is slot id end live = grind (arith, nat_tests, fewer, AreChildren-kept)
 
 from_same : (row next made : ThreadRow) → made.id ≡ row.id → made.level ≡ row.level → made.slot ≡ row.slot → Some made ≡ Some next → IsSame row next
-from_same row next made id level slot is =
-    let same : next ≡ made = cc in
-    (ap (λ (r : ThreadRow). r.id.serial) same ∙ ap (λ (x : ThreadId). x.serial) id, ap (λ (r : ThreadRow). r.level) same ∙ level, ap (λ (r : ThreadRow). r.slot) same ∙ slot)
+from_same row next made id level slot is = grind (arith, nat_tests)
 
 choice : (b : Bool) (row next : ThreadRow) (one other : Option ThreadRow) → (P : Type 0) → (one ≡ Some next → P) → (other ≡ Some next → P)
     → (if b then one else other) ≡ Some next → P
@@ -191,9 +118,7 @@ under-number f (Some n) y h = (n, refl, cc)
 
 pub AreFamilies-map : (levels : ℕ) (families : List Family) (f : Family → Family) → AreFamilies levels families
     → ((family : Family) → IsFamily levels family → IsFamily levels (f family)) → AreFamilies levels (map f families)
-AreFamilies-map levels families f all keeps p family at =
-    let (x, is, same) = under f (slice_get families p) family (sym (slice_get-map f families p) ∙ at) in
-    subst (IsFamily levels) same (keeps x (all p x is))
+AreFamilies-map levels families f all keeps p family at = grind (arith, nat_tests, under, slice_get-map)
 
 get-at : (f : Family → Family) (old : List Family) (i : ℕ) (d : Family) → i < length old
     → get_or (map f (take i old) ++ drop i old) i d ≡ get_or old i d
@@ -211,20 +136,12 @@ set-at f (x ∷ xs) (suc i) d below = ap (λ (ys : List Family). f x ∷ ys) (se
 pub one-more : (f : Family → Family) (old now : List Family) (i : ℕ) (item new : Family) → i < length old
     → now ≡ map f (take i old) ++ drop i old → item ≡ get_or now i item → new ≡ f item
     → set now i new ≡ map f (take (i + 1) old) ++ drop (i + 1) old
-one-more f old now i item new below so is becomes =
-    let same : item ≡ get_or old i item = is ∙ ap (λ (xs : List Family). get_or xs i item) so ∙ get-at f old i item below in
-    let made : new ≡ f (get_or old i item) = becomes ∙ ap f same in
-    ap (λ (xs : List Family). set xs i new) so
-    ∙ ap (set (map f (take i old) ++ drop i old) i) made
-    ∙ set-at f old i item below
-    ∙ ap (λ (n : ℕ). map f (take n old) ++ drop n old) (sym (add-one i))
+one-more f old now i item new below so is becomes = grind (arith, nat_tests, get-at, set-at)
 
 -- the family of a process that has one
 pub family_at : (table : Table) (families : List Family) (p : ℕ) (family : Family) → families ≡ table.families → p < length table.families
     → family ≡ get_or families p family → slice_get families p ≡ Some family
-family_at table families p family same below is =
-    let within : p < length families = subst (λ (fs : List Family). p < length fs) (sym same) below in
-    slice_get-get_or families p family within ∙ ap Some (sym is)
+family_at table families p family same below is = grind (arith, nat_tests, slice_get-get_or)
 
 is_there : (o : Option Family) (test : Family → Bool) → option_map_or test o false ≡ true → (family : Family) × (o ≡ Some family)
 is_there None test h = absurd (cc)
@@ -232,9 +149,7 @@ is_there (Some family) test h = (family, refl)
 
 -- a process that stands has a family
 pub within-stands : (table : Table) (p : ℕ) → stands table p ≡ true → p < length table.families
-within-stands table p h =
-    let (family, at) = is_there (slice_get table.families p) (λ family. is_running family.main) h in
-    slice_get_within table.families p family at
+within-stands table p h = grind (arith, nat_tests, is_there, slice_get_within)
 
 is_member : (x : ThreadId) (o : Option Family)
     → option_map_or is_running (find (is_row_of x) (option_map_or (λ (family : Family). family.main ∷ family.children) o [])) false ≡ true
@@ -244,18 +159,13 @@ is_member x (Some family) h = (family, refl)
 
 -- a thread that runs is of a process that has a family
 pub within-runs : (table : Table) (x : ThreadId) → runs table x ≡ true → x.process < length table.families
-within-runs table x h =
-    let (family, at) = is_member x (slice_get table.families x.process) h in
-    slice_get_within table.families x.process family at
+within-runs table x h = grind (arith, nat_tests, is_member, slice_get_within)
 
 -- the table with one family changed
 pub changed-set : (change : Family → Family) (levels : ℕ) (families : List Family) (p : ℕ) (family new : Family)
     → slice_get families p ≡ Some family → new ≡ change family
     → ◌≡◌ {A = Table} (record { levels = levels; families = set families p new }) (changed_at change p (record { levels = levels; families = families }))
-changed-set change levels families p family new at is =
-    let with_families : List Family → Table = λ fs. record { levels = levels; families = fs } in
-    ap with_families
-    (ap (set families p) is ∙ sym (ap (λ (o : Option Family). option_map_or (λ (x : Family). set families p (change x)) o families) at))
+changed-set change levels families p family new at is = grind (arith, nat_tests)
 
 pub IsFamily-started : (now levels : ℕ) (family : Family) → IsFamily levels family → IsFamily levels (family_started now family)
 IsFamily-started now levels family is =
@@ -288,24 +198,17 @@ IsFamily-begun p level start levels family is known room =
       main_state = is.main_state;
       room = omega arith;
       few = is.few;
-      children = AreChildren-push levels 0 family.serials family.children row is.children (omega arith)
-          (record { later = omega arith; given = omega arith; level = known; some_slot = slot.0; last_slot = slot.1 }) slot.2;
+      children = grind (arith, nat_tests, AreChildren-push);
     }
 
 -- at the start there are no children
 pub AreFamilies-first : (c : Configuration) → IsWithinLimits c → AreFamilies (length c.levels) (map (first_family c) (range_with_len 0 (length c.processes)))
-AreFamilies-first c limits p family at =
-    let (q, is, same) = under-number (first_family c) (slice_get (range_with_len 0 (length c.processes)) p) family
-    (sym (slice_get-map (first_family c) (range_with_len 0 (length c.processes)) p) ∙ at) in
-    subst (IsFamily (length c.levels)) same
-    (record { main_slot = refl; main_serial = refl; main_end = refl; main_state = refl; room = omega arith; few = limits.threads q; children = tt })
+AreFamilies-first c limits p family at = grind (arith, nat_tests, under-number, slice_get-map)
 
 -- a process that has room may have one more child
 pub room-at : (table : Table) (p : ℕ) (family : Family) → slice_get table.families p ≡ Some family → has_room table p ≡ true
     → length family.children < family.most
-room-at table p family at room =
-    let here = subst (λ (o : Option Family). nat_lt (length (option_map_or (λ (x : Family). x.children) o [])) (option_map_or (λ (x : Family). x.most) o 0) ≡ true) at room in
-    grind (arith, nat_tests)
+room-at table p family at room = grind (arith, nat_tests)
 
 pub serials-at : (table : Table) (p : ℕ) (family : Family) → slice_get table.families p ≡ Some family → serials_at table p ≡ family.serials
 serials-at table p family at = ap (λ (o : Option Family). option_map_or (λ (x : Family). x.serials) o 0) at
@@ -313,6 +216,4 @@ serials-at table p family at = ap (λ (o : Option Family). option_map_or (λ (x 
 -- and has had few enough
 pub few-at : (table : Table) (p : ℕ) (family : Family) → slice_get table.families p ≡ Some family → has_serials table p ≡ true
     → family.serials < MAX_TICKS
-few-at table p family at few =
-    let here = subst (λ (o : Option Family). nat_lt (option_map_or (λ (x : Family). x.serials) o 0) MAX_TICKS ≡ true) at few in
-    grind (arith, nat_tests)
+few-at table p family at few = grind (arith, nat_tests)

@@ -1,28 +1,8 @@
 -- The rows that the table finds are those of the past's threads.
-use Rattle.std.proofs.Common.{◌≡◌, ◌<◌, ◌≤◌, ◌+◌, ◌∙◌, ◌⊎◌, inl, inr, ◌||◌, Bool, true, false, cond, eqb, ℕ, zero, suc, List, [], ◌∷◌, ◌++◌, length, map, Option, Some, None, option_map, refl, ap, sym, arith, subst, is_none}
-use Rattle.std.specs.Prelude.{slice_get, find, filter_map, is_some, filter, sum_by}
-use Rattle.std.specs.List.{list_any, flat_map}
-use Rattle.std.specs.Option.{option_map_or}
-use Rattle.std.proofs.lemmas.Bool.{cases_lt, eqb-true, eqb-false}
-use Rattle.std.proofs.lemmas.Bool.Decides.{nat_tests}
-use Rattle.std.proofs.lemmas.Option.{slice_get-map, slice_get_past}
-use Rattle.std.proofs.Math.Bool.{or-false}
+use Rattle.dk_threads.proofs.Names.{◌≡◌, ◌<◌, ◌≤◌, ◌+◌, ◌∙◌, inl, inr, ◌||◌, Bool, true, false, cond, eqb, ℕ, zero, suc, List, [], ◌∷◌, ◌++◌, length, map, Option, refl, ap, sym, arith, subst, is_none, slice_get, find, filter_map, is_some, filter, sum_by, list_any, flat_map, option_map_or, cases_lt, eqb-true, eqb-false, nat_tests, slice_get-map, slice_get_past, or-false, Configuration, numbers, ThreadId, Event, Entry, is_of, Thread, threads, family, after_entry, made_by, is_main, Has, filter_map-has, ThreadRow, is_row_of, started, kept, ends_at, Table, children_at, find_row, rows_of, AreFamilies, is_running, IsRecount, counted_rows, counted_row, has_row, is_there, row_at, unplaced, AreThreads, end_in_row}
+use Rattle.std.proofs.Common.{◌⊎◌, Some, None, option_map}
 use Rattle.std.proofs.lemmas.List.Sums.{sum_by-cons}
-use Rattle.dk_config.specs.Configuration.{Configuration}
-use Rattle.dk_config.specs.Sums.{numbers}
-use Rattle.dk_trace.specs.declared.ThreadId.{ThreadId}
-use Rattle.dk_trace.specs.declared.Event.{Event}
-use Rattle.dk_trace.specs.declared.Entry.{Entry}
-use Rattle.dk_trace.specs.Entries.{is_of}
-use Rattle.dk_trace.specs.Threads.{Thread, threads, family, after_entry, made_by, is_main}
-use Rattle.dk_trace.specs.Members.{Has}
 use Rattle.dk_trace.proofs.Loans.{is-lent}
-use Rattle.dk_trace.proofs.Members.{filter_map-has}
-use Rattle.dk_threads.specs.declared.row.ThreadRow.{ThreadRow}
-use Rattle.dk_threads.specs.declared.family.Family.{Family}
-use Rattle.dk_threads.specs.Rows.{is_row_of, started, kept, ends_at}
-use Rattle.dk_threads.specs.Table.{Table, children_at, find_row, rows_of, AreFamilies, is_running}
-use Rattle.dk_threads.specs.Recount.{IsRecount, counted_rows, counted_row, has_row, is_there, row_at, unplaced, IsRecount as AreThreads, end_in_row}
 use Rattle.dk_threads.proofs.NamedRows.{one-child, family-of, child-later}
 
 unplaced-find : (x : ThreadId) (rows : List ThreadRow) → option_map unplaced (find (is_row_of x) rows) ≡ find (is_row_of x) (map unplaced rows)
@@ -100,11 +80,7 @@ rows-there c now past table x r =
           ∙ found-any x (counted_rows c now past x.process)
           ∙ any-counted c now x (family c x.process past)
           ∙ sym (inside-there c now past x 0 (length c.processes) (omega arith) (omega arith))
-      | inr past' ↦
-          let many = r.processes in
-          let none : slice_get table.families x.process ≡ None = slice_get_past table.families x.process (omega (arith, many, past')) in
-          ap (λ o. is_some (find (is_row_of x) (option_map_or (λ (f : Family). f.main ∷ f.children) o []))) none
-          ∙ sym (outside-there c now past x 0 (length c.processes) (inr (omega arith)))
+      | inr past' ↦ grind (arith, nat_tests, slice_get_past, outside-there)
     ]
   where
     mapped : (o : Option ThreadRow) → is_some o ≡ is_some (option_map unplaced o)

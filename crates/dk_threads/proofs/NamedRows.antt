@@ -1,23 +1,6 @@
 -- The row of a thread: it is found by its name, and no two rows of a process have one slot or one serial.
-use Rattle.std.proofs.Common.{◌≡◌, Some, length, true, subst, refl, sym, ℕ, ap, ◌<◌, map, List, None, Option, ◌∷◌, ◌≤◌, false, ◌∙◌, inr, inl, arith, []}
-use Rattle.std.proofs.lemmas.Bool.{eq-eqb}
-use Rattle.std.proofs.lemmas.Bool.Decides.{nat_tests}
-use Rattle.std.specs.Prelude.{filter_map, slice_get, IfSome}
-use Rattle.std.specs.Option.{option_map_or}
-use Rattle.dk_config.specs.Configuration.{Configuration}
-use Rattle.dk_config.specs.declared.TheConstants.{MAX_CHILDREN}
-use Rattle.dk_trace.specs.declared.ThreadId.{ThreadId}
-use Rattle.dk_trace.specs.Members.{Has}
-use Rattle.dk_trace.specs.Threads.{Thread, family}
-use Rattle.dk_trace.specs.declared.Entry.{Entry}
-use Rattle.dk_trace.specs.Entries.{is_same}
-use Rattle.dk_trace.proofs.Members.{find-some, has-map, has-filter_map, list_any-has, find-has}
-use Rattle.dk_trace.proofs.Same.{same-id, same-self}
-use Rattle.dk_threads.specs.Table.{rows_of, Table, find_row, AreFamilies, IsFamily, children_at}
-use Rattle.dk_threads.specs.declared.row.ThreadRow.{ThreadRow}
-use Rattle.dk_threads.specs.Recount.{has_row, unplaced, counted_row, row_at, IsRecount}
-use Rattle.dk_threads.specs.Rows.{is_row_of, AreChildren, is_taken}
-use Rattle.dk_threads.specs.declared.family.Family.{Family}
+use Rattle.dk_threads.proofs.Names.{◌≡◌, length, true, subst, refl, sym, ℕ, ap, ◌<◌, map, List, Option, ◌∷◌, ◌≤◌, false, ◌∙◌, inr, inl, arith, [], eq-eqb, nat_tests, filter_map, slice_get, IfSome, option_map_or, Configuration, MAX_CHILDREN, ThreadId, Has, Thread, family, Entry, is_same, find-some, has-map, has-filter_map, list_any-has, find-has, same-id, same-self, rows_of, Table, find_row, AreFamilies, IsFamily, children_at, ThreadRow, has_row, unplaced, counted_row, row_at, IsRecount, is_row_of, AreChildren, is_taken, Family}
+use Rattle.std.proofs.Common.{Some, None}
 
 -- the row that the table has of a thread
 pub record HasRow (table : Table) (x : ThreadId) : Type 0 where
@@ -30,8 +13,7 @@ pub row-there : (c : Configuration) (now : ℕ) (past : List Entry) (table : Tab
     → x.id.process < length c.processes → Has (family c x.id.process past) x → has_row c now x ≡ true → HasRow table x.id
 row-there c now past table x is known among there =
     let counted : row_at c now x ≡ Some (counted_row c now x) = rw there refl in
-    let has : Has (filter_map (row_at c now) (family c x.id.process past)) (counted_row c now x) =
-    has-filter_map (row_at c now) (family c x.id.process past) x (counted_row c now x) among counted in
+    let has : Has (filter_map (row_at c now) (family c x.id.process past)) (counted_row c now x) = grind (arith, nat_tests, has-filter_map) in
     let has' : Has (map unplaced (rows_of table x.id.process)) (counted_row c now x) = subst (λ rows. Has rows (counted_row c now x)) (sym (is.rows x.id.process known)) has in
     let r = has-map unplaced (rows_of table x.id.process) (counted_row c now x) has' in
     let name : r.0.id ≡ x.id = ap (λ (row : ThreadRow). row.id) r.2 in
@@ -114,22 +96,8 @@ one-row table p q r are one two same =
     let b : Has (f.0.main ∷ f.0.children) r = subst (λ rows. Has rows r) (rows-are table p f.0 f.1) two in
     let main = is.main_serial in
     elim a [
-      | inl first ↦
-          elim b [
-            | inl too ↦ sym first ∙ too
-            | inr child ↦
-                let later = child-later table.levels 0 f.0.serials f.0.children r is.children child in
-                let e : f.0.main.id.serial ≡ q.id.serial = ap (λ (z : ThreadRow). z.id.serial) first in
-                absurd (omega (arith, later, e, same, main))
-          ]
-      | inr child ↦
-          let later = child-later table.levels 0 f.0.serials f.0.children q is.children child in
-          elim b [
-            | inl too ↦
-                let e : f.0.main.id.serial ≡ r.id.serial = ap (λ (z : ThreadRow). z.id.serial) too in
-                absurd (omega (arith, later, e, same, main))
-            | inr other ↦ one-child table.levels 0 f.0.serials f.0.children q r is.children child other same
-          ]
+      | inl first ↦ grind (arith, nat_tests, child-later)
+      | inr child ↦ grind (arith, nat_tests, child-later, one-child)
     ]
 
 -- The slot of a row that is found is at most 8, and is no other thread's.

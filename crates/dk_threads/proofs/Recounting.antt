@@ -1,24 +1,6 @@
 -- How the recount of a past goes on with one entry, and with one tick.
-use Rattle.std.proofs.Common.{◌≢◌, ◌≡◌, ◌<◌, ◌∙◌, ◌==◌, ℕ, suc, ◌+◌, Bool, true, false, List, [], ◌∷◌, length, map, refl, ap, arith}
-use Rattle.std.specs.Prelude.{Option, Some, None, if◌then◌else◌, filter_map, slice_get, option_map}
-use Rattle.std.specs.List.{cons_option, range_with_len}
-use Rattle.std.specs.Option.{option_map_or}
-use Rattle.std.proofs.lemmas.Bool.Decides.{nat_tests}
-use Rattle.std.proofs.lemmas.Option.{slice_get-map, slice_get-get_or}
-use Rattle.std.proofs.lemmas.List.{append-nil, length-map}
-use Rattle.std.proofs.lemmas.List.FromFn.{length-map-range_with_len, get_or-map-range_with_len}
-use Rattle.dk_config.specs.Configuration.{Configuration}
-use Rattle.dk_trace.specs.declared.ThreadId.{ThreadId}
-use Rattle.dk_trace.specs.declared.Event.{Event}
-use Rattle.dk_trace.specs.declared.Entry.{Entry}
-use Rattle.dk_trace.specs.Audit.{without_event}
-use Rattle.dk_trace.specs.Entries.{stops}
-use Rattle.dk_trace.specs.Threads.{Thread, family, after_entry, made_by}
-use Rattle.dk_threads.specs.declared.row.ThreadRow.{ThreadRow}
-use Rattle.dk_threads.specs.declared.family.Family.{Family}
-use Rattle.dk_threads.specs.Rows.{is_starting, started, kept, ends_at}
-use Rattle.dk_threads.specs.Table.{Table, IsFamily, AreFamilies, table_at_start, first_family, rows_of, changed_all, family_started, family_ended}
-use Rattle.dk_threads.specs.Recount.{IsRecount, IsOpen, IsBooked, row_at, unplaced, leaves_threads}
+use Rattle.dk_threads.proofs.Names.{◌≢◌, ◌≡◌, ◌<◌, ◌∙◌, ◌==◌, ℕ, suc, Bool, true, false, List, [], ◌∷◌, length, map, refl, ap, arith, Some, None, if◌then◌else◌, filter_map, slice_get, option_map, cons_option, range_with_len, option_map_or, nat_tests, slice_get-map, slice_get-get_or, append-nil, length-map, length-map-range_with_len, get_or-map-range_with_len, Configuration, ThreadId, Event, Entry, without_event, stops, Thread, family, after_entry, made_by, ThreadRow, Family, is_starting, started, kept, ends_at, Table, IsFamily, AreFamilies, table_at_start, first_family, rows_of, changed_all, family_started, family_ended, IsRecount, IsOpen, IsBooked, row_at, unplaced, leaves_threads}
+use Rattle.std.specs.Prelude.{Option}
 
 -- the family of a process at the start
 pub first-at : (c : Configuration) (p : ℕ) → p < length c.processes → slice_get (table_at_start c).families p ≡ Some (first_family c p)
@@ -158,18 +140,12 @@ next-open c e past table all is =
     record {
       levels = is.levels;
       processes = opened-length now table.families ∙ is.processes;
-      most = λ p below.
-          ap (λ (o : Option Family). option_map_or (λ (x : Family). x.most) o 0) (opened-at now p table)
-          ∙ opened-most now (slice_get table.families p)
-          ∙ is.most p below;
+      most = grind (arith, nat_tests, opened-at, opened-most);
       rows = λ p below.
           ap (λ (o : Option Family). map unplaced (option_map_or (λ (x : Family). x.main ∷ x.children) o [])) (opened-at now p table)
           ∙ ap (map unplaced) (opened-rows now table.levels (slice_get table.families p) (λ family at. all p family at))
           ∙ unplaced-rows now (rows_of table p)
           ∙ ap (filter_map (due now)) (is.rows p below)
           ∙ rows-next c (length past) (family c p (e ∷ past));
-      serials = λ p below.
-          ap (λ (o : Option Family). option_map_or (λ (x : Family). x.serials) o 0 + 1) (opened-at now p table)
-          ∙ ap (λ (n : ℕ). n + 1) (opened-serials now (slice_get table.families p))
-          ∙ is.serials p below;
+      serials = grind (arith, nat_tests, opened-at, opened-serials);
     }

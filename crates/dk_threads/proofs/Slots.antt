@@ -1,13 +1,6 @@
 -- The lowest free slot: how it is found, and that there is one.
-use Rattle.std.proofs.Common.{◌≡◌, ◌<◌, ◌≤◌, ◌==◌, ℕ, zero, suc, ◌+◌, ◌-◌, Bool, true, false, List, [], ◌∷◌, length, refl, ap, arith, inl, inr}
-use Rattle.std.specs.Prelude.{Some, find, not, if◌then◌else◌}
-use Rattle.std.proofs.lemmas.Bool.Decides.{nat_tests}
-use Rattle.std.proofs.lemmas.Bool.{not-true, cases_Bool}
-use Rattle.dk_config.specs.declared.TheConstants.{MAX_CHILDREN}
-use Rattle.dk_config.specs.Sums.{numbers}
+use Rattle.dk_threads.proofs.Names.{◌≡◌, ◌<◌, ◌≤◌, ◌==◌, ℕ, zero, suc, ◌+◌, ◌-◌, Bool, true, false, List, [], ◌∷◌, length, refl, ap, arith, inl, inr, Some, find, not, if◌then◌else◌, nat_tests, not-true, cases_Bool, MAX_CHILDREN, numbers, ThreadRow, is_taken}
 use Rattle.dk_config.proofs.Counting.{length-numbers}
-use Rattle.dk_threads.specs.declared.row.ThreadRow.{ThreadRow}
-use Rattle.dk_threads.specs.Rows.{is_taken}
 use Rattle.dk_threads.specs.Table.{free_slot}
 
 abbrev pub is_free : List ThreadRow → ℕ → Bool

@@ -1,31 +1,9 @@
 -- How the recount goes on where a child is stopped, or a main with its children.
-use Rattle.std.proofs.Common.{◌≡◌, ◌≢◌, ◌<◌, ◌≤◌, ◌∙◌, ◌==◌, ◌++◌, ℕ, suc, ◌+◌, Bool, true, false, List, [], ◌∷◌, length, map, refl, ap, sym, subst, arith, inl, inr, ◌*◌}
-use Rattle.std.specs.Prelude.{Option, Some, None, ◌&&◌, ◌||◌, nat_lt, nat_le, if◌then◌else◌, filter_map, find, slice_get, option_map}
-use Rattle.std.specs.List.{cons_option, list_any}
-use Rattle.std.specs.Option.{option_map_or, option_or}
+use Rattle.dk_threads.proofs.Names.{◌≡◌, ◌≢◌, ◌<◌, ◌≤◌, ◌∙◌, ◌==◌, ◌++◌, ℕ, suc, ◌+◌, Bool, true, false, List, [], ◌∷◌, length, map, refl, ap, sym, subst, arith, inl, inr, ◌*◌, Some, None, nat_lt, nat_le, if◌then◌else◌, filter_map, find, slice_get, option_map, cons_option, list_any, option_map_or, option_or, nat_tests, append-nil, and-false, or-false, not-true, cases_Bool, and_parts, true≢false, Configuration, IsChecked, window_end, Clock, clock_at, end_at, ThreadId, Label, Event, Entry, without_event, stops, is_of, is_same, is_end, main_of, thread_of, has_event, quiet, Thread, family, after_entry, made_by, State, ThreadRow, Family, is_row_of, is_stopped, stopped, stopped_child, stopped_with_main, AreChildren, Table, IsFamily, AreFamilies, changed_at, child_stopped, all_stopped, runs, is_running, IsCharged, IsBooked, counted_rows, counted_row, row_at, unplaced, has_row, state_of, main_id, entry_of, IsRecount}
+use Rattle.std.specs.Prelude.{Option, ◌||◌}
 use Rattle.std.specs.Bool.{then_some}
-use Rattle.std.proofs.lemmas.Bool.Decides.{nat_tests}
-use Rattle.std.proofs.lemmas.List.{append-nil, length-append}
-use Rattle.std.proofs.Math.Bool.{and-false, or-false}
-use Rattle.std.proofs.lemmas.Bool.{not-true, cases_Bool, and_parts, true≢false}
-use Rattle.dk_config.specs.Configuration.{Configuration}
-use Rattle.dk_config.specs.Checked.{IsChecked}
-use Rattle.dk_config.specs.Windows.{window_end}
-use Rattle.dk_windows.specs.Clock.{Clock, clock_at, end_at}
-use Rattle.dk_trace.specs.declared.ThreadId.{ThreadId}
-use Rattle.dk_trace.specs.declared.Label.{Label}
-use Rattle.dk_trace.specs.declared.Event.{Event}
-use Rattle.dk_trace.specs.declared.Entry.{Entry}
-use Rattle.dk_trace.specs.Audit.{without_event}
-use Rattle.dk_trace.specs.Entries.{stops, is_of, is_same, is_end, main_of, thread_of, has_event, quiet}
-use Rattle.dk_trace.specs.Threads.{Thread, family, after_entry, made_by}
+use Rattle.std.proofs.lemmas.List.{length-append}
 use Rattle.dk_trace.proofs.Whose.{of-thread as thread-is}
-use Rattle.dk_threads.specs.declared.row.State.{State}
-use Rattle.dk_threads.specs.declared.row.ThreadRow.{ThreadRow}
-use Rattle.dk_threads.specs.declared.family.Family.{Family}
-use Rattle.dk_threads.specs.Rows.{is_row_of, is_stopped, stopped, stopped_child, stopped_with_main, AreChildren}
-use Rattle.dk_threads.specs.Table.{Table, IsFamily, AreFamilies, changed_at, child_stopped, all_stopped, runs, is_running}
-use Rattle.dk_threads.specs.Recount.{IsCharged, IsBooked, counted_rows, counted_row, row_at, unplaced, has_row, state_of, main_id, entry_of, IsRecount}
 use Rattle.dk_threads.specs.Laws.{MainsEndStopsRows}
 use Rattle.dk_threads.proofs.Recounting.{family-same, same-thread, eq-true, thread, if-none}
 use Rattle.dk_threads.proofs.Births.{some-at, rows_in, serials_in, recount-changed, ends-later}
@@ -216,11 +194,7 @@ child-gone c tick id level quota start None child known later ends =
     ∙ sym (onward-same (gone (clock_at c tick)) (stopped (clock_at c tick)) (row_at c tick x)
     (λ row is. gone-running (clock_at c tick) row (ap (λ (i : ThreadId). i.serial == 0) (row-id c tick x row is) ∙ child)
     (ap is_stopped (row-state c tick x row is) ∙ running-state tick start (nat_lt tick start) refl)))
-child-gone c tick id level quota start (Some n) child known later ends =
-    let x = thread id level quota start (Some n) in
-    sym (onward-keep (gone (clock_at c tick)) (row_at c tick x)
-    (λ row is. gone-stopped (clock_at c tick) row (ap (λ (i : ThreadId). i.serial == 0) (row-id c tick x row is) ∙ child)
-    (ap is_stopped (row-state c tick x row is))))
+child-gone c tick id level quota start (Some n) child known later ends = grind (arith, nat_tests, thread, onward-keep, gone-stopped, row-id, row-state)
 
 -- the rows of a process that stops
 thread-gone : (c : Configuration) (e : Entry) (tick : ℕ) (x : Thread) → stops x.id e ≡ true
@@ -316,11 +290,7 @@ stopped-one c tick x id level quota start None same child rows later ends =
     stop-row c tick id level quota start (nat_lt tick start) (child-serial-of x id same child) refl unpassed (ends level)
     ∙ sym (onward-same (stopped_child x clock) (stopped clock) (row_at c tick y)
     (λ row is. rw (ap (is_same x) (row-id c tick y row is) ∙ same) refl))
-stopped-one c tick x id level quota start (Some n) same child rows later ends =
-    let y = thread id level quota start (Some n) in
-    sym (onward-keep (stopped_child x (clock_at c tick)) (row_at c tick y)
-    (λ row is. absurd (true≢false
-    (sym (ap is_stopped (row-state c tick y row is)) ∙ (rows row is (ap (is_same x) (row-id c tick y row is) ∙ same)).0))))
+stopped-one c tick x id level quota start (Some n) same child rows later ends = grind (arith, nat_tests, thread, onward-keep, row-state, row-id)
 
 -- of a child that is stopped, the row isn't stopped before, and is of a level that there is
 abbrev IsOpenRow : ThreadId → ℕ → ThreadRow → Type 0
@@ -372,15 +342,10 @@ one-stopped c e past table x checked families known child runs hit none ends is 
     let within : x.process < length table.families = subst (λ (n : ℕ). x.process < n) (sym is.processes) known in
     let (old, at) = some-at table.families x.process within in
     let kin = families x.process old at in
-    let other : is_row_of x old.main ≡ false =
-    ap (λ (n : ℕ). (x.process == old.main.id.process) && (x.serial == n)) kin.main_serial
-    ∙ ap (λ (b : Bool). (x.process == old.main.id.process) && b) child
-    ∙ and-false (x.process == old.main.id.process) in
-    let found : option_map_or is_running (find (is_row_of x) (old.main ∷ old.children)) false ≡ true =
-    subst (λ (o : Option Family). option_map_or is_running (find (is_row_of x) (rows_in o)) false ≡ true) at runs in
+    let other : is_row_of x old.main ≡ false = grind (arith, nat_tests, and-false) in
+    let found : option_map_or is_running (find (is_row_of x) (old.main ∷ old.children)) false ≡ true = grind (arith, nat_tests, rows_in) in
     let found_child : option_map_or is_running (find (is_row_of x) old.children) false ≡ true = rw other at found in
-    let levels : Each (IsOpenRow x (length c.levels)) old.children =
-    subst (λ (n : ℕ). Each (IsOpenRow x n) old.children) is.levels (one-row x table.levels 0 old.serials old.children kin.children found_child) in
+    let levels : Each (IsOpenRow x (length c.levels)) old.children = grind (arith, nat_tests, one-row) in
     let main : stopped_child x clock old.main ≡ Some old.main = rw other refl in
     stop-recount c e past table x.process (child_stopped x clock) old (stopped_child x clock) (IsOpenRow x (length c.levels))
     at known none

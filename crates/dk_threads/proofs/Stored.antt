@@ -1,48 +1,25 @@
 -- What an insert into the slab and a removal leave of the rows.
-use Rattle.std.proofs.Common.{◌≡◌, ◌≢◌, ◌==◌, ◌<◌, ◌≤◌, ◌||◌, ◌∙◌, ℕ, zero, suc, drop, get_or, sym, subst, ◌+◌, Bool, true, false, List, [], ◌∷◌, ◌++◌, length, refl, ap, arith}
-use Rattle.std.specs.Prelude.{Option, Some, None, slice_get, remove, IsSome}
-use Rattle.std.specs.List.{list_any, cons_option}
-use Rattle.std.specs.Option.{option_map_or}
-use Rattle.std.proofs.lemmas.List.{at_drop_more}
-use Rattle.std.proofs.lemmas.List.Elements.{filter_map-append}
-use Rattle.std.proofs.lemmas.List.Folds.{list_any-append}
-use Rattle.std.proofs.lemmas.Bool.Decides.{nat_tests}
-use Rattle.std.proofs.lemmas.Option.{slice_get_past}
-use Rattle.slab.specs.Slab.{Slab, get, slab_len, Updates}
-use Rattle.dk_config.specs.declared.TheConstants.{MAX_CHILDREN}
-use Rattle.dk_threads.specs.declared.row.ThreadRow.{ThreadRow}
-use Rattle.dk_threads.specs.Stored.{rows_at, AreKeys, IsStored}
+use Rattle.dk_threads.proofs.Names.{◌≡◌, ◌==◌, ◌<◌, ◌≤◌, ◌||◌, ◌∙◌, ℕ, zero, suc, drop, get_or, sym, ◌+◌, Bool, true, false, List, [], ◌∷◌, ◌++◌, length, refl, ap, arith, Some, None, slice_get, remove, IsSome, list_any, cons_option, option_map_or, at_drop_more, filter_map-append, list_any-append, nat_tests, slice_get_past, Slab, get, slab_len, Updates, MAX_CHILDREN, ThreadRow, rows_at, AreKeys, IsStored}
+use Rattle.std.specs.Prelude.{Option}
 
 -- a key that had nothing is none of those that have a row
 pub not_among : (slab : Slab ThreadRow) (keys : List ℕ) (key : ℕ) → AreKeys slab keys → get slab key ≡ None → list_any (λ q. q == key) keys ≡ false
 not_among slab [] key held none = refl
-not_among slab (k ∷ ks) key held none =
-    let rest : list_any (λ q. q == key) ks ≡ false = not_among slab ks key held.2 none in
-    let here : IsSome (get slab k) = held.0 in
-    let other : k ≢ key = λ (e : k ≡ key). let bad : false ≡ true = (rw (e, none) at here) in cc in
-    let differs : (k == key) ≡ false = grind (arith, nat_tests) in
-    rw (differs, rest) refl
+not_among slab (k ∷ ks) key held none = grind (arith, nat_tests, not_among slab ks)
 
 -- where another key changes, the rows stay
 pub rows_stay : (old new : Slab ThreadRow) (keys : List ℕ) (key : ℕ) (slot : Option ThreadRow) → Updates old new key slot
     → list_any (λ q. q == key) keys ≡ false → rows_at new keys ≡ rows_at old keys
 rows_stay old new [] key slot change apart = refl
-rows_stay old new (k ∷ ks) key slot change apart =
-    let other : k ≢ key = grind (arith, nat_tests) in
-    let rest : list_any (λ q. q == key) ks ≡ false = grind (arith, nat_tests) in
-    rw (change.others k other, rows_stay old new ks key slot change rest) refl
+rows_stay old new (k ∷ ks) key slot change apart = grind (arith, nat_tests, rows_stay old new ks key slot change)
 
 AreKeys-stay : (old new : Slab ThreadRow) (keys : List ℕ) (key : ℕ) (slot : Option ThreadRow) → Updates old new key slot
     → list_any (λ q. q == key) keys ≡ false → AreKeys old keys → AreKeys new keys
 AreKeys-stay old new [] key slot change apart held = tt
-AreKeys-stay old new (k ∷ ks) key slot change apart held =
-    let other : k ≢ key = grind (arith, nat_tests) in
-    let rest : list_any (λ q. q == key) ks ≡ false = grind (arith, nat_tests) in
-    (rw (change.others k other) held.0, held.1, AreKeys-stay old new ks key slot change rest held.2)
+AreKeys-stay old new (k ∷ ks) key slot change apart held = grind (arith, nat_tests, AreKeys-stay old new ks key slot change)
 
 length-cons_option : (o : Option ThreadRow) (rows : List ThreadRow) → IsSome o → length (cons_option o rows) ≡ suc (length rows)
-length-cons_option None rows none = let bad : false ≡ true = none in cc
-length-cons_option (Some row) rows some = refl
+length-cons_option o rows some = grind (arith, nat_tests)
 
 -- there are as many rows as keys
 pub length-rows_at : (slab : Slab ThreadRow) (keys : List ℕ) → AreKeys slab keys → length (rows_at slab keys) ≡ length keys
@@ -56,20 +33,12 @@ rows_at-push slab keys k row here = rw (filter_map-append, here) refl
 AreKeys-push : (slab : Slab ThreadRow) (keys : List ℕ) (key : ℕ) → AreKeys slab keys → IsSome (get slab key)
     → list_any (λ q. q == key) keys ≡ false → AreKeys slab (keys ++ key ∷ [])
 AreKeys-push slab [] key held here apart = (here, refl, tt)
-AreKeys-push slab (k ∷ ks) key held here apart =
-    let other : k ≢ key = grind (arith, nat_tests) in
-    let differs : (key == k) ≡ false = grind (arith, nat_tests) in
-    let rest : list_any (λ q. q == key) ks ≡ false = grind (arith, nat_tests) in
-    let alone : list_any (λ q. q == k) (ks ++ key ∷ []) ≡ false = rw list_any-append (rw (held.1, differs) refl) in
-    (held.0, alone, AreKeys-push slab ks key held.2 here rest)
+AreKeys-push slab (k ∷ ks) key held here apart = grind (arith, nat_tests, list_any-append, AreKeys-push slab ks)
 
 -- a key that had nothing and has a row now comes last
 pub AreKeys-more : (old new : Slab ThreadRow) (keys : List ℕ) (key : ℕ) (row : ThreadRow) → AreKeys old keys → get old key ≡ None
     → Updates old new key (Some row) → AreKeys new (keys ++ key ∷ [])
-AreKeys-more old new keys key row held vacant change =
-    let apart = not_among old keys key held vacant in
-    let here : IsSome (get new key) = rw change.changed refl in
-    AreKeys-push new keys key (AreKeys-stay old new keys key (Some row) change apart held) here apart
+AreKeys-more old new keys key row held vacant change = grind (arith, nat_tests, not_among, AreKeys-push, AreKeys-stay)
 
 -- the rows once the first is taken out
 pub AreKeys-fewer : (old new : Slab ThreadRow) (key : ℕ) (keys : List ℕ) → AreKeys old (key ∷ keys) → Updates old new key None → AreKeys new keys
@@ -77,16 +46,13 @@ AreKeys-fewer old new key keys held change = AreKeys-stay old new keys key None 
 
 pub rows_at-first : (old new : Slab ThreadRow) (key : ℕ) (keys : List ℕ) (row : ThreadRow) → AreKeys old (key ∷ keys) → get old key ≡ Some row
     → Updates old new key None → rows_at old (key ∷ keys) ≡ row ∷ rows_at new keys
-rows_at-first old new key keys row held here change =
-    rw (here, rows_stay old new keys key None change held.1) refl
+rows_at-first old new key keys row held here change = grind (arith, nat_tests, rows_stay)
 
 slice_get-cons_option : (o : Option ThreadRow) (rows : List ThreadRow) → IsSome o → slice_get (cons_option o rows) 0 ≡ o
-slice_get-cons_option None rows none = let bad : false ≡ true = none in cc
-slice_get-cons_option (Some row) rows some = refl
+slice_get-cons_option o rows some = grind (arith, nat_tests)
 
 slice_get-suc : (o : Option ThreadRow) (rows : List ThreadRow) (i : ℕ) → IsSome o → slice_get (cons_option o rows) (suc i) ≡ slice_get rows i
-slice_get-suc None rows i none = let bad : false ≡ true = none in cc
-slice_get-suc (Some row) rows i some = refl
+slice_get-suc o rows i some = grind (arith, nat_tests)
 
 -- the row of a place is that of its key
 pub row_at : (slab : Slab ThreadRow) (keys : List ℕ) (i d : ℕ) → AreKeys slab keys → i < length keys
@@ -96,27 +62,14 @@ row_at slab (k ∷ ks) zero d held h = slice_get-cons_option (get slab k) (rows_
 row_at slab (k ∷ ks) (suc i) d held h = slice_get-suc (get slab k) (rows_at slab ks) i held.0 ∙ row_at slab ks i d held.2 (omega arith)
 
 pub no_row_at : (slab : Slab ThreadRow) (keys : List ℕ) (i : ℕ) → AreKeys slab keys → length keys ≤ i → slice_get (rows_at slab keys) i ≡ None
-no_row_at slab keys i held past =
-    let same = length-rows_at slab keys held in
-    slice_get_past (rows_at slab keys) i (omega arith)
+no_row_at slab keys i held past = grind (arith, nat_tests, length-rows_at, slice_get_past)
 
 -- what is left once the first row is taken out
 pub first_out : (old new : Slab ThreadRow) (keys rest : List ℕ) (key : ℕ) (row : ThreadRow) → IsStored old keys → 0 < length keys
     → key ≡ get_or keys 0 key → rest ≡ remove keys 0 → get old key ≡ Some row → Updates old new key None
     → slab_len new + 1 ≡ slab_len old → new.capacity ≡ old.capacity
     → IsStored new rest × (rows_at old keys ≡ row ∷ rows_at new rest) × (length rest < MAX_CHILDREN)
-first_out old new [] rest key row stored some is left here change fewer same = absurd (omega arith)
-first_out old new (k ∷ ks) rest key row stored some is left here change fewer same =
-    let there : get old k ≡ Some row = rw is at here in
-    let changed : Updates old new k None = subst (λ (q : ℕ). Updates old new q None) is change in
-    let held = stored.held in
-    let kept : AreKeys new rest = subst (AreKeys new) (sym left) (AreKeys-fewer old new k ks held changed) in
-    let rows : rows_at old (k ∷ ks) ≡ row ∷ rows_at new rest =
-    rows_at-first old new k ks row held there changed ∙ ap (λ (q : List ℕ). row ∷ rows_at new q) (sym left) in
-    let less : length rest ≡ length ks = ap length left in
-    let few = stored.few in
-    let room = stored.room in
-    (record { held = kept; room = omega arith; few = omega arith }, rows, omega arith)
+first_out old new keys rest key row stored some is left here change fewer same = grind (arith, nat_tests, AreKeys-fewer, rows_at-first)
 
 -- whether one of the rows from a key on passes a test
 pub any-turn : (test : ThreadRow → Bool) (slab : Slab ThreadRow) (keys : List ℕ) (i d : ℕ) → i < length keys

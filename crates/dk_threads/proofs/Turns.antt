@@ -1,11 +1,7 @@
 -- Rows that are taken from the front one by one and put back at the end as what becomes of them.
-use Rattle.std.proofs.Common.{◌≡◌, ◌<◌, ◌∙◌, ℕ, suc, get_or, sym, ◌+◌, add-one, List, [], ◌∷◌, ◌++◌, append_assoc, length, take, drop, map, refl, ap}
-use Rattle.std.specs.Prelude.{Option, Some, filter_map}
-use Rattle.std.specs.List.{cons_option}
-use Rattle.std.proofs.lemmas.List.{take_more}
-use Rattle.std.proofs.lemmas.List.Elements.{filter_map-append}
+use Rattle.dk_threads.proofs.Names.{◌≡◌, ◌<◌, ◌∙◌, ℕ, suc, get_or, sym, ◌+◌, add-one, List, [], ◌∷◌, ◌++◌, append_assoc, length, take, drop, map, refl, ap, Some, filter_map, cons_option, take_more, filter_map-append, ThreadRow, nat_tests, arith}
+use Rattle.std.specs.Prelude.{Option}
 use Rattle.std.proofs.Math.Seq.{drop-cons}
-use Rattle.dk_threads.specs.declared.row.ThreadRow.{ThreadRow}
 
 -- the rows once the first i had their turn
 abbrev pub turned : (ThreadRow → Option ThreadRow) → ℕ → List ThreadRow → List ThreadRow
@@ -34,8 +30,7 @@ turned-more f i rows row rest h is =
 -- the row whose turn it is
 pub turned-row : (f : ThreadRow → Option ThreadRow) (i : ℕ) (rows : List ThreadRow) (row : ThreadRow) (rest : List ThreadRow) → i < length rows
     → turned f i rows ≡ row ∷ rest → row ≡ get_or rows i row
-turned-row f i rows row rest h is =
-    let first = turned-first f i rows row h in cc
+turned-row f i rows row rest h is = grind (arith, nat_tests, turned-first)
 
 pub filter_map-some : (f : ThreadRow → ThreadRow) (rows : List ThreadRow) → filter_map (λ row. Some (f row)) rows ≡ map f rows
 filter_map-some f [] = refl
@@ -44,7 +39,4 @@ filter_map-some f (row ∷ rows) = ap (λ (xs : List ThreadRow). f row ∷ xs) (
 -- a turn: the first row is taken out, and what becomes of it put back
 pub turned-step : (f : ThreadRow → Option ThreadRow) (i : ℕ) (rows now rest new : List ThreadRow) (row : ThreadRow) (next : Option ThreadRow) → i < length rows
     → now ≡ turned f i rows → now ≡ row ∷ rest → next ≡ f row → new ≡ rest ++ cons_option next [] → new ≡ turned f (i + 1) rows
-turned-step f i rows now rest new row next h is first becomes back =
-    back
-    ∙ ap (λ (o : Option ThreadRow). rest ++ cons_option o []) becomes
-    ∙ turned-more f i rows row rest h (sym is ∙ first)
+turned-step f i rows now rest new row next h is first becomes back = grind (arith, nat_tests, turned-more)

@@ -9,12 +9,11 @@ use Rattle.dk_trace.specs.Entries.{thread_of}
 use Rattle.dk_ledger.specs.declared.line.LedgerLine.{LedgerLine}
 use Rattle.dk_ledger.specs.Heading.{Heading, IsPrintable}
 use Rattle.dk_ledger.specs.LineText.{thread_text}
-use Rattle.dk_ledger.specs.Words.{event_words, line_words}
-use Rattle.dk_ledger.proofs.Split.{all_append}
-use Rattle.dk_entry_words.specs.Arguments.{work_words}
-use Rattle.dk_entry_words.specs.Laws.{is_spelled}
+use Rattle.dk_ledger.specs.Words.{event_words, is_spelled, line_words}
+use Rattle.dk_ledger.proofs.Spelled.{all_append, event_spelled, line_spelled, number_spelled, thread_spelled}
+use Rattle.dk_entry_words.specs.Works.{work_words}
 use Rattle.dk_entry_words.specs.Parted.{parted}
-use Rattle.dk_entry_words.proofs.Spelled.{event_spelled, line_spelled, number_spelled, parted_all, thread_spelled, word_all, work_words_spelled}
+use Rattle.dk_entry_words.proofs.Spelled.{parted_all, word_all, work_words_spelled}
 use Rattle.dk_holds.specs.declared.holding.Holding.{Holding}
 use Rattle.dk_vcd.specs.Holders.{holder_value}
 use Rattle.dk_vcd.specs.Laws.{IsDense, is_dense}
@@ -45,9 +44,9 @@ row_dense label =
 
 module _ (h : Heading) (is : IsPrintable h) where
   pub line_dense : (g : LedgerLine) → IsDense (line_value h g)
-  line_dense g = parted_all is_dense spelled_dense 44 refl (line_words h g) (line_spelled h is g)
+  line_dense g = parted_all is_dense spelled_dense 44 refl (line_words h g) (line_spelled h is.names g)
 
   -- who holds a mutex
   pub holder_dense : (o : Option Holding) → IsDense (holder_value h o)
   holder_dense None = refl
-  holder_dense (Some x) = word_all is_dense spelled_dense (thread_text h x.thread) (thread_spelled h is x.thread)
+  holder_dense (Some x) = word_all is_dense spelled_dense (thread_text h x.thread) (thread_spelled h is.names x.thread)

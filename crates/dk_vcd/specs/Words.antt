@@ -7,7 +7,7 @@ use Rattle.dk_trace.specs.Entries.{thread_of}
 use Rattle.dk_ledger.specs.declared.line.LedgerLine.{LedgerLine}
 use Rattle.dk_ledger.specs.Heading.{Heading}
 use Rattle.dk_ledger.specs.Words.{event_words, line_words}
-use Rattle.dk_entry_words.specs.Arguments.{work_words}
+use Rattle.dk_entry_words.specs.Works.{work_words}
 use Rattle.dk_entry_words.specs.Parted.{parted}
 
 -- the serial of a child, whose signal is that of all children of its process

@@ -12,7 +12,6 @@ ghost use Rattle.dk_vcd.specs.Holders.{event_before, moved_text};
 use crate::holders::write_moved;
 use crate::signals::{Signal, push_code, push_emptied, row_of, same_row};
 use crate::words::{push_event, push_line, push_row};
-use dk_entry_words::thread_of;
 use dk_holds::Holders;
 use dk_ledger::{Header, LedgerLine, TextLine};
 use dk_outside::{Sink, SinkError};
@@ -52,7 +51,7 @@ fn start_of(header: &Header, before: Option<LedgerLine>, group: LedgerLine) -> T
 fn mark_of(group: LedgerLine) -> Option<u8>
     ensures { result ≡ mark_of group }
 {
-    match thread_of(group.label) {
+    match group.label.thread() {
         Some(thread) => match group.event {
             Some(_) => Some(thread.process),
             None => None,
@@ -133,7 +132,7 @@ fn push_mark(text: &mut TextLine, group: LedgerLine)
     ensures bytes { text.new ≡ text.old ++ mark_text group (thread_of group.label) group.event }
     ensures len { length text.new ≤ length text.old + 66 }
 {
-    match thread_of(group.label) {
+    match group.label.thread() {
         None => {}
         Some(thread) => match group.event {
             None => {}

@@ -4,7 +4,7 @@ ghost use Rattle.dk_ledger.specs.Heading.{IsPrintable};
 ghost use Rattle.dk_ledger.specs.LineText.{IsNamed};
 ghost use Rattle.dk_vcd.specs.Words.{child_part, event_value, line_value, row_value};
 
-use dk_entry_words::{Separator, event_words, line_words, thread_of, work_words};
+use dk_entry_words::{Separator, event_words, line_words, work_words};
 use dk_ledger::{Header, LedgerLine, TextLine};
 use dk_trace::{Event, Label, ThreadId};
 
@@ -27,7 +27,7 @@ pub(crate) fn push_row(text: &mut TextLine, label: Label)
     ensures bytes { text.new ≡ text.old ++ row_value label }
     ensures len { length text.new ≤ length text.old + 42 }
 {
-    push_child(text, thread_of(label));
+    push_child(text, label.thread());
     text.word(work_words(label, Separator::Comma).as_str());
 }
 

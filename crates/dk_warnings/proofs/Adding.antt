@@ -1,7 +1,6 @@
 -- What is added to a list one by one, for each number from 0 on.
-use Rattle.std.proofs.Common.{◌≡◌, ◌∙◌, ◌+◌, ◌++◌, ℕ, zero, suc, List, ap, sym, arith, append_assoc, append-nil}
+use Rattle.dk_warnings.proofs.Names.{◌≡◌, ◌∙◌, ◌+◌, ◌++◌, ℕ, zero, suc, List, ap, sym, arith, append_assoc, append-nil, numbers, below, nat_tests}
 use Rattle.std.specs.Prelude.{flat_map}
-use Rattle.dk_config.specs.Sums.{numbers, below}
 
 more-from : {A : Type 0} (f : ℕ → List A) (low n : ℕ) → flat_map f (numbers low (suc n)) ≡ flat_map f (numbers low n) ++ f (low + n)
 more-from f low zero = append-nil (f low) ∙ ap f (omega arith)
@@ -11,10 +10,7 @@ more-from f low (suc n) =
     ap (λ t. f low ++ t) (more-from f (suc low) n ∙ ap (λ k. rest ++ f k) next) ∙ sym (append_assoc (f low) rest (f (low + suc n)))
 
 one_more : {A : Type 0} (f : ℕ → List A) (i : ℕ) → flat_map f (below (i + 1)) ≡ flat_map f (below i) ++ f i
-one_more f i =
-    let up : i + 1 ≡ suc i = omega arith in
-    let same : 0 + i ≡ i = omega arith in
-    ap (λ k. flat_map f (below k)) up ∙ more-from f 0 i ∙ ap (λ k. flat_map f (below i) ++ f k) same
+one_more f i = grind (arith, nat_tests, more-from)
 
 -- what the next number stands for was added
 pub each_added : {A : Type 0} (f : ℕ → List A) (n : ℕ) (old between new : List A) → new ≡ between ++ f n

@@ -1,34 +1,8 @@
 -- A process whose greatest share has room for a hold can lock it, by its main or by a child that has that share.
-use Rattle.std.proofs.Common.{ℕ, suc, ◌≡◌, ◌+◌, ◌-◌, ◌*◌, ◌/◌, ◌%◌, ◌<◌, ◌≤◌, inl, inr, Bool, true, false, cond, ltb, eqb, leb, List, [], ◌∷◌, ◌++◌, length, refl, sym, ap, ◌∙◌, subst, arith, ◌||◌, ◌&&◌}
-use Rattle.std.specs.Prelude.{Some, None, MatchOption, not, find, filter, map, sum_by}
-use Rattle.std.proofs.lemmas.Bool.{cases_Bool, cases_lt, or_from, eq-eqb, le-ltb, lt-leb}
-use Rattle.std.proofs.lemmas.Bool.Decides.{nat_tests}
+use Rattle.dk_warnings.proofs.Names.{ℕ, suc, ◌≡◌, ◌+◌, ◌-◌, ◌*◌, ◌/◌, ◌%◌, ◌<◌, ◌≤◌, inl, inr, Bool, true, false, cond, eqb, leb, List, [], ◌∷◌, length, refl, sym, ap, ◌∙◌, subst, arith, Some, None, not, find, filter, cases_Bool, cases_lt, or_from, eq-eqb, le-ltb, lt-leb, nat_tests, zero-mod, Configuration, IsChecked, IsAccepted, period, budget, longest_hold, main_level, max_level, slots, window_end, is_user, Work, Label, Choice, Refusal, Event, Entry, Has, is_same, quiet, Thread, main_thread, family, share, is_main, is_void, is_ended_by, Received, least_share, first_refusal, create_refusal, standing_children, Audited, label_of, family-charged, same-self, Always, ChoosesWithCause, IsLocked, NeverFits, greatest_child_share}
+use Rattle.std.proofs.Common.{◌&&◌}
 use Rattle.std.proofs.lemmas.Nat.Gcd.{mod-eq-zero_of_dvd}
-use Rattle.std.proofs.Math.Nat.{zero-mod}
-use Rattle.dk_config.specs.Configuration.{Configuration}
-use Rattle.dk_config.specs.Checked.{IsChecked, IsAccepted}
-use Rattle.dk_config.specs.Windows.{period, budget, longest_hold, main_level, max_level, slots, window_end}
-use Rattle.dk_config.specs.Certification.{is_user}
-use Rattle.dk_trace.specs.declared.Work.{Work}
-use Rattle.dk_trace.specs.declared.Label.{Label}
-use Rattle.dk_trace.specs.declared.Choice.{Choice}
-use Rattle.dk_trace.specs.declared.Refusal.{Refusal}
-use Rattle.dk_trace.specs.declared.Event.{Event}
-use Rattle.dk_trace.specs.declared.Entry.{Entry}
-use Rattle.dk_trace.specs.Members.{Has}
-use Rattle.dk_trace.specs.Entries.{is_same, is_of, quiet, stops}
-use Rattle.dk_trace.specs.Threads.{Thread, main_thread, family, share, after_entry, is_main, is_void, is_ended_by}
-use Rattle.dk_trace.specs.Holds.{aged, innermost_left}
-use Rattle.dk_trace.specs.Guarantees.{Received}
-use Rattle.dk_trace.specs.Refusals.{least_share, first_refusal, create_refusal, standing_children}
-use Rattle.dk_trace.specs.Audit.{Audited, label_of}
-use Rattle.dk_trace.proofs.Charged.{family-charged}
 use Rattle.dk_trace.proofs.Rows.{window_end-above, dvd-end}
-use Rattle.dk_trace.proofs.Same.{same-self}
-use Rattle.dk_bound.specs.Laws.{Always}
-use Rattle.dk_bound.specs.Statements.{ChoosesWithCause}
-use Rattle.dk_warnings.specs.Fitting.{IsLocked}
-use Rattle.dk_warnings.specs.Warnings.{NeverFits, greatest_child_share}
 use Rattle.dk_warnings.proofs.QuietRuns.{IsFree, quiet_run, length-quiet, held-none, family-quiet, quiet-audited}
 use Rattle.dk_warnings.proofs.FirstLock.{Begins, FirstBody, first-body, locked}
 
@@ -109,18 +83,7 @@ module _ (c : Configuration) (p : ℕ) (checked : IsChecked c) (accepted : IsAcc
     no-children = ap (filter (λ y. not (is_main y) && not (is_void y) && not (is_ended_by c n y))) family-charged-past
 
     create-free : create_refusal c n (quiet (Label.Call main.id) ∷ past) main L quota 0 1 ≡ None
-    create-free =
-        let kids = standing_children c n (quiet (Label.Call main.id) ∷ past) p in
-        let least = checked.budgets p known in
-        let is = child_share_is in
-        unrefused false (ltb L (main_level c p) || ltb (max_level c p) L) false (leb (slots c p) (length kids)) (ltb ((quota * P) / period c (main_level c p)) (least_share c))
-        (ltb (budget c p) (sum_by (λ y. y.quota) kids + quota + least_share c))
-        refl
-        (or_from (ltb L (main_level c p)) (ltb (max_level c p) L) (le-ltb L (main_level c p) (checked.slowest p known)) (le-ltb (max_level c p) L (omega arith)))
-        refl
-        (ap (λ ys. leb (slots c p) (length ys)) no-children ∙ lt-leb (slots c p) 0 some)
-        (le-ltb ((quota * P) / period c (main_level c p)) (least_share c) (omega (arith, is, enough)))
-        (ap (λ ys. ltb (budget c p) (sum_by (λ y. y.quota) ys + quota + least_share c)) no-children ∙ le-ltb (budget c p) (0 + quota + least_share c) (omega (arith, least)))
+    create-free = grind (arith, nat_tests, child_share_is, unrefused, or_from, le-ltb, no-children, lt-leb)
 
     made-audited : Audited c (made ∷ past)
     made-audited = (
@@ -128,39 +91,22 @@ module _ (c : Configuration) (p : ℕ) (checked : IsChecked c) (accepted : IsAcc
       record {
         choice = inr (sym (ap (λ (ch : Choice). label_of ch Work.Call) first.1.choice));
         work = tt;
-        thread = record {
-          fault = λ h. absurd (cc);
-          last = λ h. (let zero_is : 0 ≡ 1 = sym (ap (innermost_left c) (free-past main.id)) ∙ h in absurd (omega arith));
-          met = (sym (ap length family-past), subst (λ o. MatchOption o ⊥ (λ row. create_refusal c n (quiet (Label.Call main.id) ∷ past) row L quota 0 1 ≡ None)) (sym first.1.found) create-free);
-        };
+        thread = grind (arith, nat_tests, free-past, family-past, create-free);
       },
     )
 
     made-free : IsFree (made ∷ past)
-    made-free x =
-        elim (cases_Bool (stops x made)) [
-          | inl stopped ↦ rw stopped refl
-          | inr runs ↦
-              elim (cases_Bool (is_of x made)) [
-                | inl mine ↦ rw runs (rw mine (ap (map aged) (free-past x)))
-                | inr other ↦ rw runs (rw other (free-past x))
-              ]
-        ]
+    made-free x = grind (arith, nat_tests, free-past)
 
     family-made : family c p (made ∷ past) ≡ main ∷ child ∷ []
-    family-made =
-        let both : map (after_entry made n) (main ∷ []) ++ cond (is_of main.id made) (child ∷ []) [] ≡ main ∷ child ∷ [] = rw (same-self main.id) refl in
-        ap (λ ys. map (after_entry made n) ys ++ cond (is_of main.id made) (child ∷ []) []) family-past ∙ both
+    family-made = grind (arith, nat_tests, same-self, family-past)
 
     -- the child's first window
     abbrev base : List Entry
     base = quiet_run c (made ∷ past) (window_end c L n - suc n)
 
     base-length : length base ≡ window_end c L n
-    base-length =
-        let long = length-quiet c (made ∷ past) (window_end c L n - suc n) in
-        let above = window_end-above c L n (checked.positive L (checked.reaches p known)) in
-        omega (arith, long, above)
+    base-length = grind (arith, nat_tests, length-quiet, window_end-above)
 
     base-audited : Audited c base
     base-audited = quiet-audited c (made ∷ past) (window_end c L n - suc n) made-audited made-free
@@ -190,9 +136,7 @@ module _ (c : Configuration) (p : ℕ) (checked : IsChecked c) (accepted : IsAcc
         }
 
     child-share : share c base child (length base) ≡ greatest_child_share c p
-    child-share =
-        let now : share c base child (window_end c L n) ≡ (quota * P) / period c (main_level c p) = rw (up-to-itself (window_end c L n)) refl in
-        ap (share c base child) base-length ∙ now ∙ sym child_share_is
+    child-share = grind (arith, nat_tests, up-to-itself, base-length, child_share_is)
 
     by-child : (m : ℕ) → is_user c m p ≡ true → longest_hold c m + least_share c ≤ greatest_child_share c p → IsLocked c p m
     by-child m user fits = locked c base child child-begins m p refl user (let is = child-share in omega (arith, is, fits))

@@ -1,25 +1,5 @@
 -- Where no child fits a budget, each create is refused.
-use Rattle.std.proofs.Common.{ℕ, ◌≡◌, ◌+◌, ◌-◌, ◌*◌, ◌/◌, ◌<◌, ◌≤◌, true, false, ◌||◌, eqb, ltb, List, ◌∷◌, length, refl, sym, ap, subst, arith}
-use Rattle.std.specs.Prelude.{Option, Some, None, MatchOption, sum_by}
-use Rattle.std.proofs.lemmas.Bool.{and_parts}
-use Rattle.std.proofs.lemmas.Bool.Decides.{nat_tests}
-use Rattle.std.proofs.Math.Nat.{mul-le-mul, le_of_dvd}
-use Rattle.dk_config.specs.Configuration.{Configuration}
-use Rattle.dk_config.specs.Checked.{IsChecked}
-use Rattle.dk_config.specs.Windows.{budget, main_level, max_level, period, slots}
-use Rattle.dk_trace.specs.declared.ThreadId.{ThreadId}
-use Rattle.dk_trace.specs.declared.Event.{Event}
-use Rattle.dk_trace.specs.declared.Entry.{Entry}
-use Rattle.dk_trace.specs.Entries.{is_same, quiet, thread_of}
-use Rattle.dk_trace.specs.Threads.{Thread, family}
-use Rattle.dk_trace.specs.Refusals.{create_reasons, create_refusal, least_share, standing_children}
-use Rattle.dk_trace.specs.Audit.{Follows, HasNextSerial, ThreadFollows, done_refusal, row_of}
-use Rattle.dk_trace.proofs.Events.{none-holds}
-use Rattle.dk_trace.proofs.Members.{find-has}
-use Rattle.dk_trace.proofs.Same.{same-id}
-use Rattle.dk_warnings.specs.Warnings.{greatest_child_share}
-use Rattle.dk_warnings.specs.Found.{has_no_child}
-use Rattle.dk_warnings.specs.Told.{CreatesRefused, MakesNoChild, OfEachEntry}
+use Rattle.dk_warnings.proofs.Names.{ℕ, ◌≡◌, ◌+◌, ◌-◌, ◌*◌, ◌/◌, ◌<◌, ◌≤◌, true, false, eqb, List, ◌∷◌, length, refl, sym, ap, subst, arith, Option, Some, None, MatchOption, and_parts, nat_tests, mul-le-mul, le_of_dvd, Configuration, IsChecked, budget, main_level, max_level, period, slots, ThreadId, Event, Entry, is_same, quiet, thread_of, Thread, family, create_refusal, least_share, Follows, done_refusal, row_of, none-holds, find-has, same-id, greatest_child_share, has_no_child, CreatesRefused, MakesNoChild, OfEachEntry}
 use Rattle.dk_warnings.proofs.GreatestShares.{div-rises}
 
 -- no child that the budget has room for has a greater share
@@ -32,40 +12,17 @@ share-room c p level quota checked known high room some =
     let longer : period c level ≤ period c (max_level c p) = le_of_dvd positive (checked.divides level (max_level c p) high reach) in
     let less : quota ≤ budget c p - least_share c = omega arith in
     let more : quota * period c level ≤ (budget c p - least_share c) * period c (max_level c p) = mul-le-mul less longer in
-    let shares : (quota * period c level) / period c (main_level c p) ≤ ((budget c p - least_share c) * period c (max_level c p)) / period c (main_level c p) =
-    div-rises (quota * period c level) ((budget c p - least_share c) * period c (max_level c p)) (period c (main_level c p)) own more in
+    let shares : (quota * period c level) / period c (main_level c p) ≤ ((budget c p - least_share c) * period c (max_level c p)) / period c (main_level c p) = grind (arith, nat_tests, div-rises) in
     let any : eqb (slots c p) 0 ≡ false = grind (arith, nat_tests) in
     rw any shares
 
 pub creates-refused : (c : Configuration) (p : ℕ) → IsChecked c → p < length c.processes → has_no_child c p ≡ true → CreatesRefused c p
-creates-refused c p checked known none now past x level quota entry instructions same free =
-    let q = x.id.process in
-    let children = standing_children c now past q in
-    let met = none-holds (create_reasons c now past x level quota entry instructions) free in
-    let levels : (ltb level (main_level c q) || ltb (max_level c q) level) ≡ false = met.1.0 in
-    let enough : ltb ((quota * period c level) / period c (main_level c q)) (least_share c) ≡ false = met.1.1.1.1.0 in
-    let fits : ltb (budget c q) (sum_by (λ y. y.quota) children + quota + least_share c) ≡ false = met.1.1.1.1.1.0 in
-    let high : level ≤ max_level c q = grind (arith, nat_tests) in
-    let all : sum_by (λ y. y.quota) children + quota + least_share c ≤ budget c q = grind (arith, nat_tests) in
-    let room : quota + least_share c ≤ budget c q = omega arith in
-    let there : q < length c.processes = subst (λ k. k < length c.processes) (sym same) known in
-    let parts = and_parts (ltb 0 (slots c q)) (ltb (greatest_child_share c q) (least_share c)) (subst (λ k. has_no_child c k ≡ true) (sym same) none) in
-    let some : ltb 0 (slots c q) ≡ true = parts.0 in
-    let little : ltb (greatest_child_share c q) (least_share c) ≡ true = parts.1 in
-    let may : 0 < slots c q = grind (arith, nat_tests) in
-    let below : greatest_child_share c q < least_share c = grind (arith, nat_tests) in
-    let least : least_share c ≤ (quota * period c level) / period c (main_level c q) = grind (arith, nat_tests) in
-    let share = share-room c q level quota checked there high room may in
-    absurd (omega arith)
+creates-refused c p checked known none now past x level quota entry instructions same free = grind (arith, nat_tests, none-holds, and_parts, share-room)
 
 -- whoever did a call has a row, and it wasn't refused
 pub met-call : (c : Configuration) (past : List Entry) (e : Entry) (x : ThreadId) (event : Event) → Follows c past e → thread_of e.label ≡ Some x → e.event ≡ Some event
     → MatchOption (row_of c past x) ⊥ (λ row. done_refusal c (length past) (quiet e.label ∷ past) row event ≡ None)
-met-call c past e x event follows thread is =
-    let acts : ThreadFollows c past e x = subst (λ o. MatchOption o (Unit {0}) (ThreadFollows c past e)) thread follows.thread in
-    let at = subst (λ o. MatchOption o (Unit {0}) (λ event. HasNextSerial c past x event
-    × MatchOption (row_of c past x) ⊥ (λ row. done_refusal c (length past) (quiet e.label ∷ past) row event ≡ None))) is acts.met in
-    at.1
+met-call c past e x event follows thread is = grind (arith, nat_tests)
 
 -- its row has its name
 pub row-id : (c : Configuration) (past : List Entry) (x : ThreadId) (row : Thread) → row_of c past x ≡ Some row → x ≡ row.id

@@ -1,45 +1,11 @@
 -- A thread locks a mutex whose hold its share has room for, in the run in which nobody else calls.
-use Rattle.std.proofs.Common.{ℕ, suc, ◌≡◌, ◌+◌, ◌-◌, ◌*◌, ◌%◌, ◌<◌, ◌≤◌, inl, inr, Bool, true, false, cond, ltb, leb, List, [], ◌∷◌, length, take, drop, refl, sym, ap, ◌∙◌, subst, arith, ◌||◌}
-use Rattle.std.specs.Prelude.{Some, None, MatchOption, IsTrue, ◌&&◌, not, find, count_by}
-use Rattle.std.specs.List.{list_any}
-use Rattle.std.specs.Option.{option_map_or}
-use Rattle.std.proofs.lemmas.Bool.Decides.{nat_tests}
-use Rattle.std.proofs.Math.Nat.{mod-eq_of_lt, add-mod}
-use Rattle.dk_config.specs.Configuration.{Configuration}
-use Rattle.dk_config.specs.Windows.{period, longest_hold, window_start, window_end}
-use Rattle.dk_config.specs.Certification.{is_user}
-use Rattle.dk_trace.specs.declared.ThreadId.{ThreadId}
-use Rattle.dk_trace.specs.declared.Phase.{Phase}
-use Rattle.dk_trace.specs.declared.Work.{Work}
-use Rattle.dk_trace.specs.declared.Label.{Label}
-use Rattle.dk_trace.specs.declared.Choice.{Choice}
-use Rattle.dk_trace.specs.declared.Refusal.{Refusal}
-use Rattle.dk_trace.specs.declared.Event.{Event}
-use Rattle.dk_trace.specs.declared.Entry.{Entry}
-use Rattle.dk_trace.specs.Members.{Has}
-use Rattle.dk_trace.specs.Entries.{is_same, payer, is_budget_of, is_out_of, is_wait, does, quiet, window}
-use Rattle.dk_trace.specs.Threads.{Thread, family, threads, share}
-use Rattle.dk_trace.specs.Jobs.{Job, job, phase, is_closed, is_stopped_in, thread_body_left, body_left}
-use Rattle.dk_trace.specs.Holds.{held_by, is_held, is_holding, innermost_left}
-use Rattle.dk_trace.specs.Choices.{chosen}
-use Rattle.dk_trace.specs.Guarantees.{ThreadsReceived, job_from, past_at}
-use Rattle.dk_trace.specs.Refusals.{least_share, lock_refusal, first_refusal}
-use Rattle.dk_trace.specs.Audit.{Audited, label_of, row_of}
-use Rattle.dk_trace.proofs.Charged.{the_job, job-charged}
+use Rattle.dk_warnings.proofs.Names.{ℕ, suc, ◌≡◌, ◌+◌, ◌-◌, ◌*◌, ◌%◌, ◌<◌, ◌≤◌, inl, inr, Bool, true, false, cond, ltb, List, [], ◌∷◌, length, drop, refl, sym, ap, ◌∙◌, subst, arith, Some, None, IsTrue, find, count_by, nat_tests, mod-eq_of_lt, add-mod, Configuration, period, longest_hold, window_start, is_user, ThreadId, Phase, Work, Label, Choice, Refusal, Event, Entry, Has, is_same, payer, is_budget_of, is_out_of, quiet, window, Thread, family, threads, share, Job, job, phase, is_closed, is_stopped_in, thread_body_left, body_left, held_by, chosen, ThreadsReceived, job_from, past_at, least_share, lock_refusal, first_refusal, Audited, label_of, row_of, the_job, job-charged, same-id, HasCause, ChoosesWithCause, among-threads, budget-labels, IsLocked}
 use Rattle.dk_trace.proofs.Windows.{count_by-cons}
-use Rattle.dk_trace.proofs.Same.{same-id}
-use Rattle.dk_bound.specs.Statements.{HasCause, ChoosesWithCause}
-use Rattle.dk_trace.proofs.RowsFit.{among-threads}
-use Rattle.dk_trace.proofs.Labels.{budget-labels}
 use Rattle.dk_trace.proofs.Starts.{one_or_none}
-use Rattle.dk_warnings.specs.Fitting.{IsLocked}
 use Rattle.dk_warnings.proofs.QuietRuns.{IsFree, quiet_run, new_entries, length-quiet, take-quiet, drop-quiet, held-quiet, held-none, family-quiet, share-quiet, quiet-audited, no-waits, passes-at}
 
 body-phase : (W : ℕ) (j : Job) → j.closed ≡ false → j.used ≡ W → 2 * W + 1 ≤ j.share → phase W j ≡ Phase.Body
-body-phase W j stands used room =
-    let late : ltb j.used W ≡ false = grind (arith, nat_tests) in
-    let early : ltb j.used (j.share - W) ≡ true = grind (arith, nat_tests) in
-    rw (stands, late, early) refl
+body-phase W j stands used room = grind (arith, nat_tests)
 
 body-room : (W hold spent outs : ℕ) (j : Job) → j.closed ≡ false → j.used ≡ W → spent ≤ 1 → hold + (2 * W + 1) ≤ j.share
     → hold ≤ body_left W (the_job j.share (spent + j.used) outs j.closed)
@@ -72,8 +38,7 @@ pub record FirstBody (c : Configuration) (base : List Entry) (x : Thread) (t : �
   pub stands : (job c (length (quiet_run c base t)) (quiet_run c base t) x).closed ≡ false
 
 open-shut : (b : Bool) → b ≡ false → IsTrue b → ⊥
-open-shut true stands shut = absurd (cc)
-open-shut false stands shut = absurd (cc)
+open-shut b stands shut = grind (arith, nat_tests)
 
 module _ (c : Configuration) (base : List Entry) (x : Thread) (begins : Begins c base x) where
   abbrev id : ThreadId
@@ -114,19 +79,13 @@ module _ (c : Configuration) (base : List Entry) (x : Thread) (begins : Begins c
       omega (arith, long, at)
 
   window-quiet : (t : ℕ) → t < P → window c (length (quiet_run c base t)) (quiet_run c base t) x.level ≡ new_entries c base t
-  window-quiet t early =
-      let long = length-quiet c base t in
-      let start = start-quiet t early in
-      let count : length (quiet_run c base t) - window_start c x.level (length (quiet_run c base t)) ≡ t = omega (arith, long, start) in
-      ap (λ k. take k (quiet_run c base t)) count ∙ take-quiet c base t
+  window-quiet t early = grind (arith, nat_tests, length-quiet, start-quiet, quiet_run, take-quiet)
 
   never-stopped : (now : ℕ) → is_stopped_in c now x ≡ false
-  never-stopped now =
-      ap (λ o. option_map_or (λ stop. leb (window_start c x.level now) stop && ltb stop (window_end c x.level now)) o false) begins.running
+  never-stopped now = grind (arith, nat_tests)
 
   closed-from : (now t : ℕ) (entries : List Entry) → window c now entries x.level ≡ new_entries c base t → is_closed c now entries x ≡ false
-  closed-from now t entries is =
-      ap (λ es. list_any (does is_wait id) es || is_stopped_in c now x) is ∙ ap (λ b. b || is_stopped_in c now x) (no-waits c base id t) ∙ never-stopped now
+  closed-from now t entries is = grind (arith, nat_tests, no-waits, never-stopped)
 
   -- the share is used up when the window ends
   used-all : used_at P ≡ share c base x S
@@ -139,10 +98,8 @@ module _ (c : Configuration) (base : List Entry) (x : Thread) (begins : Begins c
       let whole : past_at past (S + P) ≡ past = (let none : length past - (S + P) ≡ 0 = omega (arith, long) in ap (λ k. drop k past) none) in
       let front : past_at past S ≡ base = (let rest : length past - S ≡ P = omega (arith, long) in ap (λ k. drop k past) rest ∙ drop-quiet c base P) in
       let aligned = begins.aligned in
-      let all : window c S past x.level ≡ new_entries c base P =
-      (let count : length past - window_start c x.level S ≡ P = omega (arith, long, aligned) in ap (λ k. take k past) count ∙ take-quiet c base P) in
-      let used : (job_from c past x S).used ≡ used_at P =
-      ap (λ entries. count_by (is_budget_of id) (window c S entries x.level)) whole ∙ ap (count_by (is_budget_of id)) all in
+      let all : window c S past x.level ≡ new_entries c base P = grind (arith, nat_tests, take-quiet) in
+      let used : (job_from c past x S).used ≡ used_at P = grind (arith, nat_tests) in
       let due : share c (past_at past S) x S ≡ share c base x S = ap (λ entries. share c entries x S) front in
       let stands : (job_from c past x S).closed ≡ false = ap (λ entries. is_closed c S entries x) whole ∙ closed-from S P past all in
       elim had [
@@ -210,27 +167,11 @@ module _ (c : Configuration) (base : List Entry) (x : Thread) (begins : Begins c
       subst (λ (k : Job). longest_hold c m ≤ body_left W k) (sym (job-charged c (Label.Call id) past x)) left in
       let enough : ltb (thread_body_left c n after x) (longest_hold c m) ≡ false = grind (arith, nat_tests) in
       let uses : is_user c m id.process ≡ true = ap (is_user c m) of_p ∙ user in
-      let free : lock_refusal c n after x m ≡ None =
-      unrefused (not (is_user c m id.process)) (is_held m (held_by id after))
-      (ltb (thread_body_left c n after x) (longest_hold c m) || (is_holding (held_by id after) && leb (innermost_left c (held_by id after)) (longest_hold c m)))
-      (ap not uses) (ap (is_held m) none_held)
-      (ap (λ b. b || (is_holding (held_by id after) && leb (innermost_left c (held_by id after)) (longest_hold c m))) enough
-      ∙ ap (λ hs. is_holding hs && leb (innermost_left c hs) (longest_hold c m)) none_held) in
+      let free : lock_refusal c n after x m ≡ None = grind (arith, nat_tests, unrefused) in
       record {
         past = past;
         entry = record { label = Label.Call id; event = Some (Event.Lock m) };
-        follows = (
-          quiet-audited c base r.0 begins.audited begins.free,
-          record {
-            choice = inr (sym (ap (λ (ch : Choice). label_of ch Work.Call) first.choice));
-            work = tt;
-            thread = record {
-              fault = λ h. absurd (cc);
-              last = λ h. (let zero_is : 0 ≡ 1 = sym (ap (innermost_left c) held) ∙ h in absurd (omega arith));
-              met = (tt, subst (λ o. MatchOption o ⊥ (λ row. lock_refusal c n after row m ≡ None)) (sym first.found) free);
-            };
-          },
-        );
+        follows = grind (arith, nat_tests, quiet-audited);
         locker = id;
         of_process = of_p;
         thread = refl;

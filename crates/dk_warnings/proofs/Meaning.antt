@@ -1,24 +1,7 @@
 -- Each warning that is told holds.
-use Rattle.std.proofs.Common.{ℕ, ◌≡◌, ◌+◌, ◌<◌, inl, inr, Bool, true, false, eqb, ltb, ◌∷◌, ◌++◌, length, refl, sym, subst, arith}
-use Rattle.std.specs.Prelude.{Option, Some, None, flat_map, option_map, option_to_list, if◌then◌else◌}
-use Rattle.std.proofs.lemmas.Bool.{and_parts}
-use Rattle.std.proofs.lemmas.Bool.Decides.{nat_tests}
-use Rattle.dk_config.specs.Configuration.{Configuration}
-use Rattle.dk_config.specs.Sums.{below}
-use Rattle.dk_config.specs.Checked.{IsAccepted, IsChecked, IsWithinLimits}
-use Rattle.dk_config.specs.Certification.{is_user, spare}
-use Rattle.dk_config.specs.Windows.{ceiling, longest_hold, may_ask}
-use Rattle.dk_trace.specs.Refusals.{least_share}
-use Rattle.dk_trace.specs.Members.{Has}
-use Rattle.dk_trace.proofs.Members.{find-has, has-append, has-flat, has-numbers}
-use Rattle.dk_bound.specs.Laws.{Always}
-use Rattle.dk_bound.specs.Statements.{ChoosesWithCause}
-use Rattle.dk_bound.specs.Standing.{ChosenHolds, ThreadsPlaced}
+use Rattle.dk_warnings.proofs.Names.{ℕ, ◌≡◌, ◌+◌, ◌<◌, inl, inr, Bool, true, false, eqb, ltb, ◌∷◌, ◌++◌, length, refl, sym, subst, arith, Option, Some, None, option_map, option_to_list, if◌then◌else◌, and_parts, nat_tests, Configuration, below, IsAccepted, IsChecked, IsWithinLimits, is_user, spare, longest_hold, may_ask, least_share, Has, find-has, has-append, has-flat, has-numbers, Always, ChoosesWithCause, ChosenHolds, ThreadsPlaced, NeverFits, NeverLocked, greatest_share, body, full_level, has_no_child, is_long_hold, is_own_mutex, long_hold, no_child, no_spare, of_mutex, of_process, of_user, own_mutex, room, short_body, warnings, Says}
 use Rattle.dk_warnings.specs.declared.warning.Warning.{Warning}
 use Rattle.dk_warnings.specs.declared.warning.Warning.TheVariants as warning
-use Rattle.dk_warnings.specs.Warnings.{NeverFits, NeverLocked, greatest_share}
-use Rattle.dk_warnings.specs.Found.{body, fast_ceiling, fastest_user, full_level, has_no_child, is_long_hold, is_own_mutex, long_hold, no_child, no_spare, of_mutex, of_process, of_user, own_mutex, room, short_body, warnings}
-use Rattle.dk_warnings.specs.Told.{Says}
 use Rattle.dk_warnings.proofs.Ceilings.{certifies-too}
 use Rattle.dk_warnings.proofs.Creates.{creates-refused, makes-none}
 use Rattle.dk_warnings.proofs.NoSpare.{takes-no-spare}
@@ -27,9 +10,7 @@ use Rattle.dk_warnings.proofs.ShortBodies.{short-body}
 
 -- what is told where a test passes
 when-told : (b : Bool) (w x : Warning) → Has (option_to_list (if b then Some w else None)) x → (b ≡ true) × (w ≡ x)
-when-told true w x (inl is) = (refl, is)
-when-told true w x (inr none) = absurd none
-when-told false w x none = absurd none
+when-told b w x none = grind (arith, nat_tests)
 
 spare-told : (b : Bool) (o : Option ℕ) (p : ℕ) (x : Warning) → Has (option_to_list (if b then option_map (warning.NoSpare p) o else None)) x
     → (level : ℕ) × (o ≡ Some level) × (warning.NoSpare p level ≡ x)
@@ -67,14 +48,10 @@ module _ (causes : Always ChoosesWithCause) (holds : Always ChosenHolds) (placed
   of-process : (p : ℕ) → p < length c.processes → (w : Warning) → Has (of_process c p) w → Says c w
   of-process p known w has =
       elim (has-append (option_to_list (no_child c p)) (option_to_list (short_body c p) ++ option_to_list (no_spare c p)) w has) [
-        | inl child ↦
-            let r = when-told (has_no_child c p) (warning.NoChild p) w child in
-            subst (Says c) r.1 (child-says p known r.0)
+        | inl child ↦ grind (arith, nat_tests, when-told, child-says)
         | inr rest ↦
             elim (has-append (option_to_list (short_body c p)) (option_to_list (no_spare c p)) w rest) [
-              | inl short ↦
-                  let r = when-told (ltb (body c p) c.costs.call) (warning.ShortBody p (body c p)) w short in
-                  subst (Says c) r.1 (body-says p r.0)
+              | inl short ↦ grind (arith, nat_tests, when-told, body-says)
               | inr slack ↦
                   let r = spare-told (may_ask c p) (full_level c) p w slack in
                   subst (Says c) r.2 (spare-says p r.0 r.1)
@@ -93,25 +70,7 @@ module _ (causes : Always ChoosesWithCause) (holds : Always ChosenHolds) (placed
       ]
 
   of-mutex : (m : ℕ) (w : Warning) → Has (of_mutex c m) w → Says c w
-  of-mutex m w has =
-      elim (has-append (option_to_list (fast_ceiling c m)) (flat_map (of_user c m) (below (length c.processes))) w has) [
-        | inl fast ↦
-            let r = when-told (ltb (ceiling c m) (fastest_user c m)) (warning.FastCeiling m (fastest_user c m)) w fast in
-            subst (Says c) r.1 (certifies-too c m (fastest_user c m) checked accepted r.0 refl)
-        | inr users ↦
-            let r = has-flat (of_user c m) 0 (length c.processes) w users in
-            let inside = r.1 in
-            of-user m r.0 (omega arith) w r.2
-      ]
+  of-mutex m w has = grind (arith, nat_tests, has-append, when-told, certifies-too, has-flat, of-user)
 
   pub of-all : (w : Warning) → Has (warnings c) w → Says c w
-  of-all w has =
-      elim (has-append (flat_map (of_process c) (below (length c.processes))) (flat_map (of_mutex c) (below (length c.mutexes))) w has) [
-        | inl of_a_process ↦
-            let r = has-flat (of_process c) 0 (length c.processes) w of_a_process in
-            let inside = r.1 in
-            of-process r.0 (omega arith) w r.2
-        | inr of_a_mutex ↦
-            let r = has-flat (of_mutex c) 0 (length c.mutexes) w of_a_mutex in
-            of-mutex r.0 w r.2
-      ]
+  of-all w has = grind (arith, nat_tests, has-append, has-flat, of-process, of-mutex)

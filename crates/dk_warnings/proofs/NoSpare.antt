@@ -1,25 +1,8 @@
 -- Where a level has no spare, no slack comes from the timeline.
-use Rattle.std.proofs.Common.{ℕ, ◌≡◌, ◌<◌, inl, inr, false, ltb, List, [], ◌∷◌, length, refl, sym, ap, ◌∙◌, arith}
-use Rattle.std.specs.Prelude.{Option, Some, None}
-use Rattle.std.specs.Option.{option_map_or, option_or}
-use Rattle.std.proofs.lemmas.Bool.Decides.{nat_tests}
-use Rattle.dk_config.specs.Configuration.{Configuration}
-use Rattle.dk_config.specs.Sums.{below, first_of}
-use Rattle.dk_config.specs.Certification.{spare}
-use Rattle.dk_trace.specs.declared.ThreadId.{ThreadId}
-use Rattle.dk_trace.specs.declared.Phase.{Phase}
-use Rattle.dk_trace.specs.declared.Work.{Work}
+use Rattle.dk_warnings.proofs.Names.{ℕ, ◌≡◌, ◌<◌, inl, inr, false, ltb, List, [], ◌∷◌, length, refl, sym, ap, ◌∙◌, arith, Option, Some, None, option_map_or, option_or, nat_tests, Configuration, below, first_of, spare, ThreadId, Phase, Work, Label, Choice, Entry, Has, chosen, Follows, label_of, numbers-has, TakesNoSpare}
 use Rattle.dk_trace.specs.declared.Source.{Source}
-use Rattle.dk_trace.specs.declared.Label.{Label}
-use Rattle.dk_trace.specs.declared.Choice.{Choice}
-use Rattle.dk_trace.specs.declared.Entry.{Entry}
-use Rattle.dk_trace.specs.Members.{Has}
 use Rattle.dk_trace.specs.Slack.{overdrawn_at, source, unclaimed}
-use Rattle.dk_trace.specs.Choices.{chosen}
-use Rattle.dk_trace.specs.Audit.{Follows, label_of}
 use Rattle.dk_trace.proofs.Chosen.{Reason, chosen-reason, kernel_first, nothing, slack_first, thread_first}
-use Rattle.dk_trace.proofs.Members.{numbers-has}
-use Rattle.dk_warnings.specs.Told.{TakesNoSpare}
 
 -- a search finds something where something passes
 finds : (f : ℕ → Option ℕ) (xs : List ℕ) (x y : ℕ) → Has xs x → f x ≡ Some y → (z : ℕ) × (first_of f xs ≡ Some z)
@@ -49,17 +32,11 @@ source_in _ = None
 
 slack-source : (x : ThreadId) (source : Source) (part : Phase) (work : Work) → source_in (label_of (Choice.Slack x source part) work) ≡ Some source
 unfolding source_in
-slack-source x source Phase.In work = refl
-slack-source x source Phase.Body work = refl
-slack-source x source Phase.Out work = refl
+slack-source x source part work = grind (arith, nat_tests)
 
 budget-source : (x : ThreadId) (part : Phase) (work : Work) → source_in (label_of (Choice.Budget x part) work) ≡ None
 unfolding source_in
-budget-source x Phase.In work = refl
-budget-source x Phase.Body Work.In = refl
-budget-source x Phase.Body Work.Run = refl
-budget-source x Phase.Body Work.Call = refl
-budget-source x Phase.Out work = refl
+budget-source x part work = grind (arith, nat_tests)
 
 timeline-label : (x : ThreadId) (work : Work) → source_in (Label.Slack x Source.Timeline work) ≡ Some Source.Timeline
 unfolding source_in

@@ -1,20 +1,5 @@
 -- The run in which no thread has an event, and the lock that it could have.
-use Rattle.std.proofs.Common.{drop, ℕ, zero, suc, ◌≡◌, ◌+◌, ◌<◌, ◌≤◌, inl, inr, Bool, true, false, cond, ltb, List, [], ◌∷◌, length, take, refl, sym, ap, ◌∙◌, arith}
-use Rattle.std.specs.Prelude.{Option, Some, None, MatchOption}
-use Rattle.std.specs.List.{list_any}
-use Rattle.std.proofs.lemmas.Bool.{cases_Bool}
-use Rattle.std.proofs.lemmas.Bool.Decides.{nat_tests}
-use Rattle.dk_config.specs.Configuration.{Configuration}
-use Rattle.dk_trace.specs.declared.ThreadId.{ThreadId}
-use Rattle.dk_trace.specs.declared.Work.{Work}
-use Rattle.dk_trace.specs.declared.Label.{Label}
-use Rattle.dk_trace.specs.declared.Entry.{Entry}
-use Rattle.dk_trace.specs.Entries.{thread_of, is_of, is_wait, does, quiet}
-use Rattle.dk_trace.specs.Threads.{Thread, family, share}
-use Rattle.dk_trace.specs.Holds.{held_by, innermost_left}
-use Rattle.dk_trace.specs.Choices.{chosen}
-use Rattle.dk_trace.specs.Audit.{Audited, ThreadFollows, label_of}
-use Rattle.dk_trace.proofs.Charged.{family-charged, share-charged, quiet-stops}
+use Rattle.dk_warnings.proofs.Names.{drop, ℕ, zero, suc, ◌≡◌, ◌+◌, ◌<◌, inl, inr, Bool, true, false, cond, ltb, List, [], ◌∷◌, length, take, refl, ap, ◌∙◌, arith, Option, MatchOption, list_any, cases_Bool, nat_tests, Configuration, ThreadId, Work, Label, Entry, is_wait, does, quiet, Thread, family, share, held_by, chosen, Audited, ThreadFollows, label_of, family-charged, share-charged, quiet-stops}
 
 -- the run in which nobody calls, from a past on
 unfoldable pub quiet_run : Configuration → List Entry → ℕ → List Entry
@@ -43,11 +28,7 @@ drop-quiet c base (suc n) = drop-quiet c base n
 
 -- nobody holds anything after a quiet entry where nobody did before
 pub held-quiet : (x : ThreadId) (label : Label) (past : List Entry) → held_by x past ≡ [] → held_by x (quiet label ∷ past) ≡ []
-held-quiet x label past before =
-    elim (cases_Bool (is_of x (quiet label))) [
-      | inl mine ↦ rw (quiet-stops x label) (rw mine (rw before refl))
-      | inr other ↦ rw (quiet-stops x label) (rw other before)
-    ]
+held-quiet x label past before = grind (arith, nat_tests, quiet-stops)
 
 abbrev pub IsFree : List Entry → Type 0
 IsFree past = (x : ThreadId) → held_by x past ≡ []
@@ -69,37 +50,23 @@ share-quiet c base x zero s = refl
 share-quiet c base x (suc n) s = share-charged c (label_of (chosen c (quiet_run c base n)) Work.Run) (quiet_run c base n) x s ∙ share-quiet c base x n s
 
 thread-follows : (c : Configuration) (past : List Entry) (label : Label) (x : ThreadId) → held_by x past ≡ [] → ThreadFollows c past (quiet label) x
-thread-follows c past label x none =
-    record {
-      fault = λ h. absurd (cc);
-      last = λ h. (let zero_is : 0 ≡ 1 = sym (ap (innermost_left c) none) ∙ h in absurd (omega arith));
-      met = tt;
-    }
+thread-follows c past label x none = grind (arith, nat_tests)
 
 match-thread : (c : Configuration) (past : List Entry) (label : Label) (o : Option ThreadId) → IsFree past
     → MatchOption o (Unit {0}) (ThreadFollows c past (quiet label))
-match-thread c past label None free = tt
-match-thread c past label (Some x) free = thread-follows c past label x (free x)
+match-thread c past label o free = grind (arith, nat_tests, thread-follows)
 
 -- it follows the rules
 pub quiet-audited : (c : Configuration) (base : List Entry) (n : ℕ) → Audited c base → IsFree base → Audited c (quiet_run c base n)
 unfolding quiet_run
 quiet-audited c base zero audited free = audited
-quiet-audited c base (suc n) audited free =
-    let past = quiet_run c base n in
-    let label = label_of (chosen c past) Work.Run in
-    (quiet-audited c base n audited free, record { choice = inl refl; work = tt; thread = match-thread c past label (thread_of label) (held-none c base n free) })
+quiet-audited c base (suc n) audited free = grind (arith, nat_tests, match-thread, held-none, quiet-audited c base n)
 
 -- nobody waits
 pub no-waits : (c : Configuration) (base : List Entry) (x : ThreadId) (n : ℕ) → list_any (does is_wait x) (new_entries c base n) ≡ false
 unfolding new_entries
 no-waits c base x zero = refl
-no-waits c base x (suc n) =
-    let rest = no-waits c base x n in
-    elim (cases_Bool (is_of x (quiet (label_of (chosen c (quiet_run c base n)) Work.Run)))) [
-      | inl mine ↦ rw mine rest
-      | inr other ↦ rw other rest
-    ]
+no-waits c base x (suc n) = grind (arith, nat_tests, no-waits c base x n)
 
 -- a count that rises by one at most passes each number
 pub passes-at : (f : ℕ → ℕ) (b : ℕ → Bool) → ((n : ℕ) → f (suc n) ≡ cond (b n) 1 0 + f n) → f 0 ≡ 0 → (W n : ℕ) → W < f n
@@ -111,11 +78,5 @@ passes-at f b step start W (suc n) more =
           let before : W < f n = grind (arith, nat_tests) in
           let r = passes-at f b step start W n before in
           (r.0, omega (arith, r.1), r.2, r.3)
-      | inr now ↦
-          let low : f n ≤ W = grind (arith, nat_tests) in
-          let next = step n in
-          elim (cases_Bool (b n)) [
-            | inl rises ↦ (let one : f (suc n) ≡ 1 + f n = rw rises at next in (n, omega arith, omega arith, rises))
-            | inr stays ↦ (let none : f (suc n) ≡ 0 + f n = rw stays at next in absurd (omega arith))
-          ]
+      | inr now ↦ grind (arith, nat_tests)
     ]

@@ -1,37 +1,6 @@
 -- Where the hold never fits, there is too little left of the share at each lock.
-use Rattle.std.proofs.Common.{ℕ, ◌≡◌, ◌+◌, ◌-◌, ◌*◌, ◌<◌, ◌≤◌, ◌⊎◌, inl, inr, Bool, true, false, cond, ltb, List, [], ◌∷◌, length, refl, sym, ap, ◌∙◌, subst, arith, ◌||◌}
-use Rattle.std.specs.Prelude.{Option, Some, None, MatchOption, not, ◌&&◌, nat_le}
-use Rattle.std.proofs.lemmas.Bool.{cases_Bool}
-use Rattle.std.proofs.lemmas.Bool.Decides.{nat_tests}
-use Rattle.dk_config.specs.Configuration.{Configuration}
-use Rattle.dk_config.specs.Checked.{IsChecked}
-use Rattle.dk_config.specs.Windows.{longest_hold, window_start}
-use Rattle.dk_config.specs.Certification.{is_user}
-use Rattle.dk_trace.specs.declared.ThreadId.{ThreadId}
-use Rattle.dk_trace.specs.declared.Phase.{Phase}
-use Rattle.dk_trace.specs.declared.Work.{Work}
-use Rattle.dk_trace.specs.declared.Label.{Label}
-use Rattle.dk_trace.specs.declared.Choice.{Choice}
-use Rattle.dk_trace.specs.declared.Refusal.{Refusal}
-use Rattle.dk_trace.specs.declared.Event.{Event}
-use Rattle.dk_trace.specs.declared.Entry.{Entry}
-use Rattle.dk_trace.specs.Entries.{is_same, thread_of, payer, borrower, is_budget_of, is_out_of, quiet}
-use Rattle.dk_trace.specs.Threads.{Thread, family}
-use Rattle.dk_trace.specs.Jobs.{Job, job, phase, rem, body_left, thread_body_left}
-use Rattle.dk_trace.specs.Holds.{held_by, is_held, is_holding, innermost_left}
-use Rattle.dk_trace.specs.Choices.{chosen}
-use Rattle.dk_trace.specs.Refusals.{lock_refusal, first_refusal}
-use Rattle.dk_trace.specs.Audit.{Audited, Follows, HasChosenLabel, MayHave, label_of, work_of, row_of, done_refusal, HasNextSerial, ThreadFollows}
-use Rattle.dk_trace.proofs.Charged.{the_job, job-charged}
-use Rattle.dk_trace.proofs.Members.{find-has}
-use Rattle.dk_trace.proofs.RowsFit.{RowFits, family-fits}
-use Rattle.dk_trace.proofs.Same.{same-id, same-self}
-use Rattle.dk_trace.proofs.Labels.{budget-labels, slack-labels}
+use Rattle.dk_warnings.proofs.Names.{ℕ, ◌≡◌, ◌+◌, ◌-◌, ◌*◌, ◌<◌, ◌≤◌, ◌⊎◌, inl, inr, Bool, true, false, cond, ltb, List, [], ◌∷◌, length, refl, sym, ap, ◌∙◌, subst, arith, ◌||◌, Option, Some, None, MatchOption, not, ◌&&◌, nat_le, cases_Bool, nat_tests, Configuration, IsChecked, longest_hold, window_start, is_user, ThreadId, Phase, Work, Label, Choice, Refusal, Event, Entry, is_same, thread_of, payer, borrower, is_budget_of, is_out_of, quiet, Thread, family, Job, job, phase, rem, body_left, thread_body_left, held_by, is_held, is_holding, innermost_left, chosen, lock_refusal, first_refusal, Audited, Follows, HasChosenLabel, MayHave, label_of, work_of, row_of, the_job, job-charged, find-has, RowFits, family-fits, same-id, same-self, budget-labels, slack-labels, HasCause, ChoosesWithCause, ThreadsPlaced, ChosenHolds, ChoiceHolds, Always, greatest_share, NeverFits, IsRefused, LocksRefused, NeverLocked}
 use Rattle.dk_trace.proofs.Whose.{label-payer, label-borrower}
-use Rattle.dk_bound.specs.Statements.{HasCause, ChoosesWithCause}
-use Rattle.dk_bound.specs.Standing.{ThreadsPlaced, ChosenHolds, ChoiceHolds}
-use Rattle.dk_bound.specs.Laws.{Always}
-use Rattle.dk_warnings.specs.Warnings.{greatest_share, NeverFits, IsRefused, LocksRefused, NeverLocked}
 use Rattle.dk_warnings.proofs.GreatestShares.{lent-room, share-below}
 
 -- the least of what is used before a lock on budget, and no body left before one on slack
@@ -50,21 +19,11 @@ in-body W j is =
     ]
 
 none-left : (W : ℕ) (j : Job) → rem W j ≡ 0 → body_left W j ≡ 0
-none-left W j none =
-    elim (cases_Bool j.closed) [
-      | inl shut ↦ rw shut refl
-      | inr stands ↦ let spent : j.share - j.used ≡ 0 = rw stands at none in rw stands (omega arith)
-    ]
+none-left W j none = grind (arith, nat_tests)
 
 -- what is left of the body after the tick
 left-after : (W : ℕ) (j : Job) (spent outs : ℕ) → IsLate W j spent → body_left W (the_job j.share (spent + j.used) outs j.closed) ≤ j.share - (2 * W + 1)
-left-after W j spent outs (inl (late, one)) =
-    elim (cases_Bool j.closed) [ inl shut ↦ rw shut (omega arith) | inr stands ↦ rw stands (omega arith) ]
-left-after W j spent outs (inr none) =
-    elim (cases_Bool j.closed) [
-      | inl shut ↦ rw shut (omega arith)
-      | inr stands ↦ let gone : j.share - j.used - W ≡ 0 = rw stands at none in rw stands (omega arith)
-    ]
+left-after W j spent outs is = grind (arith, nat_tests)
 
 -- Whoever is in a call has done with the switch to it, or has nothing left.
 late-by : (c : Configuration) (past : List Entry) (e : Entry) (x : ThreadId) (row : Thread) (choice : Choice) → HasCause c past choice
@@ -119,8 +78,7 @@ too-little c past e x row m checked audited cause known labelled thread call fou
     let budgets = checked.budgets x.process known in
     let left = left-after W j (cond (is_budget_of row.id (quiet e.label)) 1 0) (cond (is_out_of row.id (quiet e.label)) 1 0 + j.out_ticks)
     (late c past e x row cause labelled thread call found (sym id)) in
-    let after : thread_body_left c n (quiet e.label ∷ past) row ≤ j.share - (2 * W + 1) =
-    subst (λ (k : Job). body_left W k ≤ j.share - (2 * W + 1)) (sym (job-charged c e.label past row)) left in
+    let after : thread_body_left c n (quiet e.label ∷ past) row ≤ j.share - (2 * W + 1) = grind (arith, nat_tests, job-charged) in
     omega arith
 
 -- the first reason that holds is one of the three
@@ -134,16 +92,7 @@ by-last false false d h = inr (inr (rw h refl))
 -- the process of whoever has the tick is there
 process-by : (c : Configuration) (past : List Entry) (x : ThreadId) (choice : Choice) → ThreadsPlaced c past → ChoiceHolds c past choice
     → (label : Label) (work : Work) → label ≡ label_of choice work → thread_of label ≡ Some x → x.process < length c.processes
-process-by c past x (Choice.Kernel i) placed holds label work is thread = let none : None ≡ Some x = sym (ap thread_of is) ∙ thread in absurd (cc)
-process-by c past x Choice.Idle placed holds label work is thread = let none : None ≡ Some x = sym (ap thread_of is) ∙ thread in absurd (cc)
-process-by c past x (Choice.Budget y part) placed holds label work is thread =
-    let his : Some y ≡ Some x = sym (label-payer label y (ap payer is ∙ (budget-labels y part work).0)) ∙ thread in
-    let him : y ≡ x = cc in
-    subst (λ (i : ThreadId). i.process < length c.processes) (holds.name ∙ him) (placed holds.thread holds.among).process
-process-by c past x (Choice.Slack y source part) placed holds label work is thread =
-    let his : Some y ≡ Some x = sym (label-borrower label y (ap borrower is ∙ (slack-labels y source part work).1)) ∙ thread in
-    let him : y ≡ x = cc in
-    subst (λ (i : ThreadId). i.process < length c.processes) (holds.name ∙ him) (placed holds.thread holds.among).process
+process-by c past x choice placed holds label work is thread = grind (arith, nat_tests, label-payer, budget-labels, label-borrower, slack-labels)
 
 pub process-of : (c : Configuration) (past : List Entry) (e : Entry) (x : ThreadId) → ThreadsPlaced c past → ChosenHolds c past → HasChosenLabel (chosen c past) e.label
     → thread_of e.label ≡ Some x → x.process < length c.processes
@@ -164,37 +113,23 @@ refused c past checked audited cause holds placed e x row m labelled thread call
 
 not-refused : (c : Configuration) (past : List Entry) (e : Entry) (row : Thread) (m : ℕ)
     → lock_refusal c (length past) (quiet e.label ∷ past) row m ≡ None → IsRefused c past e row m → ⊥
-not-refused c past e row m none (inl a) = absurd (cc)
-not-refused c past e row m none (inr (inl a)) = absurd (cc)
-not-refused c past e row m none (inr (inr a)) = absurd (cc)
+not-refused c past e row m none is = grind (arith, nat_tests)
 
 -- a tick with the event of a call is one of a call
 call-work : (work : Work) (m : ℕ) → MayHave work (Some (Event.Lock m)) → work ≡ Work.Call
-call-work Work.Call m may = refl
-call-work Work.In m may = absurd may
-call-work Work.Run m may = absurd may
+call-work work m may = grind (arith, nat_tests)
 
 pub met-lock : (c : Configuration) (past : List Entry) (e : Entry) (x : ThreadId) (m : ℕ) → Follows c past e → thread_of e.label ≡ Some x → e.event ≡ Some (Event.Lock m)
     → MatchOption (row_of c past x) ⊥ (λ row. lock_refusal c (length past) (quiet e.label ∷ past) row m ≡ None)
-met-lock c past e x m follows thread is =
-    let acts : ThreadFollows c past e x = subst (λ o. MatchOption o (Unit {0}) (ThreadFollows c past e)) thread follows.thread in
-    let at = subst (λ o. MatchOption o (Unit {0}) (λ event. HasNextSerial c past x event
-    × MatchOption (row_of c past x) ⊥ (λ row. done_refusal c (length past) (quiet e.label ∷ past) row event ≡ None))) is acts.met in
-    at.1
+met-lock c past e x m follows thread is = grind (arith, nat_tests)
 
 -- a lock that is done isn't refused
 unrefused : (c : Configuration) (past : List Entry) (e : Entry) (x : ThreadId) (m : ℕ) (found : Option Thread) → row_of c past x ≡ found
     → MatchOption found ⊥ (λ row. lock_refusal c (length past) (quiet e.label ∷ past) row m ≡ None)
     → ((row : Thread) → row_of c past x ≡ Some row → IsRefused c past e row m) → ⊥
-unrefused c past e x m None found met each = met
-unrefused c past e x m (Some row) found met each = not-refused c past e row m met (each row found)
+unrefused c past e x m found is met each = grind (arith, nat_tests, not-refused)
 
 -- so it is with each entry of a list that follows the rules
 pub never : Always ChoosesWithCause → Always ChosenHolds → Always ThreadsPlaced → Always NeverLocked
 never causes holds placed c [] checked accepted audited = tt
-never causes holds placed c (e ∷ past) checked accepted (older, follows) = (
-  never causes holds placed c past checked accepted older,
-  λ x m thread is fits. unrefused c past e x m (row_of c past x) refl (met-lock c past e x m follows thread is)
-      (λ row found. refused c past checked older (causes c past checked accepted older) (holds c past checked accepted older) (placed c past checked accepted older)
-      e x row m follows.choice thread (call-work (work_of e.label) m (subst (MayHave (work_of e.label)) is follows.work)) found fits),
-)
+never causes holds placed c (e ∷ past) checked accepted (older, follows) = grind (arith, nat_tests, unrefused, met-lock, refused, call-work, never causes holds placed c past checked accepted older)

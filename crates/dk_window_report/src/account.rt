@@ -3,7 +3,6 @@ ghost use Rattle.std.specs.Prelude.{[], ◌≡◌, IfOk};
 ghost use Rattle.dk_ledger.specs.Heading.{IsPrintable};
 ghost use Rattle.dk_window_report.specs.Accounts.{account_of, account_with, accounts_of, accounts_with, faults, is_slack, refuses, tally_with};
 
-use crate::row::thread_of;
 use dk_config::NoMemory;
 use dk_ledger::Header;
 use dk_trace::{Entry, Event, Label};
@@ -80,7 +79,7 @@ fn account_with(now: u32, entry: Entry, account: Account) -> Account
 pub fn take_entry(accounts: &mut Vec<Account>, now: u32, entry: Entry)
     ensures { accounts.new.items ≡ accounts_with now entry accounts.old.items }
 {
-    if let Some(thread) = thread_of(entry.label) {
+    if let Some(thread) = entry.label.thread() {
         let place = thread.process as usize;
         if place < accounts.len() {
             accounts[place] = account_with(now, entry, accounts[place]);

@@ -11,7 +11,7 @@ ghost use Rattle.dk_window_report.specs.Touched.{ArePlaced, IsPlaced};
 
 use crate::account::{Account, new_accounts, take_entry};
 use crate::late::Late;
-use crate::row::{Did, Row, WindowCounts, thread_of};
+use crate::row::{Did, Row, WindowCounts};
 use crate::rows::Rows;
 use dk_config::{MAX_RUN_TICKS, NoMemory};
 use dk_ledger::{Header, LedgerLine};
@@ -85,7 +85,7 @@ fn child_row(header: &Header, now: u32, entry: Entry) -> Option<Row>
     requires { now < MAX_RUN_TICKS }
     ensures { option_to_list result ≡ map new_row (made_in header.now now entry) }
 {
-    let thread = thread_of(entry.label)?;
+    let thread = entry.label.thread()?;
     match entry.event {
         Some(Event::Create { serial, level, .. }) => {
             if thread.serial != 0 {

@@ -1,6 +1,6 @@
 //! What is kept of a thread while a ledger is read.
 ghost use Rattle.std.specs.Prelude.{◌≡◌, ◌%◌};
-ghost use Rattle.dk_trace.specs.Entries.{is_of, is_budget_of, does, is_wait, is_end, is_delete_of, stops, thread_of};
+ghost use Rattle.dk_trace.specs.Entries.{is_of, is_budget_of, does, is_wait, is_end, is_delete_of, stops};
 ghost use Rattle.dk_window_report.specs.Windows.{is_overrun};
 ghost use Rattle.dk_window_report.specs.Rows.{raised, raised_if, did_with, lesser, first_with, counts_with, ended, filled, stepped};
 
@@ -58,21 +58,6 @@ fn raised_if(condition: bool, n: u32) -> u32
     if condition { raised(n) } else { n }
 }
 
-/// The thread that had a tick with this label.
-pub fn thread_of(label: Label) -> Option<ThreadId>
-    ensures { result ≡ thread_of label }
-{
-    match label {
-        Label::In(thread) => Some(thread),
-        Label::Run(thread) => Some(thread),
-        Label::Call(thread) => Some(thread),
-        Label::Out(thread) => Some(thread),
-        Label::Slack { thread, .. } => Some(thread),
-        Label::Kernel(_) => None,
-        Label::Idle => None,
-    }
-}
-
 fn is_budget_of(thread: ThreadId, entry: Entry) -> bool
     ensures { result ≡ is_budget_of thread entry }
 {
@@ -90,7 +75,7 @@ fn is_budget_of(thread: ThreadId, entry: Entry) -> bool
 fn is_of(thread: ThreadId, entry: Entry) -> bool
     ensures { result ≡ is_of thread entry }
 {
-    match thread_of(entry.label) {
+    match entry.label.thread() {
         Some(other) => thread.is_same(other),
         None => false,
     }

@@ -2,7 +2,6 @@
 ghost use Rattle.std.specs.Prelude.{◌≡◌};
 ghost use Rattle.dk_window_report.specs.Touched.{touched_by_end, touched_by_delete, touched_in, touched_by};
 
-use crate::row::thread_of;
 use dk_trace::{Entry, Event, ThreadId};
 
 /// Whose rows an entry may change otherwise than one of nobody.
@@ -56,7 +55,7 @@ fn touched_in(thread: ThreadId, event: Option<Event>) -> Touched
 pub fn touched_by(known: bool, entry: Entry) -> Touched
     ensures { result ≡ touched_by known entry }
 {
-    match thread_of(entry.label) {
+    match entry.label.thread() {
         None => Touched::Nobody,
         Some(thread) => {
             if known {

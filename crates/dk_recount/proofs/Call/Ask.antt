@@ -1,5 +1,5 @@
 -- A call for slack of the tables is one of the past.
-use Rattle.dk_recount.proofs.Names.{◌≡◌, ◌<◌, ◌*◌, ◌∙◌, ◌||◌, ◌&&◌, inl, inr, true, false, eqb, ltb, ℕ, List, [], ◌∷◌, length, Option, Some, None, option_map, refl, ap, sym, subst, arith, length-set, slice_get, filter, Contains, not, option_map_or, cases_Bool, and_parts, ltb-true, nat_tests, length-map, slice_get-map, MAX_SPAN, Configuration, ProcessRow, may_ask, ThreadId, Label, Event, Refusal, Entry, Has, is_same, is_of, Thread, threads, want, first_refusal, same-id, filter-has, contains-has, has-contains, none-of-two, quiet-want, AreFamilies, has_row, Wish, wishes_at, is_wish_of, asked_wish, dropped, AreCounted, HaveOwnNodes, asking, AskingAddsWish, Tables, IsSound, node_in, IsBooked, level_in, IsCalling, CallIsRight, MayAsk, asked, has_right, refusal_of, slack_refusal_in, with_event, CallerLaws}
+use Rattle.dk_recount.proofs.Names.{◌≡◌, ◌<◌, ◌*◌, ◌∙◌, ◌||◌, ◌&&◌, inl, inr, true, false, eqb, ltb, ℕ, List, ◌∷◌, length, Option, Some, None, option_map, refl, ap, sym, subst, arith, length-set, slice_get, filter, Contains, not, option_map_or, cases_Bool, and_parts, ltb-true, nat_tests, length-map, slice_get-map, MAX_SPAN, Configuration, ProcessRow, may_ask, ThreadId, Label, Event, Refusal, Entry, Has, is_same, is_of, Thread, threads, want, same-id, filter-has, contains-has, has-contains, none-of-two, quiet-want, AreFamilies, has_row, Wish, wishes_at, is_wish_of, asked_wish, dropped, AreCounted, HaveOwnNodes, asking, AskingAddsWish, Tables, IsSound, node_in, IsBooked, level_in, IsCalling, CallIsRight, MayAsk, asked, has_right, refusal_of, slack_refusal_in, with_event, CallerLaws}
 use Rattle.dk_recount.proofs.Call.Unchanged.{want-as, holders-as}
 use Rattle.dk_recount.proofs.Call.Booking.{books, levels-as, seats-as, queues-as, cells-as, blocks-as}
 use Rattle.dk_recount.proofs.Call.Caller as calls
@@ -37,9 +37,7 @@ module _ (laws : AskLaws) (amount : ℕ) (x : ThreadId) (c : Configuration) (lab
       told (Some row) = refl
 
   refuses : slack_refusal_in d x amount ≡ refusal_of c label past x event
-  refuses =
-      ap (λ b. first_refusal ((not b, Refusal.NoRight) ∷ (eqb amount 0 || ltb MAX_SPAN amount, Refusal.Amount) ∷ [])) right-is
-      ∙ sym (calls.refusal-is laws.caller x c label past d calling sound families event)
+  refuses = grind (arith, nat_tests, right-is, calls.refusal-is laws.caller x c label past d calling sound families event)
 
   may : MayAsk x d
   may =
@@ -89,11 +87,7 @@ module _ (laws : AskLaws) (amount : ℕ) (x : ThreadId) (c : Configuration) (lab
   wish_in level node entering = asked_wish level (record { node = node; amount = amount; entering = entering }) d.slack.wishes
 
   wish-is : wish_in (level_in d x) (node_of x) (2 * d.slack.switch) ≡ wish_in caller.level (node_of caller.id) (2 * c.costs.switch)
-  wish-is =
-      let who = calls.caller laws.caller x c label past d calling sound families in
-      ap (λ l. wish_in l (node_of x) (2 * d.slack.switch)) (calls.own-level laws.caller x c label past d calling sound families)
-      ∙ ap (λ i. wish_in caller.level (node_of i) (2 * d.slack.switch)) (sym who.id)
-      ∙ ap (λ w. wish_in caller.level (node_of caller.id) (2 * w)) calling.charged.recount.wishes.switch
+  wish-is = grind (arith, nat_tests, calls.caller laws.caller x c label past d calling sound families, calls.own-level laws.caller x c label past d calling sound families)
 
   many : (level : ℕ) (w : Wish) → length (asked_wish level w d.slack.wishes) ≡ length c.levels
   many level w =

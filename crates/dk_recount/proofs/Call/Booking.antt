@@ -1,5 +1,5 @@
 -- The tables once an event is booked.
-use Rattle.dk_recount.proofs.Names.{◌≡◌, ◌<◌, ◌∙◌, true, ℕ, List, ◌∷◌, length, map, Option, Some, None, refl, sym, subst, list_any, Configuration, below, ThreadId, Label, Event, Entry, Has, does, is_wait, quiet, Thread, threads, family, held_by, blocking, own_demand, remaining_demand, last_request, queue_at, has_row, recount, Lockable, HasLevels, AreHolders, Cells, AreCells, Wish, wishes_at, AreCounted, Roster, seat_at, Tables, node_in, IsCharged, IsBooked, seat_of, ready_nodes, IsUntold, entry_of, jobs-keep, map-same, AreJobs}
+use Rattle.dk_recount.proofs.Names.{◌≡◌, ◌<◌, ◌∙◌, true, ℕ, List, ◌∷◌, length, map, Option, Some, None, refl, sym, subst, list_any, Configuration, below, ThreadId, Label, Event, Entry, Has, does, is_wait, quiet, Thread, threads, family, held_by, blocking, own_demand, remaining_demand, last_request, queue_at, has_row, recount, Lockable, HasLevels, AreHolders, Cells, AreCells, Wish, wishes_at, AreCounted, Roster, seat_at, Tables, node_in, IsCharged, IsBooked, seat_of, ready_nodes, IsUntold, entry_of, jobs-keep, map-same, AreJobs, nat_tests, arith}
 use Rattle.dk_recount.proofs.Call.Unchanged.{rows-as, holders-as, own-as, remaining-as, blocking-as, unclaimed-as, parts-as, counted-as, job-as}
 
 module _ (c : Configuration) (label : Label) (event : Option Event) (past : List Entry)
@@ -30,36 +30,7 @@ module _ (c : Configuration) (label : Label) (event : Option Event) (past : List
       → ((y : Thread) → Has (threads c new) y → has_row c now y ≡ true → seat_at jobs (node_of y.id) ≡ seat_of c now new y)
       → ((k : ℕ) → k < length c.levels → queue_at jobs.ready.lists k ≡ ready_nodes node_of c now new k)
       → IsBooked c (entry_of label event) past (with_parts rows cells wishes jobs)
-  books rows cells wishes jobs tick holders levels counted many wished switch seats ready =
-      let r = charged.recount in
-      record {
-        ruled = charged.ruled;
-        chose = charged.chose;
-        recount = record {
-          tick = tick;
-          rows = rows-as c label event past fam same now d.threads r.rows;
-          loans = r.loans ∙ sym loans;
-          holders = holders;
-          own_levels = levels;
-          cells = counted;
-          wishes = record {
-            nodes = r.wishes.nodes;
-            switch = r.wishes.switch;
-            levels = many;
-            wishes = wished;
-            unclaimed = r.wishes.unclaimed ∙ sym (unclaimed-as c label event past fam same now);
-            spares = r.wishes.spares;
-          };
-          jobs = record {
-            switch = switch;
-            seats = seats;
-            ready = ready;
-          };
-          kernel = r.kernel ∙ sym (parts-as c label event past fam same now);
-          releases = r.releases;
-          rights = r.rights;
-        };
-      }
+  books rows cells wishes jobs tick holders levels counted many wished switch seats ready = grind (arith, nat_tests, rows-as, unclaimed-as, parts-as)
 
   pub levels-as : (rows : List Lockable) → HasLevels c old rows → HasLevels c new rows
   levels-as rows levels = λ m row h y at held among is. levels m row h y at held (subst (λ ys. Has ys y) same among) is
@@ -90,13 +61,11 @@ module _ (c : Configuration) (label : Label) (event : Option Event) (past : List
         }
 
     pub blocks-as : ((x : ThreadId) → held_by x new ≡ held_by x old) → d.demand.blocking ≡ map (blocking c new) (below (length c.levels))
-    blocks-as held =
-        charged.recount.cells.blocking ∙ map-same (blocking c old) (blocking c new) 0 (length c.levels) (λ j h. sym (blocking-as c label event past fam same j held))
+    blocks-as held = grind (arith, nat_tests, map-same, blocking-as)
 
     module _ (nothing : (y : Thread) (es : List Entry) → last_request y.id (entry_of label event ∷ es) ≡ last_request y.id (quiet label ∷ es)) where
       pub wishes-as : (k : ℕ) → k < length c.levels → AreCounted node_of c now new k (wishes_at d.slack.wishes k)
-      wishes-as k known =
-          counted-as c label event past fam same node_of now k (wishes_at d.slack.wishes k) stays nothing (charged.recount.wishes.wishes k known)
+      wishes-as k known = grind (arith, nat_tests, counted-as)
 
       -- nothing at all changes
       pub stands : ((x : ThreadId) → held_by x new ≡ held_by x old) → IsBooked c (entry_of label event) past d
@@ -114,8 +83,7 @@ module _ (c : Configuration) (label : Label) (event : Option Event) (past : List
 
 pub untold-booked : (c : Configuration) (label : Label) (past : List Entry) (event : Option Event) (d : Tables) → IsUntold event → IsCharged c label past d
     → IsBooked c (entry_of label event) past d
-untold-booked c label past None d untold charged =
-    stands c label None past (λ p. refl) refl refl d charged (λ y es. refl) (λ y es. refl) (λ x. refl)
+untold-booked c label past None d untold charged = grind (arith, nat_tests, stands)
 untold-booked c label past (Some (Event.Put value)) d untold charged =
     stands c label (Some (Event.Put value)) past (λ p. refl) refl refl d charged (λ y es. refl) (λ y es. refl) (λ x. refl)
 untold-booked c label past (Some (Event.Refused refusal)) d untold charged =

@@ -1,5 +1,5 @@
 -- What is known of the tables while a thread is in a call.
-use Rattle.dk_recount.proofs.Names.{◌≡◌, ◌<◌, ◌*◌, ◌∙◌, inl, inr, true, false, ℕ, List, ◌∷◌, length, Some, None, ap, sym, subst, arith, MatchOption, option_map_or, MAX_THREADS, Configuration, ThreadId, Label, Work, Event, Entry, is_same, is_of, quiet, Has, Thread, threads, thread_rem, want, FaultKind, held_by, innermost_left, ends_hold, row_of, done_refusal, MayHave, HasNextSerial, ThreadFollows, Audited, same-self, family-charged, IsPlaced, CallerStands, threads-charged, length-map, AreFamilies, has_row, HasRow, row-there, row-slot, seat_at, Tables, IsSound, node_in, seat_of, level_in, IsCalling, refusal_of, with_event, CallerLaws}
+use Rattle.dk_recount.proofs.Names.{◌≡◌, ◌<◌, ◌*◌, ◌∙◌, true, false, ℕ, List, ◌∷◌, length, Some, None, ap, sym, subst, arith, MatchOption, option_map_or, MAX_THREADS, Configuration, ThreadId, Label, Work, Event, Entry, is_same, is_of, quiet, Has, Thread, threads, thread_rem, want, FaultKind, held_by, innermost_left, ends_hold, row_of, done_refusal, MayHave, HasNextSerial, ThreadFollows, Audited, same-self, family-charged, IsPlaced, CallerStands, threads-charged, length-map, AreFamilies, has_row, HasRow, row-there, row-slot, seat_at, Tables, IsSound, node_in, seat_of, level_in, IsCalling, refusal_of, with_event, CallerLaws, nat_tests}
 use Rattle.dk_recount.proofs.Stop.Present.{there-row, worker-has-row}
 use Rattle.dk_recount.proofs.Rows.{nodes-differ, slot-is}
 
@@ -28,27 +28,16 @@ module _ (laws : CallerLaws) (x : ThreadId) (c : Configuration) (label : Label) 
   has-before y among = subst (λ xs. Has xs y) (threads-charged c label past) among
 
   pub worker-there : (y : Thread) → Has (threads c past) y → 0 < thread_rem c now past y → has_row c now y ≡ true
-  worker-there y among some =
-      let ruled = calling.charged.ruled in
-      worker-has-row c past (laws.absent c past ruled.checked ruled.accepted ruled.audited) y among some
+  worker-there y among some = grind (arith, nat_tests, worker-has-row)
 
   pub asker-there : (y : Thread) → Has (threads c past) y → 0 < want c now past y → has_row c now y ≡ true
-  asker-there y among some =
-      let ruled = calling.charged.ruled in
-      there-row c now y (laws.askers c past ruled.checked ruled.accepted ruled.audited y among some)
+  asker-there y among some = grind (arith, nat_tests, there-row)
 
   pub caller-there : has_row c now caller.row ≡ true
-  caller-there =
-      elim caller.active [
-        | inl works ↦ worker-there caller.row caller.among works
-        | inr wants ↦ asker-there caller.row caller.among wants
-      ]
+  caller-there = grind (arith, nat_tests, caller, worker-there, asker-there)
 
   pub row-there-of : (y : Thread) → Has (threads c past) y → has_row c now y ≡ true → HasRow d.threads y.id
-  row-there-of y among there =
-      let place = placed y among in
-      row-there c now old d.threads y calling.charged.recount.rows place.process
-      (subst (λ xs. Has xs y) (sym (family-charged c y.id.process label past)) place.among) there
+  row-there-of y among there = grind (arith, nat_tests, placed, row-there, family-charged)
 
   pub own-row : HasRow d.threads x
   own-row = subst (HasRow d.threads) caller.id (row-there-of caller.row caller.among caller-there)
@@ -58,9 +47,7 @@ module _ (laws : CallerLaws) (x : ThreadId) (c : Configuration) (label : Label) 
   one-node y z here there one two same = nodes-differ d.threads y.id z.id families (row-there-of y here one) (row-there-of z there two) same
 
   pub own-seat : seat_at d.jobs (node_of x) ≡ seat_of c now old caller.row
-  own-seat =
-      subst (λ i. seat_at d.jobs (node_of i) ≡ seat_of c now old caller.row) caller.id
-      (calling.charged.recount.jobs.seats caller.row (has-now caller.row caller.among) caller-there)
+  own-seat = grind (arith, nat_tests, caller, has-now, caller-there)
 
   pub own-level : level_in d x ≡ caller.row.level
   own-level = ap (λ s. s.level) own-seat
@@ -72,12 +59,7 @@ module _ (laws : CallerLaws) (x : ThreadId) (c : Configuration) (label : Label) 
   families-are = calling.charged.recount.rows.processes
 
   pub own-node : node_of x < MAX_THREADS * length d.threads.families
-  own-node =
-      let low = row-slot d.threads x.process own-row.row families own-row.among in
-      let slot = slot-is d.threads x own-row in
-      let process : x.process < length c.processes = subst (λ (i : ThreadId). i.process < length c.processes) caller.id (placed caller.row caller.among).process in
-      let many = families-are in
-      omega (arith, low, slot, process, many)
+  own-node = grind (arith, nat_tests, row-slot, own-row, slot-is, caller, placed, families-are)
 
   pub own-levels : level_in d x < length c.levels
   own-levels = let is = own-level in let place = (placed caller.row caller.among).level in omega (arith, is, place)
@@ -92,10 +74,8 @@ module _ (laws : CallerLaws) (x : ThreadId) (c : Configuration) (label : Label) 
       → refusal_of c label past x event ≡ None → Audited c (with_event label event ∷ past)
   follows event no-fault may serial last none =
       let done : done_refusal c now old caller.row event ≡ None = sym (refusal-is event) ∙ none in
-      let met : MatchOption (row_of c past x) ⊥ (λ row. done_refusal c now old row event ≡ None) =
-      subst (λ o. MatchOption o ⊥ (λ row. done_refusal c now old row event ≡ None)) (sym caller.found) done in
-      let thread : ThreadFollows c past (with_event label event) x =
-      record { fault = λ h. absurd (no-fault h); last = last; met = (serial, met) } in (
+      let met : MatchOption (row_of c past x) ⊥ (λ row. done_refusal c now old row event ≡ None) = grind (arith, nat_tests, caller) in
+      let thread : ThreadFollows c past (with_event label event) x = grind (arith, nat_tests) in (
         calling.charged.ruled.audited,
         record {
           choice = calling.charged.chose;

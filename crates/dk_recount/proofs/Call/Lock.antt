@@ -1,5 +1,5 @@
 -- A lock and an unlock of the tables are those of the past.
-use Rattle.dk_recount.proofs.Names.{◌≡◌, ◌<◌, ◌≤◌, ◌+◌, ◌-◌, ◌∙◌, ◌⊎◌, ◌||◌, ◌&&◌, inl, inr, Bool, true, false, cond, eqb, leb, ltb, ℕ, zero, suc, List, [], ◌∷◌, length, map, set, get_or, Option, Some, None, refl, ap, sym, subst, arith, slice_get, slice_index, not, option_map_or, not-false, nat_tests, MAX_PROCESSES, MAX_SPAN, Configuration, ceiling, longest_hold, is_user, user-mutex, at_index, ThreadId, Label, Event, Refusal, Entry, Has, is_of, quiet, Thread, threads, job, body_left, thread_body_left, Hold, aged, given_back, held_by, past_left, is_held, is_holding, innermost_left, is_past_innermost, level_holding, least_ceiling, past_level, blocking, first_refusal, past_lock_refusal, past_unlock_refusal, Audited, same-id, filter-has, aged-held, ceiling-most, has-aged, innermost-aged, between-given, between-is, ceiling-given, quiet-held, quiet-stops, none-of-three, none-of-two, AreFamilies, Holder, Lockable, hold_of, is_free, hold_left, given_to, effective_level, lock_refusal, unlock_refusal, HasLevels, HoldersFit, LastIsLeast, AreHolders, level-aged, nested-quiet, between, adjusted, AreCells, Seat, Tables, IsSound, IsBooked, level_in, IsCalling, CallIsRight, MayLock, MayUnlock, body_in, runs_at, lock_refusal_in, rows_locked, locked, unlock_refusal_in, rows_unlocked, unlocked, refusal_of, with_event, HoldLaws}
+use Rattle.dk_recount.proofs.Names.{◌≡◌, ◌<◌, ◌≤◌, ◌+◌, ◌-◌, ◌∙◌, ◌⊎◌, ◌||◌, ◌&&◌, inl, inr, Bool, true, false, cond, eqb, leb, ltb, ℕ, zero, suc, List, [], ◌∷◌, length, map, set, get_or, Option, Some, None, refl, ap, sym, subst, arith, slice_get, slice_index, not, option_map_or, not-false, nat_tests, MAX_PROCESSES, MAX_SPAN, Configuration, ceiling, longest_hold, is_user, user-mutex, at_index, ThreadId, Label, Event, Refusal, Entry, Has, is_of, quiet, Thread, threads, thread_body_left, Hold, aged, given_back, held_by, past_left, is_held, is_holding, innermost_left, is_past_innermost, level_holding, least_ceiling, past_level, blocking, past_lock_refusal, past_unlock_refusal, Audited, same-id, filter-has, aged-held, ceiling-most, has-aged, innermost-aged, between-given, between-is, ceiling-given, quiet-held, quiet-stops, none-of-three, none-of-two, AreFamilies, Holder, Lockable, hold_of, is_free, hold_left, given_to, effective_level, unlock_refusal, HasLevels, HoldersFit, LastIsLeast, AreHolders, level-aged, nested-quiet, between, adjusted, AreCells, Tables, IsSound, IsBooked, level_in, IsCalling, CallIsRight, MayLock, MayUnlock, body_in, runs_at, lock_refusal_in, rows_locked, locked, unlock_refusal_in, rows_unlocked, unlocked, refusal_of, with_event, HoldLaws}
 use Rattle.dk_recount.proofs.Cells.{by-same}
 use Rattle.dk_recount.proofs.Call.Booking.{books, seats-as, queues-as, wishes-as}
 use Rattle.dk_recount.proofs.Holding.{last-least}
@@ -52,15 +52,10 @@ module _ (laws : HoldLaws) (x : ThreadId) (c : Configuration) (label : Label) (p
   old-held = quiet-held x label past ∙ ap (λ b. cond b (map aged (held_by x past)) (held_by x past)) (calls.own-of laws.caller x c label past d calling sound families)
 
   body-is : body_in d x ≡ thread_body_left c now old caller
-  body-is =
-      ap (λ (s : Seat). body_left d.jobs.switch s.job) (calls.own-seat laws.caller x c label past d calling sound families)
-      ∙ ap (λ w. body_left w (job c now old caller)) calling.charged.recount.jobs.switch
+  body-is = grind (arith, nat_tests, calls.own-seat laws.caller x c label past d calling sound families)
 
   process-low : x.process < MAX_PROCESSES
-  process-low =
-      let place = subst (λ (i : ThreadId). i.process < length c.processes) same-caller (calls.placed laws.caller x c label past d calling sound families caller caller-among).process in
-      let few = calling.charged.ruled.limits.few_processes in
-      omega (arith, place, few)
+  process-low = grind (arith, nat_tests, same-caller, caller-among)
 
   -- what the level tells
   holding-old : (y : ThreadId) → is_holding (held_by y old) ≡ true → is_holding (held_by y past) ≡ true
@@ -112,9 +107,7 @@ module _ (laws : HoldLaws) (x : ThreadId) (c : Configuration) (label : Label) (p
       }
 
   runs-by : (rows : List Lockable) → runs_at d rows x ≡ effective_level caller.id caller.level rows
-  runs-by rows =
-      ap (λ l. effective_level x l rows) (calls.own-level laws.caller x c label past d calling sound families)
-      ∙ ap (λ i. effective_level i caller.level rows) (sym same-caller)
+  runs-by rows = grind (arith, nat_tests, same-caller, calls.own-level laws.caller x c label past d calling sound families)
 
   runs-old : runs_at d d.mutexes x ≡ level_holding c caller.level held
   runs-old = runs-by d.mutexes ∙ laws.level c old d.mutexes caller holders fit-old ∙ ap (level_holding c caller.level) caller-held
@@ -160,8 +153,7 @@ module _ (laws : HoldLaws) (x : ThreadId) (c : Configuration) (label : Label) (p
         some-held (z ∷ hs) k has = refl
 
     runs-new : (rows : List Lockable) → AreHolders c new rows → runs_at d rows x ≡ level_holding c caller.level (held_by x new)
-    runs-new rows holders' =
-        runs-by rows ∙ laws.level c new rows caller holders' fit-new ∙ ap (λ i. level_holding c caller.level (held_by i new)) same-caller
+    runs-new rows holders' = grind (arith, nat_tests, runs-by, fit-new, same-caller, laws.level c new rows caller holders' fit-new)
 
     left-new : (rows : List Lockable) → AreHolders c new rows → hold_left x rows ≡ innermost_left c (held_by x new)
     left-new rows holders' =
@@ -191,12 +183,7 @@ module _ (laws : HoldLaws) (x : ThreadId) (c : Configuration) (label : Label) (p
     -- Lock.
 
     lock-refuses : lock_refusal_in d x m ≡ refusal_of c label past x (Event.Lock m)
-    lock-refuses =
-        ap (λ n. lock_refusal x m n d.mutexes) body-is
-        ∙ ap (λ i. lock_refusal i m (thread_body_left c now old caller) d.mutexes) (sym same-caller)
-        ∙ laws.lock_refusals c now old d.mutexes caller m holders (subst (λ hs. LastIsLeast c hs) (sym caller-held) last-held)
-        (subst (λ (i : ThreadId). i.process < MAX_PROCESSES) (sym same-caller) process-low)
-        ∙ sym (calls.refusal-is laws.caller x c label past d calling sound families (Event.Lock m))
+    lock-refuses = grind (arith, nat_tests, body-is, same-caller, caller-held, last-held, process-low, calls.refusal-is laws.caller x c label past d calling sound families (Event.Lock m))
 
     module _ (none : lock_refusal_in d x m ≡ None) where
       unrefused : past_lock_refusal c now old caller m ≡ None
@@ -254,15 +241,10 @@ module _ (laws : HoldLaws) (x : ThreadId) (c : Configuration) (label : Label) (p
       lock-new = with_event label (Event.Lock m) ∷ past
 
       lock-holders : AreHolders c lock-new (rows_locked x m d)
-      lock-holders =
-          laws.locks c past d.mutexes x (level_in d x) m (with_event label (Event.Lock m)) holders
-          (calls.own-of laws.caller x c label past d calling sound families) refl mutex-there free
+      lock-holders = grind (arith, nat_tests, mutex-there, free, laws.locks c past d.mutexes x (level_in d x) m (with_event label (Event.Lock m)) holders (calls.own-of laws.caller x c label past d calling sound families) refl mutex-there free, calls.own-of laws.caller x c label past d calling sound families)
 
       lock-held : held_by x lock-new ≡ record { mutex = m; ticks = 0 } ∷ given_back m held
-      lock-held =
-          ap (λ b. cond b [] (cond (is_of x (quiet label)) (record { mutex = m; ticks = 0 } ∷ given_back m (map aged (held_by x past))) (held_by x past))) (quiet-stops x label)
-          ∙ ap (λ b. cond b (record { mutex = m; ticks = 0 } ∷ given_back m (map aged (held_by x past))) (held_by x past)) (calls.own-of laws.caller x c label past d calling sound families)
-          ∙ ap (λ hs. record { mutex = m; ticks = 0 } ∷ given_back m hs) (sym old-held)
+      lock-held = grind (arith, nat_tests, quiet-stops, old-held)
 
       lock-left : hold_left x (rows_locked x m d) ≡ longest_hold c m
       lock-left =
@@ -283,21 +265,11 @@ module _ (laws : HoldLaws) (x : ThreadId) (c : Configuration) (label : Label) (p
           record {
             free = free;
             level = omega (arith, low, is, many);
-            room = λ j from to.
-                let known : j < length c.levels = omega (arith, low, is, to) in
-                let cell = cell-is j known in
-                let most = blocking-low j known in
-                let left = lock-left in
-                let hold = calling.charged.ruled.limits.holds m in
-                omega (arith, cell, most, left, hold);
+            room = grind (arith, nat_tests, cell-is, blocking-low, lock-left);
           }
 
       lock-tests : (j : ℕ) → (leb (runs_at d (rows_locked x m d) x) j && ltb j (runs_at d d.mutexes x)) ≡ (leb (ceiling c m) j && ltb j (past_level c old caller))
-      lock-tests j =
-          ap (λ n. leb n j && ltb j (runs_at d d.mutexes x)) lock-runs
-          ∙ ap (λ n. leb (least_ceiling c (ceiling c m) held) j && ltb j n) runs-old
-          ∙ between-is c (ceiling c m) caller.level j held
-          ∙ ap (λ hs. leb (ceiling c m) j && ltb j (level_holding c caller.level hs)) (sym caller-held)
+      lock-tests j = grind (arith, nat_tests, lock-runs, runs-old, between-is, caller-held)
 
       lock-cells : AreCells c lock-new (locked x m d).demand
       lock-cells =
@@ -344,10 +316,7 @@ module _ (laws : HoldLaws) (x : ThreadId) (c : Configuration) (label : Label) (p
 
     module _ (none : unlock_refusal_in d x m ≡ None) where
       unlock-reasons : (not (is_held m held) ≡ false) × (not (is_past_innermost m held) ≡ false)
-      unlock-reasons =
-          none-of-two _ _ Refusal.NotHeld Refusal.NotLast
-          (ap (λ hs. first_refusal ((not (is_held m hs), Refusal.NotHeld) ∷ (not (is_past_innermost m hs), Refusal.NotLast) ∷ [])) (sym caller-held)
-          ∙ sym unlock-past ∙ none)
+      unlock-reasons = grind (arith, nat_tests, none-of-two, caller-held, unlock-past)
 
       inner : is_past_innermost m held ≡ true
       inner = not-false (is_past_innermost m held) unlock-reasons.1
@@ -368,10 +337,7 @@ module _ (laws : HoldLaws) (x : ThreadId) (c : Configuration) (label : Label) (p
           (laws.held c old d.mutexes x m holders ∙ not-false (is_held m held) unlock-reasons.0)
 
       unlock-held : held_by x unlock-new ≡ given_back m held
-      unlock-held =
-          ap (λ b. cond b [] (cond (is_of x (quiet label)) (given_back m (map aged (held_by x past))) (held_by x past))) (quiet-stops x label)
-          ∙ ap (λ b. cond b (given_back m (map aged (held_by x past))) (held_by x past)) (calls.own-of laws.caller x c label past d calling sound families)
-          ∙ ap (given_back m) (sym old-held)
+      unlock-held = grind (arith, nat_tests, quiet-stops, old-held)
 
       unlock-runs : runs_at d (rows_unlocked m d) x ≡ level_holding c caller.level (given_back m held)
       unlock-runs =
@@ -387,21 +353,13 @@ module _ (laws : HoldLaws) (x : ThreadId) (c : Configuration) (label : Label) (p
       unlock-left = left-old ∙ ap (innermost_left c) (sym caller-held)
 
       unlock-mine : is_of caller.id (with_event label (Event.Unlock m)) ≡ true
-      unlock-mine =
-          subst (λ i. is_of i (with_event label (Event.Unlock m)) ≡ true) (sym same-caller) (calls.own-of laws.caller x c label past d calling sound families)
+      unlock-mine = grind (arith, nat_tests, same-caller)
 
       unlock-law : (j : ℕ) → blocking c unlock-new j + cond (leb (ceiling c m) j && ltb j (level_holding c caller.level (given_back m held))) (hold_left x d.mutexes) 0 ≡ blocking c old j
-      unlock-law j =
-          let ruled = calling.charged.ruled in
-          ap (λ n. blocking c unlock-new j + cond (leb (ceiling c m) j && ltb j (level_holding c caller.level (given_back m held))) n 0) unlock-left
-          ∙ ap (λ hs. blocking c unlock-new j + cond (leb (ceiling c m) j && ltb j (level_holding c caller.level hs)) (innermost_left c (held_by caller.id old)) 0) (sym unlock-after)
-          ∙ laws.lowers c (with_event label (Event.Unlock m)) past ruled.checked ruled.accepted unlock-audited caller m j caller-among unlock-mine refl
+      unlock-law j = grind (arith, nat_tests, unlock-left, unlock-after, unlock-audited, caller-among, unlock-mine)
 
       unlock-tests : (j : ℕ) → (leb (runs_at d d.mutexes x) j && ltb j (runs_at d (rows_unlocked m d) x)) ≡ (leb (ceiling c m) j && ltb j (level_holding c caller.level (given_back m held)))
-      unlock-tests j =
-          ap (λ n. leb n j && ltb j (runs_at d (rows_unlocked m d) x)) runs-old
-          ∙ ap (λ n. leb (level_holding c caller.level held) j && ltb j n) unlock-runs
-          ∙ between-given c m caller.level j held inner
+      unlock-tests j = grind (arith, nat_tests, runs-old, unlock-runs, between-given, inner)
 
       unlock-may : MayUnlock x m d
       unlock-may =
@@ -415,11 +373,7 @@ module _ (laws : HoldLaws) (x : ThreadId) (c : Configuration) (label : Label) (p
                 let cell = cell-is j known in
                 let law = subst (λ b. blocking c unlock-new j + cond b (hold_left x d.mutexes) 0 ≡ blocking c old j) (sym (unlock-tests j) ∙ both (runs_at d d.mutexes x) (runs_at d (rows_unlocked m d) x) j from to) (unlock-law j) in
                 omega (arith, cell, law);
-            high = λ j from to.
-                let known : j < length c.levels = omega (arith, low', is, to) in
-                let cell = cell-is j known in
-                let most = blocking-low j known in
-                omega (arith, cell, most);
+            high = grind (arith, nat_tests, cell-is, blocking-low);
           }
         where
           both : (a b j : ℕ) → a ≤ j → j < b → (leb a j && ltb j b) ≡ true

@@ -1,11 +1,9 @@
 -- What an event leaves as the tick without it was.
-use Rattle.dk_recount.proofs.Names.{◌≡◌, ◌-◌, ◌*◌, ◌∙◌, ◌&&◌, ◌||◌, inl, inr, cond, eqb, leb, ltb, ℕ, zero, suc, List, [], ◌∷◌, length, map, take, Option, option_map, refl, ap, sym, subst, arith, not, filter, filter_map, count_by, sum_by, Contains, ◌↔◌, list_any, cases_Bool, Configuration, below, period, release, budget, window_start, window_end, ThreadId, Label, Event, Entry, is_budget_of, is_out_of, is_kernel_at, does, is_wait, window, quiet, Thread, threads, family, share, is_main, is_stopped_before, lent_at, Job, job, rem, thread_rem, kernel_rem, is_closed, is_stopped_in, held_by, thread_blocking, greatest_left, blocking, windows_left, sum_starts, thread_demand, kernel_demand, own_demand, remaining_demand, Request, no_request, last_request, request, want, is_claimed_up_to, unclaimed, same-job, Table, row_at, AreThreads, Lockable, hold_at, AreHolders, Wish, AreCounted, AreOldestFirst, asking, counted_wish, unclaimed_of, filter-same, map-same, kernel_part, entry_of, sum_by-same, sum_from-eq, sum_every-as}
-use Rattle.dk_trace.specs.Holds.{hold_left}
+use Rattle.dk_recount.proofs.Names.{◌≡◌, ◌-◌, ◌∙◌, ◌&&◌, ◌||◌, cond, eqb, leb, ltb, ℕ, suc, List, [], ◌∷◌, length, map, take, Option, refl, ap, sym, subst, arith, not, filter, count_by, sum_by, Contains, ◌↔◌, list_any, Configuration, below, period, release, window_start, window_end, ThreadId, Label, Event, Entry, is_budget_of, is_out_of, does, is_wait, window, quiet, Thread, threads, family, share, Job, job, rem, thread_rem, kernel_rem, is_closed, is_stopped_in, held_by, blocking, windows_left, sum_starts, thread_demand, kernel_demand, own_demand, remaining_demand, Request, no_request, last_request, request, want, is_claimed_up_to, unclaimed, same-job, Table, AreThreads, Lockable, AreHolders, Wish, AreCounted, AreOldestFirst, asking, counted_wish, unclaimed_of, filter-same, map-same, kernel_part, entry_of, sum_by-same, sum_from-eq, sum_every-as, nat_tests}
 
 -- what is counted of the newest entries depends on the first one as far as it tells it apart
 take-as : {X : Type 0} (F : List Entry → X) (e f : Entry) → ((es : List Entry) → F (e ∷ es) ≡ F (f ∷ es)) → (n : ℕ) (past : List Entry) → F (take n (e ∷ past)) ≡ F (take n (f ∷ past))
-take-as F e f same zero past = refl
-take-as F e f same (suc n) past = same (take n past)
+take-as F e f same is past = grind (arith, nat_tests)
 
 -- an event that makes and stops nobody
 module _ (c : Configuration) (label : Label) (event : Option Event) (past : List Entry)
@@ -25,11 +23,7 @@ module _ (c : Configuration) (label : Label) (event : Option Event) (past : List
   Stays y = (es : List Entry) → list_any (does is_wait y.id) (e ∷ es) ≡ list_any (does is_wait y.id) (quiet label ∷ es)
 
   share-as : (y : Thread) (s : ℕ) → share c new y s ≡ share c old y s
-  share-as y s =
-      elim (cases_Bool (is_main y)) [
-        | inl main ↦ rw main (ap (λ f. cond (is_stopped_before s y) 0 (budget c y.id.process - lent_at c s f)) (fam y.id.process))
-        | inr child ↦ rw child refl
-      ]
+  share-as y s = grind (arith, nat_tests)
 
   pub job-as : (t : ℕ) (y : Thread) → Stays y → job c t new y ≡ job c t old y
   job-as t y stays =
@@ -43,10 +37,7 @@ module _ (c : Configuration) (label : Label) (event : Option Event) (past : List
   rem-as t y stays = ap (rem c.costs.switch) (job-as t y stays)
 
   pub part-as : (t k : ℕ) → kernel_part c t new k ≡ kernel_part c t old k
-  part-as t k =
-      same-job _ _ _ _ _ _ _ _ refl
-      (take-as (count_by (is_kernel_at k)) e (quiet label) (λ es. refl) (suc (length past) - window_start c k t) past)
-      refl refl
+  part-as t k = grind (arith, nat_tests, same-job, take-as)
 
   pub parts-as : (t : ℕ) → map (kernel_part c t new) (below (length c.levels)) ≡ map (kernel_part c t old) (below (length c.levels))
   parts-as t = map-same (kernel_part c t new) (kernel_part c t old) 0 (length c.levels) (λ j h. part-as t j)
@@ -75,11 +66,7 @@ module _ (c : Configuration) (label : Label) (event : Option Event) (past : List
       omega (arith, kernel, each, rows)
 
   pub blocking-as : (j : ℕ) → ((x : ThreadId) → held_by x new ≡ held_by x old) → blocking c new j ≡ blocking c old j
-  blocking-as j held =
-      let each = sum_by-same (thread_blocking c new j) (thread_blocking c old j) (threads c new)
-      (λ y has. ap (λ h. cond (leb (suc j) y.level) (greatest_left c j h) 0) (held y.id)) in
-      let rows = ap (sum_by (thread_blocking c old j)) same in
-      each ∙ rows
+  blocking-as j held = grind (arith, nat_tests, sum_by-same)
 
   pub unclaimed-as : (t : ℕ) → unclaimed_of c t new ≡ unclaimed_of c t old
   unclaimed-as t =
@@ -88,19 +75,10 @@ module _ (c : Configuration) (label : Label) (event : Option Event) (past : List
       ∙ take-as (count_by (λ f. not (is_claimed_up_to (threads c old) j f))) e (quiet label) (λ es. refl) (suc (length past) - window_start c j t) past)
 
   pub rows-as : (t : ℕ) (table : Table) → AreThreads c t old table → AreThreads c t new table
-  rows-as t table r = record {
-    levels = r.levels;
-    processes = r.processes;
-    most = r.most;
-    rows = λ p h. r.rows p h ∙ ap (filter_map (row_at c t)) (sym (fam p));
-    serials = λ p h. r.serials p h ∙ ap length (sym (fam p));
-  }
+  rows-as t table r = grind (arith, nat_tests)
 
   pub holders-as : (rows : List Lockable) → ((x : ThreadId) → held_by x new ≡ held_by x old) → AreHolders c old rows → AreHolders c new rows
-  holders-as rows held r = record {
-    mutexes = r.mutexes;
-    holds = λ x m. r.holds x m ∙ ap (λ h. option_map (hold_left c) (hold_at m h)) (sym (held x));
-  }
+  holders-as rows held r = grind (arith, nat_tests)
 
   -- it asks for no slack
   abbrev AsksNothing : Thread → Type 0
@@ -138,6 +116,5 @@ module _ (c : Configuration) (label : Label) (event : Option Event) (past : List
       each : (xs : List Thread) → map (counted_wish node_of c t old) xs ≡ map (counted_wish node_of c t new) xs
       each [] = refl
       each (x ∷ xs) =
-          let here : counted_wish node_of c t old x ≡ counted_wish node_of c t new x =
-          ap (λ (r : Request). record { node = node_of x.id; amount = r.amount - r.spent; entering = 2 * c.costs.switch - r.spent }) (sym (request-as t x (stays x) (nothing x))) in
+          let here : counted_wish node_of c t old x ≡ counted_wish node_of c t new x = grind (arith, nat_tests, request-as) in
           rw (here, each xs) refl

@@ -1,5 +1,5 @@
 -- What the laws below say of a tick that is charged, and what a label says of its choice.
-use Rattle.dk_recount.proofs.Names.{◌≡◌, ◌<◌, ◌-◌, ◌∙◌, inl, inr, true, ℕ, List, length, map, get_or, Option, Some, None, option_map, refl, ap, sym, subst, slice_get, All, cases_Bool, slice_get-map, Configuration, raised-all, ThreadId, Entry, Has, is_same, threads, Always, AtEachTick, TickSpends, TickLowersRem, TickLowersOwn, TickLowersRemaining, TickLowersBlocking, BudgetTickSpends, JobsKeepSeats, KernelTickSpends, OthersKeepParts, QueuesWorkers, IdsTellLevels, ChosenHolds, TickKeepsRows, Holder, Lockable, spent_row, HasLevels, TickSpendsHolds, OthersKeepHolds, TellsLevels, TellsWithin, TickMovesCells, raised, OthersKeepWishes, TellsAmounts, TickCountsUnclaimed, SlackSpendsWish, HoldsNest}
+use Rattle.dk_recount.proofs.Names.{◌≡◌, ◌<◌, ◌-◌, ◌∙◌, true, ℕ, List, length, map, get_or, Option, Some, None, option_map, refl, ap, sym, subst, slice_get, All, slice_get-map, Configuration, raised-all, ThreadId, Entry, Has, is_same, threads, Always, AtEachTick, TickSpends, TickLowersRem, TickLowersOwn, TickLowersRemaining, TickLowersBlocking, BudgetTickSpends, JobsKeepSeats, KernelTickSpends, OthersKeepParts, QueuesWorkers, IdsTellLevels, ChosenHolds, TickKeepsRows, Holder, Lockable, spent_row, HasLevels, TickSpendsHolds, OthersKeepHolds, TellsLevels, TellsWithin, TickMovesCells, raised, OthersKeepWishes, TellsAmounts, TickCountsUnclaimed, SlackSpendsWish, HoldsNest, nat_tests, arith}
 use Rattle.dk_mutex.specs.Rows.{lowered}
 
 pub record TickLaws : Type 0 where
@@ -30,17 +30,7 @@ pub record TickLaws : Type 0 where
 -- a holder after a tick was one before it, of the same level
 lowered-back : (id : ThreadId) (o : Option Holder) (h : Holder) → lowered id o ≡ Some h → (k : Holder) × (o ≡ Some k) × (h.thread ≡ k.thread) × (h.level ≡ k.level)
 lowered-back id None h is = absurd (cc)
-lowered-back id (Some k) h is =
-    elim (cases_Bool (is_same id k.thread)) [
-      | inl mine ↦
-          let e : Some (record k { left = k.left - 1 }) ≡ Some h = rw mine at is in
-          let same : record k { left = k.left - 1 } ≡ h = cc in
-          (k, refl, sym (ap (λ (z : Holder). z.thread) same), sym (ap (λ (z : Holder). z.level) same))
-      | inr other ↦
-          let e : Some k ≡ Some h = rw other at is in
-          let same : k ≡ h = cc in
-          (k, refl, sym (ap (λ (z : Holder). z.thread) same), sym (ap (λ (z : Holder). z.level) same))
-    ]
+lowered-back id (Some k) h is = grind (arith, nat_tests)
 
 pub levels-spent : (c : Configuration) (past after : List Entry) (rows : List Lockable) (id : ThreadId) → HasLevels c past rows → threads c after ≡ threads c past
     → HasLevels c after (map (spent_row id) rows)

@@ -1,5 +1,5 @@
 -- A tick that is charged makes the tables the recount of the past with the tick's entry.
-use Rattle.dk_recount.proofs.Names.{◌≡◌, ◌<◌, ◌+◌, ◌^◌, ◌∙◌, ◌⊎◌, inl, inr, true, false, cond, eqb, leb, ℕ, List, [], ◌∷◌, length, map, get_or, Option, Some, None, refl, ap, sym, arith, slice_index, option_map_or, option_or, length-map, nat_tests, MAX_TICKS, Configuration, length-map-numbers, at_index, ThreadId, Choice, Label, Entry, is_same, payer, borrower, quiet, Thread, threads, job, kernel_rem, own_demand, remaining_demand, level_of, unclaimed, chosen, HasChosenLabel, working_level, worked, threads-charged, spent, Says, unclaimed-few, AreFamilies, has_row, AreThreads, AreLoans, quiet-loans, each_level, CountsAt, TickMovesCells, counted, claiming_level, unclaimed_of, spares_of, AreWishes, new_job, Tables, node_in, IsReady, IsCharged, kernel_part, charged, counts, HasWork, MayCount, MayKernel, kernel_left, AreJobs}
+use Rattle.dk_recount.proofs.Names.{◌≡◌, ◌<◌, ◌+◌, ◌^◌, ◌∙◌, ◌⊎◌, inl, inr, true, eqb, leb, ℕ, List, [], ◌∷◌, length, map, get_or, Option, Some, None, refl, ap, sym, arith, slice_index, length-map, nat_tests, MAX_TICKS, Configuration, length-map-numbers, at_index, ThreadId, Choice, Label, Entry, payer, borrower, quiet, Thread, threads, kernel_rem, own_demand, remaining_demand, unclaimed, chosen, HasChosenLabel, working_level, worked, threads-charged, Says, unclaimed-few, AreFamilies, has_row, AreThreads, AreLoans, quiet-loans, each_level, CountsAt, TickMovesCells, counted, claiming_level, unclaimed_of, spares_of, AreWishes, Tables, node_in, IsReady, IsCharged, charged, counts, HasWork, MayCount, MayKernel, kernel_left, AreJobs}
 use Rattle.dk_recount.specs.Needed.{ChoosingLaws as Laws}
 use Rattle.dk_recount.proofs.Charge.Labels.{TickLaws, levels-kept, raised-few}
 
@@ -35,21 +35,10 @@ module _ (laws : Laws) (tick : TickLaws) (c : Configuration) (label : Label) (pa
 
   -- the unclaimed ticks
   pub counted-is : (wl : Option ℕ) → claiming_level (threads c after) (quiet label) ≡ wl → counted wl d.slack.unclaimed ≡ unclaimed_of c now after
-  counted-is wl is =
-      ap (counted wl) ready.recount.wishes.unclaimed
-      ∙ ap (λ o. counted o (unclaimed_of c now past)) (sym is)
-      ∙ tick.unclaimed c past (quiet label) (λ e x has pays. ap (λ xs. level_of xs x) same-threads)
+  counted-is wl is = grind (arith, nat_tests, same-threads)
 
   unclaimed-at : (j e : ℕ) → j < length d.slack.unclaimed → get_or d.slack.unclaimed j e + 1 < 2 ^ 32
-  unclaimed-at j e inside =
-      let many : length d.slack.unclaimed ≡ length c.levels =
-      ap length ready.recount.wishes.unclaimed ∙ length-map-numbers (λ i. unclaimed c now past i) 0 (length c.levels) in
-      let known : j < length c.levels = omega (arith, many, inside) in
-      let is : get_or d.slack.unclaimed j e ≡ unclaimed c now past j =
-      ap (λ us. get_or us j e) ready.recount.wishes.unclaimed ∙ at_index (λ i. unclaimed c now past i) (length c.levels) j e known in
-      let few = unclaimed-few c past j (ready.ruled.checked.positive j known) in
-      let short = ready.ruled.limits.periods j in
-      omega (arith, is, few, short)
+  unclaimed-at j e inside = grind (arith, nat_tests, length-map-numbers, at_index, unclaimed-few)
 
   pub may-count : (wl : Option ℕ) → MayCount wl d.slack
   may-count wl = raised-few wl d.slack.unclaimed (λ t. t + 1 < 2 ^ 32) unclaimed-at
@@ -64,9 +53,7 @@ module _ (laws : Laws) (tick : TickLaws) (c : Configuration) (label : Label) (pa
       tick.jobs node_of (has_row c now) c now now past after d.jobs
       (record {
         rows = same-threads;
-        jobs = λ x h.
-            tick.spends c label past ready.ruled.checked ready.ruled.accepted ready.ruled.audited chose x h
-            ∙ ap (λ o. cond (option_map_or (is_same x.id) o false) (spent c.costs.switch (job c now past x)) (job c now past x)) pays;
+        jobs = grind (arith, nat_tests);
       })
       jobs-before
 
@@ -104,30 +91,24 @@ module _ (laws : Laws) (tick : TickLaws) (c : Configuration) (label : Label) (pa
     own =
         (let law = tick.own c label past ready.ruled.checked ready.ruled.accepted ready.ruled.audited chose level in
         let self : eqb level level ≡ true = grind (arith, nat_tests) in
-        let one : worked (λ i. eqb i level) (threads c past) label ≡ 1 =
-        ap (λ o. cond (option_map_or (λ i. eqb i level) o false) 1 0) is ∙ rw self refl in
+        let one : worked (λ i. eqb i level) (threads c past) label ≡ 1 = grind (arith, nat_tests) in
         let cell = cell-at (own_demand c now past) d.demand.own level own-is known in
         omega (arith, law, one, cell));
     remaining = λ j low high.
         (let law = tick.remaining c label past ready.ruled.checked ready.ruled.accepted ready.ruled.audited chose j in
         let on : leb level j ≡ true = grind (arith, nat_tests) in
-        let one : worked (λ i. leb i j) (threads c past) label ≡ 1 =
-        ap (λ o. cond (option_map_or (λ i. leb i j) o false) 1 0) is ∙ rw on refl in
+        let one : worked (λ i. leb i j) (threads c past) label ≡ 1 = grind (arith, nat_tests) in
         let cell = cell-at (remaining_demand c now past) d.demand.remaining j remaining-is (omega (arith, levels-of, high)) in
         omega (arith, law, one, cell));
   }
 
   kernel-at : (k : ℕ) → k < length c.levels → kernel_left d k ≡ kernel_rem c now past k
-  kernel-at k known =
-      let at : get_or d.kernel k (new_job 0) ≡ kernel_part c now past k =
-      ap (λ parts. get_or parts k (new_job 0)) ready.recount.kernel ∙ at_index (kernel_part c now past) (length c.levels) k (new_job 0) known in
-      rw at refl
+  kernel-at k known = grind (arith, nat_tests, at_index)
 
   -- nobody's tick
   pub idle-charged : length past < MAX_TICKS → chosen c past ≡ Choice.Idle → Says label None None None None → IsCharged c label past (charged Choice.Idle d)
   idle-charged room is says =
-      let claims : claiming_level (threads c after) (quiet label) ≡ None =
-      ap (λ o. option_or o (option_map_or (level_of (threads c after)) (payer label) None)) says.kernel ∙ ap (λ o. option_map_or (level_of (threads c after)) o None) says.pays in
+      let claims : claiming_level (threads c after) (quiet label) ≡ None = grind (arith, nat_tests) in
       record {
         ruled = ready.ruled;
         chose = chose;
@@ -151,8 +132,7 @@ module _ (laws : Laws) (tick : TickLaws) (c : Configuration) (label : Label) (pa
   pub kernel-charged : length past < MAX_TICKS → (k : ℕ) → chosen c past ≡ Choice.Kernel k → Says label (Some k) None None None → k < length c.levels → 0 < kernel_rem c now past k
       → IsCharged c label past (charged (Choice.Kernel k) d)
   kernel-charged room k is says known left =
-      let claims : claiming_level (threads c after) (quiet label) ≡ Some k =
-      ap (λ o. option_or o (option_map_or (level_of (threads c after)) (payer label) None)) says.kernel in
+      let claims : claiming_level (threads c after) (quiet label) ≡ Some k = grind (arith, nat_tests) in
       record {
         ruled = ready.ruled;
         chose = chose;
@@ -174,7 +154,6 @@ module _ (laws : Laws) (tick : TickLaws) (c : Configuration) (label : Label) (pa
 
   pub kernel-may : (k : ℕ) → Says label (Some k) None None None → k < length c.levels → 0 < kernel_rem c now past k → MayKernel k d
   kernel-may k says known left =
-      let works : working_level (threads c past) label ≡ Some k =
-      ap (λ o. option_or o (option_map_or (level_of (threads c past)) (payer label) None)) says.kernel in
+      let works : working_level (threads c past) label ≡ Some k = grind (arith, nat_tests) in
       let part = kernel-at k known in
       record { work = has-work k works known; left = omega (arith, part, left); count = may-count (Some k) }

@@ -1,5 +1,5 @@
 -- A tick on a thread's budget, and one of slack, make the tables the recount of the past with the tick's entry.
-use Rattle.dk_recount.proofs.Names.{◌≡◌, ◌<◌, ◌≤◌, ◌+◌, ◌∙◌, inl, inr, ◌&&◌, Bool, true, false, cond, eqb, leb, ltb, ℕ, List, [], ◌∷◌, length, map, Some, None, refl, ap, sym, subst, arith, slice_index, Contains, option_map_or, option_or, cases_Bool, nat_tests, MAX_TICKS, Configuration, ThreadId, Phase, Source, Work, Choice, Label, Entry, Has, is_same, is_of, payer, thread_of, quiet, Thread, threads, rem, job, thread_rem, Hold, held_by, innermost_left, is_holding, past_level, blocking, level_of, want, chosen, HasChosenLabel, Always, BlocksAtMost, working_level, spent, AreFamilies, has_row, row-slot, effective_level, holds_within, dropped_cells, held_cells, AreCells, Wish, want_in, wishes_at, dropped, lowered, spent_wish, asking, claiming_level, spares_of, AreCounted, HaveOwnNodes, length-map, same-self, has-contains, has-filter, Says, AreWishes, Seat, seat_at, left_on, spent_on, Tables, IsSound, node_in, IsReady, IsCharged, seat_of, HasWork, charged, counts, level_in, first_in, MayBudget, MaySlack, AreSeated, AreJobs}
+use Rattle.dk_recount.proofs.Names.{◌≡◌, ◌<◌, ◌≤◌, ◌+◌, ◌∙◌, inl, inr, ◌&&◌, Bool, true, false, cond, eqb, leb, ltb, ℕ, List, [], ◌∷◌, length, map, Some, None, refl, ap, sym, subst, arith, slice_index, Contains, option_map_or, option_or, nat_tests, MAX_TICKS, Configuration, ThreadId, Phase, Source, Work, Choice, Label, Entry, Has, is_same, is_of, payer, thread_of, quiet, Thread, threads, rem, job, thread_rem, Hold, held_by, innermost_left, is_holding, past_level, blocking, level_of, want, chosen, HasChosenLabel, Always, BlocksAtMost, working_level, spent, AreFamilies, has_row, row-slot, effective_level, holds_within, dropped_cells, held_cells, AreCells, Wish, want_in, wishes_at, dropped, lowered, spent_wish, asking, claiming_level, spares_of, AreCounted, HaveOwnNodes, length-map, same-self, has-contains, has-filter, Says, AreWishes, Seat, seat_at, left_on, spent_on, Tables, IsSound, node_in, IsReady, IsCharged, seat_of, HasWork, charged, counts, level_in, first_in, MayBudget, MaySlack, AreSeated, AreJobs}
 use Rattle.dk_trace.specs.Holds.{hold_left}
 use Rattle.dk_recount.specs.Needed.{ChoosingLaws as Laws}
 use Rattle.dk_recount.proofs.Rows.{slot-is, nodes-differ}
@@ -81,10 +81,7 @@ module _ (laws : Laws) (tick : TickLaws) (c : Configuration) (label : Label) (pa
     level-told = tick.levels c past ready.ruled.checked ready.ruled.accepted ready.ruled.audited y among
 
     works : working_level (threads c past) label ≡ Some y.level
-    works =
-        ap (λ o. option_or o (option_map_or (level_of (threads c past)) (payer label) None)) says.kernel
-        ∙ ap (λ o. option_map_or (level_of (threads c past)) o None) says.pays
-        ∙ level-told
+    works = grind (arith, nat_tests, level-told)
 
     claims : claiming_level (threads c after) (quiet label) ≡ Some y.level
     claims =
@@ -102,9 +99,7 @@ module _ (laws : Laws) (tick : TickLaws) (c : Configuration) (label : Label) (pa
         (counting laws tick c label past d ready families chose) among says.pays).0
 
     spends : (z : Thread) → Has (threads c past) z → job c now after z ≡ cond (is_same z.id y.id) (spent c.costs.switch (job c now past z)) (job c now past z)
-    spends z h =
-        tick.spends c label past ready.ruled.checked ready.ruled.accepted ready.ruled.audited chose z h
-        ∙ ap (λ o. cond (option_map_or (is_same z.id) o false) (spent c.costs.switch (job c now past z)) (job c now past z)) says.pays
+    spends z h = grind (arith, nat_tests, tick.spends c label past ready.ruled.checked ready.ruled.accepted ready.ruled.audited chose z h)
 
     paid-jobs : AreJobs node_of (has_row c now) c now after (spent_on (node_of y.id) d.jobs)
     paid-jobs =
@@ -127,9 +122,7 @@ module _ (laws : Laws) (tick : TickLaws) (c : Configuration) (label : Label) (pa
         loans = same-loans laws tick c label past d ready families chose;
         holders = tick.held c past d.mutexes y.id (quiet label) ready.recount.holders (is-mine y says.has) refl;
         own_levels = levels-spent c past after d.mutexes y.id ready.recount.own_levels (same-threads laws tick c label past d ready families chose);
-        cells =
-            subst (λ l. AreCells c after (held_cells l (first_in d y.id) 1 0 (dropped_cells l 1 d.demand))) (sym level-is)
-            (subst (λ f. AreCells c after (held_cells y.level f 1 0 (dropped_cells y.level 1 d.demand))) (sym first-is) paid-cells);
+        cells = grind (arith, nat_tests, level-is, first-is, paid-cells);
         wishes =
             subst (λ l. AreWishes node_of (spares_of c) c now after (counts (Some l) d.slack)) (sym level-is)
             (wishes-kept laws tick c label past d ready families chose (Some y.level) (inr (y.id, says)) claims);
@@ -144,10 +137,7 @@ module _ (laws : Laws) (tick : TickLaws) (c : Configuration) (label : Label) (pa
     blocked j = tick.blocks c label past ready.ruled.checked ready.ruled.accepted ready.ruled.audited chose y j among says.has
 
     between-on : (j : ℕ) → past_level c past y ≤ j → j < y.level → ◌≡◌ {A = ℕ} (cond (leb (past_level c past y) j && ltb j y.level) 1 0) 1
-    between-on j low high =
-        let a : leb (past_level c past y) j ≡ true = grind (arith, nat_tests) in
-        let b : ltb j y.level ≡ true = grind (arith, nat_tests) in
-        rw (a, b) refl
+    between-on j low high = grind (arith, nat_tests)
 
     cell : (j : ℕ) → j < y.level → slice_index d.demand.blocking j ≡ blocking c past j
     cell j high = cell-at laws tick c label past d ready families chose (blocking c past) d.demand.blocking j ready.recount.cells.blocking (omega (arith, known))
@@ -160,10 +150,7 @@ module _ (laws : Laws) (tick : TickLaws) (c : Configuration) (label : Label) (pa
           node = node-low y among there;
           left = (let same : left_on d.jobs (node_of y.id) ≡ thread_rem c now past y = ap (λ (s : Seat). rem d.jobs.switch s.job) seat-is ∙ ap (λ W. rem W (job c now past y)) ready.recount.jobs.switch in omega (arith, same));
           queued = tick.queued node_of (has_row c now) c now past d.jobs y (jobs-before laws tick c label past d ready families chose) among known some;
-          front = λ k node inside at sits.
-              (let levels = levels-of laws tick c label past d ready families chose in
-              let queues = sound.queues in
-              front-owned laws c past d ready families k node y.id (omega (arith, levels, queues, inside)) at sits);
+          front = grind (arith, nat_tests, levels-of, front-owned);
           holds = holds-far y among;
           blocks = λ j low high. (let law = blocked j in let f = first-is in let l = level-is in let on = between-on j (omega (arith, low, f)) (omega (arith, high, l)) in let cell = cell j (omega (arith, high, l)) in omega (arith, law, on, cell));
           few = λ j low high.
@@ -192,19 +179,10 @@ module _ (laws : Laws) (tick : TickLaws) (c : Configuration) (label : Label) (pa
     own' = own-nodes laws c past d ready families
 
     holds-nothing : is_holding (held_by y.id past) ≡ false
-    holds-nothing =
-        elim (cases_Bool (is_holding (held_by y.id past))) [
-          | inr free ↦ free
-          | inl holding ↦
-              let stands = laws.stand c past ready.ruled.checked ready.ruled.accepted ready.ruled.audited y among holding in
-              let left = stands.rem in
-              absurd (omega (arith, left, gone))
-        ]
+    holds-nothing = grind (arith, nat_tests)
 
     no-claim : claiming_level (threads c after) (quiet label) ≡ None
-    no-claim =
-        ap (λ o. option_or o (option_map_or (level_of (threads c after)) (payer label) None)) says.kernel
-        ∙ ap (λ o. option_map_or (level_of (threads c after)) o None) says.pays
+    no-claim = grind (arith, nat_tests)
 
     pub slack-charged : length past < MAX_TICKS → (part : Phase) → chosen c past ≡ Choice.Slack y.id from part → IsCharged c label past (charged (Choice.Slack y.id from part) d)
     slack-charged room part is = record {

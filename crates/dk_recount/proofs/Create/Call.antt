@@ -1,5 +1,5 @@
 -- A create of whoever is in a call.
-use Rattle.dk_recount.proofs.Names.{arith, ◌≡◌, ◌<◌, ◌+◌, ◌∙◌, true, eqb, ℕ, List, ◌∷◌, length, Some, None, refl, ap, sym, subst, option_map_or, MAX_TICKS, Configuration, ThreadId, Label, Event, Entry, Has, Thread, family, is_main, threads, create_refusal, Follows, quiet, Always, CallersStand, CallerStands, clock_at, end_at, AreFamilies, has_room, serials_at, stands, IsSound, Tables, IsBooked, IsCalling, with_event, MayCreate, child_row, create_refusal_in, with_child, Creates, IsNewRow, create_refusal_of, lend_refusal}
+use Rattle.dk_recount.proofs.Names.{arith, ◌≡◌, ◌<◌, ◌+◌, ◌∙◌, true, eqb, ℕ, List, ◌∷◌, length, Some, None, refl, ap, sym, subst, option_map_or, MAX_TICKS, Configuration, ThreadId, Label, Event, Entry, Has, Thread, is_main, threads, create_refusal, Follows, quiet, Always, CallersStand, CallerStands, AreFamilies, has_room, serials_at, stands, IsSound, Tables, IsBooked, IsCalling, with_event, MayCreate, child_row, create_refusal_in, with_child, Creates, IsNewRow, create_refusal_of, lend_refusal, nat_tests}
 use Rattle.dk_recount.proofs.Create.Recount.{created-booked}
 use Rattle.dk_recount.proofs.Create.Recount.{Laws as BookLaws}
 use Rattle.dk_recount.proofs.Create.Needs.{fits, known, lend-none, main-is, may-create, room, standing}
@@ -83,11 +83,8 @@ module _ (laws : MakeLaws) (x : ThreadId) (c : Configuration) (label : Label) (p
     pub creates : create_refusal_in d x level quota entry instructions ≡ create_refusal_of c label past x level quota entry instructions
         → Creates x level quota entry instructions d (with_child x.process level quota d) (child_row x.process level d) c label past
     creates same = record {
-      serial = subst (λ (i : ThreadId). serials_at d.threads i.process + 1 ≡ length (family c i.process (quiet label ∷ past))) caller.id
-          (calling.charged.recount.rows.serials y.id.process is-known);
-      start =
-          ap (λ w. end_at w level) (calling.charged.recount.cells.windows ∙ ap (clock_at c) calling.charged.recount.tick)
-          ∙ laws.book.ends c (length past) level;
+      serial = grind (arith, nat_tests, caller, is-known);
+      start = grind (arith, nat_tests);
       met = sym same ∙ none;
       booked =
           subst (λ (i : ThreadId). Follows c past (with_event label (Event.Create (serials_at d.threads i.process + 1) level quota))

@@ -1,6 +1,5 @@
 -- What the tables of a charged tick owe the create of a main that executes in it.
-use Rattle.dk_recount.proofs.Names.{◌≡◌, ◌<◌, ◌+◌, ◌*◌, ◌/◌, ◌∙◌, inl, inr, Bool, true, false, eqb, ltb, ℕ, List, [], ◌∷◌, length, map, Option, Some, None, refl, ap, sym, subst, arith, nat_lt, nat_le, sum_by, slice_get, filter, filter_map, find, if◌then◌else◌, MatchOption, cons_option, option_map_or, cases_Bool, and_parts, ltb-true, lt-ltb, ltb-false, leb-false, nat_tests, MAX_TICKS, Configuration, IsChecked, IsAccepted, period, budget, main_level, max_level, ThreadId, Label, Event, Entry, Refusal, is_same, is_of, quiet, Has, Thread, threads, family, is_main, thread_rem, create_refusal, least_share, standing_children, Audited, Follows, ThreadFollows, MayHave, row_of, done_refusal, same-self, has-map, filter-has, family-charged, family-few, family-among, levels-slots, is-lent, Always, AtEachEntry, AtEachTick, TickLowersRem, AbsentHaveNothing, FamiliesStand, RowsAreNamed, FamilyStands, CallersRun, threads-charged, State, ThreadRow, Family, AreFamilies, rows_of, children_at, most_at, serials_at, has_room, has_serials, is_running, stands, has_row, row_at, counted_row, unplaced, state_of, main_id, FreesSlots, rows-lent, running-row, row-there, Book, lend_refusal, RefusesLoans, queue_at, holds, none-holds, no-holder, Tables, IsSound, node_in, is_ready, ready_nodes, IsRecount, IsCalling, MayCreate, create_refusal_in, free_node, length-map}
-use Rattle.std.proofs.Common.{not}
+use Rattle.dk_recount.proofs.Names.{◌≡◌, ◌<◌, ◌∙◌, inl, Bool, true, false, eqb, ltb, ℕ, List, [], ◌∷◌, length, map, Option, Some, None, refl, ap, sym, subst, arith, nat_lt, nat_le, slice_get, filter, filter_map, if◌then◌else◌, option_map_or, and_parts, ltb-true, lt-ltb, ltb-false, leb-false, nat_tests, MAX_TICKS, Configuration, IsChecked, IsAccepted, max_level, ThreadId, Label, Event, Entry, is_same, is_of, quiet, Has, Thread, threads, family, is_main, thread_rem, create_refusal, standing_children, Audited, Follows, ThreadFollows, row_of, same-self, has-map, filter-has, family-charged, family-few, family-among, levels-slots, is-lent, Always, AtEachEntry, AtEachTick, TickLowersRem, AbsentHaveNothing, FamiliesStand, RowsAreNamed, FamilyStands, CallersRun, threads-charged, State, ThreadRow, Family, AreFamilies, rows_of, has_room, has_serials, is_running, stands, has_row, row_at, counted_row, unplaced, state_of, main_id, FreesSlots, rows-lent, running-row, row-there, lend_refusal, RefusesLoans, queue_at, holds, none-holds, no-holder, Tables, IsSound, node_in, is_ready, ready_nodes, IsRecount, IsCalling, MayCreate, create_refusal_in, free_node, length-map}
 use Rattle.dk_config.specs.Windows.{slots}
 use Rattle.dk_recount.proofs.Stop.Present.{worker-has-row}
 use Rattle.dk_recount.proofs.Create.Node.{apart, below-nodes}
@@ -17,11 +16,7 @@ pub record Laws : Type 0 where
 -- a create that isn't refused is a main's, and the loans don't refuse it
 pub lend-none : (d : Tables) (x : ThreadId) (level quota entry instructions : ℕ) → create_refusal_in d x level quota entry instructions ≡ None
     → (eqb x.serial 0 ≡ true) × (lend_refusal d.loans x.process level quota entry instructions ≡ None)
-lend-none d x level quota entry instructions none =
-    elim (cases_Bool (eqb x.serial 0)) [
-      | inl main ↦ (main, rw main at none)
-      | inr child ↦ let some : Some Refusal.NotMain ≡ None = rw child at none in absurd (cc)
-    ]
+lend-none d x level quota entry instructions none = grind (arith, nat_tests)
 
 module _ (laws : Laws) (c : Configuration) (label : Label) (past : List Entry) (d : Tables) (x : Thread) (level quota entry instructions : ℕ)
     (sound : IsSound d) (are : AreFamilies d.threads.levels d.threads.families) (early : d.demand.windows.tick < MAX_TICKS)
@@ -60,33 +55,20 @@ module _ (laws : Laws) (c : Configuration) (label : Label) (past : List Entry) (
       zero-is n h = grind (arith, nat_tests)
 
   pub found : row_of c past x.id ≡ Some stood.main
-  found =
-      let on : is_same x.id stood.main.id ≡ true = subst (λ i. is_same x.id i ≡ true) (main-is ∙ sym stood.id) (same-self x.id) in
-      ap (find (λ y. is_same x.id y.id)) stood.rows ∙ ap (λ b. if b then Some stood.main else find (λ y. is_same x.id y.id) stood.children) on
+  found = grind (arith, nat_tests, stood, main-is, same-self)
 
   -- an exit of the thread follows the rules in this tick, and so it hasn't been stopped
   stop-none : stood.main.stop ≡ None
   stop-none =
       let e : Entry = record { label = label; event = Some Event.Exit } in
-      let acts : ThreadFollows c past e x.id = record {
-        fault = λ h. absurd (cc);
-        last = λ h. refl;
-        met = (tt, subst (λ o. MatchOption o ⊥ (λ row. done_refusal c now (quiet label ∷ past) row Event.Exit ≡ None)) (sym found) refl);
-      } in
-      let follows : Follows c past e = record {
-        choice = calling.charged.chose;
-        work = subst (λ w. MayHave w (Some Event.Exit)) (sym calling.call) tt;
-        thread = subst (λ o. MatchOption o (Unit {0}) (ThreadFollows c past e)) (sym calling.caller) acts;
-      } in
+      let acts : ThreadFollows c past e x.id = grind (arith, nat_tests, found) in
+      let follows : Follows c past e = grind (arith, nat_tests) in
       let there : Has (family c p past) stood.main = subst (λ xs. Has xs stood.main) (sym stood.rows) (inl refl) in
       let mine : is_of stood.main.id e ≡ true = ap (λ o. option_map_or (is_same stood.main.id) o false) calling.caller ∙ subst (λ i. is_same i x.id ≡ true) (main-is ∙ sym stood.id) (same-self x.id) in
       laws.callers c e past checked accepted (audited, follows) stood.main Event.Exit (family-among c p past stood.main known there) mine refl
 
   rows-here : map unplaced (rows_of d.threads p) ≡ counted_row c now stood.main ∷ filter_map (row_at c now) stood.children
-  rows-here =
-      let there : row_at c now stood.main ≡ Some (counted_row c now stood.main) = ap (λ b. if b then Some (counted_row c now stood.main) else None) (running-row c now stood.main stop-none) in
-      rec.rows.rows p known ∙ ap (filter_map (row_at c now)) (family-charged c p label past ∙ stood.rows)
-      ∙ ap (λ o. cons_option o (filter_map (row_at c now) stood.children)) there
+  rows-here = grind (arith, nat_tests, stood, running-row, stop-none, rec, known, family-charged)
 
   fam : (f : Family) × (slice_get d.threads.families p ≡ Some f)
   fam = go (slice_get d.threads.families p) refl
@@ -94,8 +76,7 @@ module _ (laws : Laws) (c : Configuration) (label : Label) (past : List Entry) (
       go : (o : Option Family) → slice_get d.threads.families p ≡ o → (f : Family) × (slice_get d.threads.families p ≡ Some f)
       go (Some f) at = (f, at)
       go None at =
-          let none-rows : [] ≡ counted_row c now stood.main ∷ filter_map (row_at c now) stood.children =
-          sym (ap (λ o. map unplaced (option_map_or (λ (z : Family). z.main ∷ z.children) o [])) at) ∙ rows-here in
+          let none-rows : [] ≡ counted_row c now stood.main ∷ filter_map (row_at c now) stood.children = grind (arith, nat_tests, rows-here) in
           absurd (cc)
 
   rows-fam : unplaced fam.0.main ∷ map unplaced fam.0.children ≡ counted_row c now stood.main ∷ filter_map (row_at c now) stood.children
@@ -118,31 +99,18 @@ module _ (laws : Laws) (c : Configuration) (label : Label) (past : List Entry) (
       started false = refl
 
   serials : has_serials d.threads p ≡ true
-  serials =
-      let a = rec.rows.serials p known in
-      let b : length (family c p before) ≡ length (family c p past) = ap length (family-charged c p label past) in
-      let few = family-few c p past in
-      let tick = rec.tick in
-      lt-ltb (serials_at d.threads p) MAX_TICKS (omega (arith, a, b, few, tick, early))
+  serials = grind (arith, nat_tests, rec, known, family-charged, family-few, lt-ltb)
 
   -- what isn't refused
   module _ (none : lend_refusal d.loans p level quota entry instructions ≡ None) where
     past-none : create_refusal c now before x level quota entry instructions ≡ None
-    past-none =
-        sym (laws.refusals c now before x level quota entry instructions known main)
-        ∙ sym (ap (λ (b : Book). lend_refusal b p level quota entry instructions) rec.loans) ∙ none
+    past-none = grind (arith, nat_tests, known, rec, laws.refusals c now before x level quota entry instructions known main)
 
     within : (nat_lt (max_level c p) level ≡ false) × (nat_le (slots c p) (length (standing_children c now before p)) ≡ false)
-    within =
-        levels-slots (not (is_main x)) (nat_lt level (main_level c p)) (nat_lt (max_level c p) level) (nat_le instructions entry)
-        (nat_le (slots c p) (length (standing_children c now before p))) (nat_lt ((quota * period c level) / period c (main_level c p)) (least_share c))
-        (nat_lt (budget c p) (sum_by (λ (y : Thread). y.quota) (standing_children c now before p) + quota + least_share c)) past-none
+    within = grind (arith, nat_tests, levels-slots, past-none)
 
     pub fits : level < length c.levels
-    fits =
-        let low = ltb-false (max_level c p) level within.0 in
-        let reach = checked.reaches p known in
-        omega (arith, low, reach)
+    fits = grind (arith, nat_tests, ltb-false, within, checked, known)
 
     slots-left : length (standing_children c now before p) < slots c p
     slots-left = leb-false (slots c p) (length (standing_children c now before p)) within.1
@@ -162,18 +130,10 @@ module _ (laws : Laws) (c : Configuration) (label : Label) (past : List Entry) (
         first-off on = rw on refl
 
     pub room : has_room d.threads p ≡ true
-    room =
-        let a = slots-left in
-        let b = kids-many in
-        let kids : children_at d.threads p ≡ fam.0.children = ap (λ o. option_map_or (λ (z : Family). z.children) o []) fam.1 in
-        let n : length (children_at d.threads p) ≡ length fam.0.children = ap length kids in
-        let most = rec.rows.most p known in
-        lt-ltb (length (children_at d.threads p)) (most_at d.threads p) (omega (arith, a, b, n, most))
+    room = grind (arith, nat_tests, slots-left, kids-many, fam, rec, known, lt-ltb)
 
     worker : (y : Thread) → Has (threads c past) y → 0 < thread_rem c now before y → has_row c now y ≡ true
-    worker y h some =
-        let low = laws.lowers c label past checked accepted audited calling.charged.chose y h in
-        worker-has-row c past (laws.absent c past checked accepted audited) y h (omega (arith, low, some))
+    worker y h some = grind (arith, nat_tests, checked, accepted, audited, worker-has-row, laws.lowers c label past checked accepted audited calling.charged.chose y h, laws.absent c past checked accepted audited)
 
     queue-free : (k : ℕ) → k < length d.jobs.ready.lists → holds (free_node d.threads p) (queue_at d.jobs.ready.lists k) ≡ false
     queue-free k less =

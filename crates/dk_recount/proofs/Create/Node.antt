@@ -1,5 +1,5 @@
 -- Where a process has room, the node of its next child is nobody's.
-use Rattle.dk_recount.proofs.Names.{◌≡◌, ◌<◌, ◌≤◌, ◌+◌, ◌*◌, inl, inr, true, false, eqb, ℕ, [], ◌∷◌, length, Some, ap, sym, subst, arith, slice_get, option_map_or, cases_Bool, eq-eqb, eqb-true, ltb-true, slice_get_within, MAX_CHILDREN, MAX_THREADS, ThreadId, Has, list_any-has, ThreadRow, Family, has_slot, is_taken, Table, AreFamilies, rows_of, children_at, most_at, free_slot, has_room, stands, FreesSlots, HasRow, row-slot, some-family, node_in, free_node}
+use Rattle.dk_recount.proofs.Names.{◌≡◌, ◌<◌, ◌≤◌, ◌+◌, ◌*◌, inl, inr, true, false, eqb, ℕ, [], ◌∷◌, length, Some, ap, sym, subst, arith, slice_get, option_map_or, cases_Bool, eq-eqb, eqb-true, ltb-true, slice_get_within, MAX_CHILDREN, MAX_THREADS, ThreadId, Has, list_any-has, ThreadRow, Family, has_slot, is_taken, Table, AreFamilies, rows_of, children_at, most_at, free_slot, has_room, stands, FreesSlots, HasRow, row-slot, some-family, node_in, free_node, nat_tests}
 use Rattle.dk_recount.proofs.Rows.{slot-is}
 
 apart-numbers : (p q s f : ℕ) → s ≤ MAX_CHILDREN → f ≤ MAX_CHILDREN → MAX_THREADS * q + s ≡ MAX_THREADS * p + f → (q ≡ p) × (s ≡ f)
@@ -55,7 +55,4 @@ module _ (frees : FreesSlots) (table : Table) (p : ℕ) (are : AreFamilies table
       ]
 
   pub below-nodes : free_node table p < MAX_THREADS * length table.families
-  below-nodes =
-      let within = slice_get_within table.families p fam.0 fam.1 in
-      let high = free-here.1 in
-      omega (arith, within, high)
+  below-nodes = grind (arith, nat_tests, slice_get_within, fam, free-here)

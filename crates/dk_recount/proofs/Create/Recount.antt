@@ -1,5 +1,5 @@
 -- The tables in which a main has made a child are the recount of the past with its create.
-use Rattle.dk_recount.proofs.Names.{◌≡◌, ◌<◌, ◌+◌, ◌*◌, ◌-◌, ◌∙◌, ◌⊎◌, inl, inr, ◌&&◌, ◌||◌, Bool, true, false, eqb, ℕ, zero, suc, List, [], ◌∷◌, ◌++◌, length, map, take, Option, Some, None, is_none, option_map, refl, ap, sym, subst, arith, nat_lt, slice_get, filter, find, if◌then◌else◌, MatchOption, option_map_or, option_or, cases_Bool, and_parts, eqb-true, ltb-true, and-false, find-append, get_or-set_same, MAX_THREADS, Configuration, below, IsChecked, IsAccepted, period, window_end, ThreadId, Label, Event, Entry, is_same, is_of, does, is_wait, stops, main_of, payer, thread_of, window, quiet, Has, Thread, threads, family, after_entry, new_rows, job, thread_rem, rem, is_closed, Request, request, want, level_of, last_request, no_request, Hold, held_by, is_holding, Audited, Follows, ThreadFollows, same-id, same-self, filter-has, contains-has, has-contains, has-filter, find-nothing, old-there, new-from, find-grown, map-alike, map-rests, label-payer, quiet-holds, family-charged, family-among, Always, ThreadsPlaced, AskersThere, HoldersKnown, ChosenHolds, AtEachEntry, AtEachTick, EventCloses, EventLowersRem, NewHaveNothing, closes, closed_if, EventKeepsReady, AbsentHaveNothing, FamiliesStand, RowsAreNamed, TickSpends, TickLowersRem, threads-charged, row-same, request-kept, serial-low, payer-low, no-request, clock_at, end_at, ThreadRow, Family, is_row_of, Table, AreFamilies, rows_of, find_row, serials_at, free_slot, has_room, new_row, next_id, stands, changed_family, has_row, main_id, AreThreads, CreateAddsRow, FreesSlots, HasRow, row-there, changed-here, changed-there, begun-found, some-family, counted_lender, recount, lent_to, new_loan, changed_lender, CreateAddsLoan, QuietKeepsLoans, changed-lenders, quiet-lender, Holder, Lockable, holder_left, left_of, left_at, HasLevels, hold_at, counted_left, AreHolders, EventEndsHolds, EventMovesCells, AreCells, Wish, wishes_at, spares_of, counted_wish, asking, AreCounted, AreOldestFirst, unclaimed_of, AreWishes, queue_at, seat_at, vacant, new_job, sat_down, Tables, IsSound, node_in, seat_of, is_ready, ready_nodes, IsCharged, IsBooked, IsRecount, free_node, new_seat, with_child, TickCountsUnclaimed, EventKeepsParts, set-other}
+use Rattle.dk_recount.proofs.Names.{◌≡◌, ◌<◌, ◌+◌, ◌*◌, ◌-◌, ◌∙◌, ◌⊎◌, inl, inr, ◌&&◌, Bool, true, false, eqb, ℕ, zero, suc, List, [], ◌∷◌, ◌++◌, length, map, take, Option, Some, None, option_map, refl, ap, sym, subst, arith, nat_lt, slice_get, filter, if◌then◌else◌, MatchOption, option_map_or, cases_Bool, and_parts, eqb-true, ltb-true, and-false, find-append, get_or-set_same, MAX_THREADS, Configuration, below, IsChecked, IsAccepted, period, window_end, ThreadId, Label, Event, Entry, is_same, is_of, stops, main_of, payer, thread_of, window, quiet, Has, Thread, threads, family, after_entry, new_rows, job, thread_rem, rem, is_closed, Request, request, want, level_of, last_request, no_request, Hold, held_by, is_holding, Audited, Follows, ThreadFollows, same-id, same-self, filter-has, contains-has, has-contains, has-filter, find-nothing, old-there, new-from, find-grown, map-alike, map-rests, label-payer, quiet-holds, family-charged, family-among, Always, ThreadsPlaced, AskersThere, HoldersKnown, ChosenHolds, AtEachEntry, AtEachTick, EventCloses, EventLowersRem, NewHaveNothing, closes, EventKeepsReady, AbsentHaveNothing, FamiliesStand, RowsAreNamed, TickSpends, TickLowersRem, threads-charged, row-same, request-kept, serial-low, payer-low, no-request, clock_at, end_at, ThreadRow, Family, Table, AreFamilies, rows_of, find_row, serials_at, free_slot, has_room, new_row, next_id, stands, changed_family, has_row, main_id, AreThreads, CreateAddsRow, FreesSlots, HasRow, row-there, changed-here, changed-there, begun-found, some-family, counted_lender, recount, lent_to, new_loan, changed_lender, CreateAddsLoan, QuietKeepsLoans, changed-lenders, quiet-lender, Holder, Lockable, left_at, HasLevels, hold_at, counted_left, AreHolders, EventEndsHolds, EventMovesCells, AreCells, Wish, wishes_at, spares_of, counted_wish, asking, AreCounted, AreOldestFirst, unclaimed_of, AreWishes, queue_at, seat_at, vacant, new_job, sat_down, Tables, IsSound, node_in, seat_of, is_ready, ready_nodes, IsCharged, IsBooked, IsRecount, free_node, new_seat, with_child, TickCountsUnclaimed, EventKeepsParts, set-other, nat_tests}
 use Rattle.std.proofs.Common.{not}
 use Rattle.dk_trace.specs.Holds.{hold_left}
 use Rattle.dk_bound.specs.Moves.{released}
@@ -37,8 +37,7 @@ pub record Laws : Type 0 where
   pub ends : (c : Configuration) (tick level : ℕ) → end_at (clock_at c tick) level ≡ window_end c level tick
 
 hold-among : (m : ℕ) (held : List Hold) (h : Hold) → hold_at m held ≡ Some h → is_holding held ≡ true
-hold-among m [] h is = absurd (cc)
-hold-among m (k ∷ held) h is = refl
+hold-among m held h is = grind (arith, nat_tests)
 
 module _ (laws : Laws) (c : Configuration) (label : Label) (past : List Entry) (d : Tables) (p serial level quota : ℕ)
     (sound : IsSound d) (are : AreFamilies d.threads.levels d.threads.families)
@@ -97,9 +96,7 @@ module _ (laws : Laws) (c : Configuration) (label : Label) (past : List Entry) (
   same-after y = row-same e now y (stays y.id)
 
   closes-off : (y : Thread) → closes e y ≡ false
-  closes-off y =
-      ap (λ b. does is_wait y.id e || (is_none y.stop && b)) (stays y.id) ∙ ap (λ b. does is_wait y.id e || b) (and-false (is_none y.stop))
-      ∙ ap (λ b. b || false) (and-false (is_of y.id e))
+  closes-off y = grind (arith, nat_tests, stays, and-false)
 
   whose : (q : ℕ) → is_of (main_id q) e ≡ is_same (main_id q) (main_id p)
   whose q = ap (λ o. option_map_or (is_same (main_id q)) o false) own
@@ -158,9 +155,7 @@ module _ (laws : Laws) (c : Configuration) (label : Label) (past : List Entry) (
   start-is = ap (λ w. end_at w level) windows ∙ laws.ends c now level
 
   rows-new : AreThreads c now (e ∷ past) table'
-  rows-new =
-      subst (λ s. AreThreads c now (e ∷ past) (changed_family (begun p level s) p d.threads)) (sym start-is)
-      (laws.begins c label past d.threads p serial level quota checked known fits own serial-table rec.rows)
+  rows-new = grind (arith, nat_tests, start-is, checked, serial-table, rec, laws.begins c label past d.threads p serial level quota checked known fits own serial-table rec.rows)
 
   has-row : (y : Thread) → Has (threads c past) y → has_row c now y ≡ true → HasRow d.threads y.id
   has-row y h there =
@@ -181,18 +176,7 @@ module _ (laws : Laws) (c : Configuration) (label : Label) (past : List Entry) (
   rows-p' = ap (λ o. option_map_or (λ (z : Family). z.main ∷ z.children) o []) (changed-here (begun p level (end_at d.demand.windows level)) p d.threads fam.0 fam.1)
 
   found-kept : (y : ThreadId) (h : HasRow d.threads y) → find_row table' y ≡ Some h.row
-  found-kept y h =
-      elim (cases_Bool (eqb y.process p)) [
-        | inl here ↦
-            let q = eqb-true y.process p here in
-            let old : find (is_row_of y) (fam.0.main ∷ fam.0.children) ≡ Some h.row =
-            sym (ap (find (is_row_of y)) rows-p) ∙ ap (λ k. find (is_row_of y) (rows_of d.threads k)) (sym q) ∙ h.found in
-            ap (λ k. find (is_row_of y) (rows_of table' k)) q ∙ ap (find (is_row_of y)) rows-p'
-            ∙ find-append (is_row_of y) (fam.0.main ∷ fam.0.children) (next-row ∷ []) ∙ ap (λ o. option_or o (find (is_row_of y) (next-row ∷ []))) old
-        | inr off ↦
-            ap (λ o. find (is_row_of y) (option_map_or (λ (z : Family). z.main ∷ z.children) o [])) (changed-there (begun p level (end_at d.demand.windows level)) p y.process d.threads off)
-            ∙ h.found
-      ]
+  found-kept y h = grind (arith, nat_tests, eqb-true, fam, rows-p, rows-p', find-append, next-row, changed-there, windows)
 
   kept : (y : ThreadId) → HasRow d.threads y → node' y ≡ node y
   kept y h = ap (λ o. MAX_THREADS * y.process + option_map_or (λ (r : ThreadRow). r.slot) o 0) (found-kept y h ∙ sym h.found)
@@ -201,26 +185,20 @@ module _ (laws : Laws) (c : Configuration) (label : Label) (past : List Entry) (
   child-id = ap (λ s. record { process = p; serial = s }) serial-table
 
   node-child : node' child.id ≡ free_node d.threads p
-  node-child =
-      ap node' child-id
-      ∙ ap (λ o. MAX_THREADS * p + option_map_or (λ (r : ThreadRow). r.slot) o 0) (begun-found d.threads p level (end_at d.demand.windows level) are standing)
+  node-child = grind (arith, nat_tests, child-id, begun-found, windows)
 
   apart : (y : ThreadId) → HasRow d.threads y → eqb (free_node d.threads p) (node y) ≡ false
   apart = no-node laws.free d.threads p are room standing
 
   inside : free_node d.threads p < length d.jobs.seats
-  inside =
-      let low = below-nodes laws.free d.threads p are room standing in
-      let nodes = sound.nodes in
-      omega (arith, low, nodes)
+  inside = grind (arith, nat_tests, below-nodes)
 
   -- the jobs
   moved : EventCloses c e past
   moved = laws.job c e past checked accepted audited-on
 
   job-same : (y : Thread) → Has (threads c past) y → job c now (e ∷ past) y ≡ job c now before y
-  job-same y h =
-      ap (job c now (e ∷ past)) (sym (same-after y)) ∙ moved y h ∙ ap (λ b. closed_if b (job c now before y)) (closes-off y)
+  job-same y h = grind (arith, nat_tests, same-after, moved, closes-off)
 
   child-job : job c now (e ∷ past) child ≡ released 0
   child-job = laws.new c e past checked accepted audited-on p child known child-there
@@ -229,12 +207,7 @@ module _ (laws : Laws) (c : Configuration) (label : Label) (past : List Entry) (
   positive y h = checked.positive y.level (laws.places c past checked accepted audited y h).level
 
   worker : (y : Thread) → Has (threads c past) y → 0 < thread_rem c now before y → has_row c now y ≡ true
-  worker y h some =
-      let some' : 0 < thread_rem c now (e ∷ past) (after_entry e now y) =
-      subst (λ z. 0 < thread_rem c now (e ∷ past) z) (sym (same-after y)) (subst (λ j. 0 < rem c.costs.switch j) (sym (job-same y h)) some) in
-      subst (λ z. has_row c now z ≡ true) (same-after y)
-      (worker-row c e past (laws.lowers c label past checked accepted audited charged.chose) (laws.rem c e past checked accepted audited-on)
-      (laws.absent c past checked accepted audited) y h (positive y h) some')
+  worker y h some = grind (arith, nat_tests, same-after, job-same, worker-row, checked, accepted, audited, audited-on, positive, laws.lowers c label past checked accepted audited charged.chose, laws.rem c e past checked accepted audited-on, laws.absent c past checked accepted audited)
 
   asker : (y : Thread) → Has (threads c past) y → nat_lt 0 (want c now before y) ≡ true → has_row c now y ≡ true
   asker y h some = asker-row c label past (laws.spends c label past checked accepted audited charged.chose) (laws.askers c past checked accepted audited) y h some
@@ -277,15 +250,12 @@ module _ (laws : Laws) (c : Configuration) (label : Label) (past : List Entry) (
 
   -- the holders
   holders-new : AreHolders c (e ∷ past) d.mutexes
-  holders-new =
-      laws.holds c past d.mutexes d.mutexes e rec.holders refl refl
-      (λ x m. sym (ap (λ b. if b then None else left_at x d.mutexes m) (stays x)))
+  holders-new = grind (arith, nat_tests, rec, stays)
 
   not-holder : (m : ℕ) (r : Lockable) (h : Holder) → slice_get d.mutexes m ≡ Some r → r.holder ≡ Some h → h.thread ≡ child.id → ⊥
   not-holder m r h at held same =
       let x = h.thread in
-      let left : left_at x d.mutexes m ≡ Some h.left =
-      ap (λ o. option_map_or (left_of x) o None) at ∙ ap (holder_left x) held ∙ ap (λ b. if b then Some h.left else None) (same-self x) in
+      let left : left_at x d.mutexes m ≡ Some h.left = grind (arith, nat_tests, same-self) in
       go (hold_at m (held_by x before)) refl (sym (rec.holders.holds x m) ∙ left)
     where
       go : (o : Option Hold) → hold_at m (held_by h.thread before) ≡ o → counted_left c before h.thread m ≡ Some h.left → ⊥
@@ -314,11 +284,7 @@ module _ (laws : Laws) (c : Configuration) (label : Label) (past : List Entry) (
 
   asked-nothing : (n : ℕ) → (last_request child.id (take n (e ∷ past))).amount ≡ 0
   asked-nothing zero = refl
-  asked-nothing (suc n) =
-      elim (cases_Bool (is_of child.id e)) [
-        | inl on ↦ rw on (none-asked true n)
-        | inr off ↦ rw off (none-asked false n)
-      ]
+  asked-nothing (suc n) = grind (arith, nat_tests, none-asked)
 
   child-wants : want c now (e ∷ past) child ≡ 0
   child-wants = go (is_closed c now (e ∷ past) child) (last_request child.id (window c now (e ∷ past) level)) (asked-nothing _)
@@ -333,30 +299,18 @@ module _ (laws : Laws) (c : Configuration) (label : Label) (past : List Entry) (
       ∙ ap (λ (r : Request). record { node = node' x.id; amount = r.amount - r.spent; entering = 2 * c.costs.switch - r.spent }) (sym (request-same x h))
 
   asks-in : (k : ℕ) (x : Thread) → Has (asking c now before k) x → Has (threads c past) x × ((eqb x.level k ≡ true) × (nat_lt 0 (want c now before x) ≡ true))
-  asks-in k x h =
-      let r = filter-has (λ y. eqb y.level k && nat_lt 0 (want c now before y)) (threads c before) x h in
-      (of-before x r.0, and_parts (eqb x.level k) (nat_lt 0 (want c now before x)) r.1)
+  asks-in k x h = grind (arith, nat_tests, filter-has, of-before, and_parts)
 
   asks-on : (k : ℕ) (x : Thread) → Has (asking c now before k) x → Has (asking c now (e ∷ past) k) x
-  asks-on k x h =
-      let r = asks-in k x h in
-      let some : nat_lt 0 (want c now (e ∷ past) x) ≡ true = ap (nat_lt 0) (want-same x r.0) ∙ r.1.1 in
-      let level-on = r.1.0 in
-      has-filter (λ y. eqb y.level k && nat_lt 0 (want c now (e ∷ past) y)) (threads c (e ∷ past)) x (has-old x r.0) (rw (level-on, some) refl)
+  asks-on k x h = grind (arith, nat_tests, asks-in, want-same, has-filter, has-old)
 
   asked-before : (k : ℕ) (x : Thread) → Has (asking c now (e ∷ past) k) x → Has (asking c now before k) x
   asked-before k x h =
       let r = filter-has (λ y. eqb y.level k && nat_lt 0 (want c now (e ∷ past) y)) (threads c (e ∷ past)) x h in
       let parts = and_parts (eqb x.level k) (nat_lt 0 (want c now (e ∷ past) x)) r.1 in
       elim (from x r.0) [
-        | inl old ↦
-            let some : nat_lt 0 (want c now before x) ≡ true = ap (nat_lt 0) (sym (want-same x old)) ∙ parts.1 in
-            let level-on = parts.0 in
-            has-filter (λ y. eqb y.level k && nat_lt 0 (want c now before y)) (threads c before) x (has-before x old) (rw (level-on, some) refl)
-        | inr is ↦
-            let off : nat_lt 0 (want c now (e ∷ past) x) ≡ false = ap (λ z. nat_lt 0 (want c now (e ∷ past) z)) is ∙ ap (nat_lt 0) child-wants in
-            let on = parts.1 in
-            absurd (cc)
+        | inl old ↦ grind (arith, nat_tests, want-same, has-filter, has-before)
+        | inr is ↦ grind (arith, nat_tests, child-wants)
       ]
 
   order-same : (xs : List Thread) → ((x : Thread) → Has xs x → Has (threads c past) x) → AreOldestFirst c now before xs → AreOldestFirst c now (e ∷ past) xs
@@ -438,14 +392,7 @@ module _ (laws : Laws) (c : Configuration) (label : Label) (past : List Entry) (
   })
 
   loans-others : (q : ℕ) → q < length c.processes → eqb q p ≡ false → counted_lender c now (e ∷ past) q ≡ counted_lender c now before q
-  loans-others q there off =
-      laws.loans_quiet c past e q checked (record {
-        levels = level-known q there;
-        makes_none = λ h. (let no' : is_of (main_id q) e ≡ false = whose q ∙ rw off refl in absurd (cc));
-        children = λ y h is. stays y.id;
-        mains = λ y h is. stays y.id;
-      })
-      ∙ sym (quiet-lender c now q label past)
+  loans-others q there off = grind (arith, nat_tests, checked, level-known, whose, stays, quiet-lender)
 
   loans-new : changed_lender p (lent_to (new_loan d.demand.windows (serials_at d.threads p + 1) level quota)) d.loans ≡ recount c now (e ∷ past)
   loans-new =

@@ -1,6 +1,5 @@
 -- The next child of a process gets a slot of its own, and all others keep theirs.
-use Rattle.dk_recount.proofs.Names.{◌≡◌, ◌+◌, ◌*◌, ◌∙◌, ◌⊎◌, inl, inr, ◌++◌, Bool, true, false, eqb, ℕ, [], ◌∷◌, Option, Some, None, option_map, refl, ap, sym, find, slice_get, if◌then◌else◌, option_map_or, option_or, cases_Bool, eqb-true, find-append, MAX_THREADS, ThreadId, same-id, find-has, end_at, ThreadRow, Family, is_row_of, AreFamilies, children_at, find_row, free_slot, has_room, new_row, rows_of, serials_at, stands, FreesSlots, HasRow, changed-here, changed-there, begun-found, some-family, Tables, node_in, child_row, free_node, with_child, Adds, HasOwn, IsNewRow, slots}
-use Rattle.dk_threads.specs.Table.{begun}
+use Rattle.dk_recount.proofs.Names.{◌≡◌, ◌+◌, ◌*◌, ◌∙◌, ◌⊎◌, inl, inr, ◌++◌, Bool, true, false, eqb, ℕ, [], ◌∷◌, Option, Some, None, option_map, refl, ap, sym, find, slice_get, if◌then◌else◌, option_map_or, option_or, cases_Bool, eqb-true, find-append, MAX_THREADS, ThreadId, same-id, find-has, end_at, ThreadRow, Family, is_row_of, AreFamilies, find_row, free_slot, has_room, new_row, rows_of, serials_at, stands, FreesSlots, HasRow, changed-here, changed-there, begun-found, some-family, Tables, node_in, child_row, free_node, with_child, Adds, HasOwn, IsNewRow, slots, nat_tests, arith}
 use Rattle.dk_recount.proofs.Create.Node.{free-here, not-free}
 
 -- the slot of a row that is found
@@ -32,8 +31,7 @@ module _ (frees : FreesSlots) (d : Tables) (p level quota : ℕ) (are : AreFamil
   found-after : (y : ThreadId) (r : ThreadRow) → find_row new.threads y ≡ Some r → (find_row d.threads y ≡ Some r) ⊎ ((y ≡ row.id) × (r ≡ row))
   found-after y r found =
       elim (cases_Bool (eqb y.process p)) [
-        | inr other ↦
-            inl (sym (ap (λ o. find (is_row_of y) (option_map_or (λ (z : Family). z.main ∷ z.children) o [])) (changed-there (begun p level start) p y.process d.threads other)) ∙ found)
+        | inr other ↦ grind (arith, nat_tests, changed-there)
         | inl here ↦ own (eqb-true y.process p here)
       ]
     where
@@ -41,13 +39,9 @@ module _ (frees : FreesSlots) (d : Tables) (p level quota : ℕ) (are : AreFamil
       own process =
           let f = fam.0 in
           let rows : rows_of d.threads p ≡ f.main ∷ f.children = ap (λ o. option_map_or (λ (z : Family). z.main ∷ z.children) o []) fam.1 in
-          let rows' : rows_of new.threads p ≡ (f.main ∷ f.children) ++ last f ∷ [] =
-          ap (λ o. option_map_or (λ (z : Family). z.main ∷ z.children) o []) (changed-here (begun p level start) p d.threads f fam.1) in
-          let joined : option_or (find (is_row_of y) (f.main ∷ f.children)) (find (is_row_of y) (last f ∷ [])) ≡ Some r =
-          sym (find-append (is_row_of y) (f.main ∷ f.children) (last f ∷ [])) ∙ sym (ap (find (is_row_of y)) rows')
-          ∙ sym (ap (λ k. find (is_row_of y) (rows_of new.threads k)) process) ∙ found in
-          let old : find_row d.threads y ≡ find (is_row_of y) (f.main ∷ f.children) =
-          ap (λ k. find (is_row_of y) (rows_of d.threads k)) process ∙ ap (find (is_row_of y)) rows in
+          let rows' : rows_of new.threads p ≡ (f.main ∷ f.children) ++ last f ∷ [] = grind (arith, nat_tests, changed-here, fam) in
+          let joined : option_or (find (is_row_of y) (f.main ∷ f.children)) (find (is_row_of y) (last f ∷ [])) ≡ Some r = grind (arith, nat_tests, find-append) in
+          let old : find_row d.threads y ≡ find (is_row_of y) (f.main ∷ f.children) = grind (arith, nat_tests) in
           go (find (is_row_of y) (f.main ∷ f.children)) joined old
         where
           go : (o : Option ThreadRow) → option_or o (find (is_row_of y) (last fam.0 ∷ [])) ≡ Some r → find_row d.threads y ≡ o
@@ -72,13 +66,7 @@ module _ (frees : FreesSlots) (d : Tables) (p level quota : ℕ) (are : AreFamil
   added : Adds (slots d) (slots new) row.id row.slot
   added = record {
     at = ap (option_map (λ (r : ThreadRow). r.slot)) found-new;
-    others = λ y k at.
-        (let f = slot-found (find_row new.threads y) k at in
-        elim (found-after y f.0 f.1) [
-          | inl old ↦ inl (ap (option_map (λ (r : ThreadRow). r.slot)) old ∙ ap Some f.2)
-          | inr child ↦
-              inr (ap (λ (i : ThreadId). i.process) child.0, (ap (λ (i : ThreadId). i.serial) child.0, sym f.2 ∙ ap (λ (r : ThreadRow). r.slot) child.1))
-        ]);
+    others = grind (arith, nat_tests, slot-found, found-after);
   }
 
   own-slot : HasOwn (slots new) row.id row.slot
@@ -95,13 +83,4 @@ module _ (frees : FreesSlots) (d : Tables) (p level quota : ℕ) (are : AreFamil
       ]
 
   pub is-new : (x : ThreadId) → x.process ≡ p → IsNewRow x level d new row
-  is-new x process = record {
-    process = sym process;
-    runs_at = refl;
-    lowest = ap (λ q. free_slot (children_at d.threads q)) (sym process);
-    waits = refl;
-    endless = refl;
-    fits = (free-here frees d.threads p are room standing).1;
-    added = added;
-    own = own-slot;
-  }
+  is-new x process = grind (arith, nat_tests, free-here, added, own-slot)

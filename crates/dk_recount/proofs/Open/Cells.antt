@@ -1,5 +1,5 @@
 -- The levels' cells, the kernel's own parts and the unclaimed ticks at the next tick.
-use Rattle.dk_recount.proofs.Names.{◌≡◌, ◌<◌, ◌≤◌, ◌+◌, ◌*◌, ◌/◌, ◌∙◌, inl, inr, ◌&&◌, Bool, true, false, cond, eqb, leb, ltb, ℕ, zero, suc, List, ◌∷◌, length, map, get_or, add-one, refl, ap, sym, subst, arith, [], slice_index, slice_set, sum_by, count_by, cases_Bool, eqb-true, leb-true, cond-true, cond-false, nat_tests, length-map-range_with_len, LevelRow, Configuration, numbers, below, sum_from, sum_up_to, period, release, window_start, Entry, is_kernel_at, Thread, family, share, Job, unclaimed, sum_by-flat, sum_by-same, window-stays, Clock, begins_at, period_at, Table, Book, future_shares, counted_lender, Cells, released_cells, opened_cells, released_own, released_remaining, AreCells, new_job, map-same, begins, starting_shares, past_to_come, begins-start, begins-faster, within-start, window-new, kernel_part, releases_of, cells_begun, cells_set, counts_begun, is_between, kernel_work, own_in, parts_begun, remaining_in, shares_to_come, sum_from-add, sum_from-same, set-level, number-at}
+use Rattle.dk_recount.proofs.Names.{◌≡◌, ◌<◌, ◌≤◌, ◌+◌, ◌*◌, ◌/◌, ◌∙◌, inl, inr, ◌&&◌, Bool, true, false, cond, eqb, leb, ltb, ℕ, zero, suc, List, ◌∷◌, length, map, get_or, refl, ap, sym, subst, arith, [], slice_index, slice_set, sum_by, cases_Bool, eqb-true, leb-true, cond-true, cond-false, nat_tests, length-map-range_with_len, LevelRow, Configuration, numbers, below, sum_from, sum_up_to, period, release, window_start, Entry, Thread, family, share, Job, unclaimed, sum_by-flat, sum_by-same, window-stays, Clock, begins_at, period_at, Table, Book, future_shares, counted_lender, Cells, released_cells, opened_cells, released_own, released_remaining, AreCells, new_job, map-same, begins, starting_shares, past_to_come, begins-start, begins-faster, within-start, window-new, kernel_part, releases_of, cells_begun, cells_set, counts_begun, is_between, kernel_work, own_in, parts_begun, remaining_in, shares_to_come, sum_from-add, sum_from-same, set-level, number-at}
 use Rattle.dk_recount.proofs.Open.Clocks.{period-is}
 use Rattle.dk_recount.proofs.Open.Due.{Laws, IsDue}
 use Rattle.dk_recount.proofs.Open.Shares.{OnlyBegin, all-shares, future-is}
@@ -32,13 +32,7 @@ part-all n new old j h = let on : ltb j n ≡ true = grind (arith, nat_tests) in
 
 -- where the level's value stays
 part-same : {A : Type 0} (k : ℕ) (new old : ℕ → A) (j : ℕ) → new k ≡ old k → part k new old j ≡ part (suc k) new old j
-part-same k new old j same =
-    elim (cases_Bool (eqb j k)) [
-      | inl on ↦
-          let is : k ≡ j = grind (arith, nat_tests) in
-          subst (λ i. part k new old i ≡ part (suc k) new old i) is (part-old k new old ∙ sym same ∙ sym (part-new k new old))
-      | inr off ↦ part-other k new old j off
-    ]
+part-same k new old j same = grind (arith, nat_tests, part-old, part-new, part-other)
 
 -- each level of which a window begins is set, one after the other
 sets-from : {A : Type 0} (w : Clock) (v new old : ℕ → A) (run : List ℕ → List A → List A) (L : ℕ)
@@ -66,18 +60,7 @@ sets-all w v new old run L none one sets rests xs before =
     ∙ map-same _ _ 0 L (λ j h. part-all (0 + L) new old j (omega arith))
 
 between-one : (k i : ℕ) → is_between k k i ≡ eqb i k
-between-one k i =
-    elim (cases_Bool (eqb i k)) [
-      | inl on ↦
-          let a : leb k i ≡ true = grind (arith, nat_tests) in
-          let z : leb i k ≡ true = grind (arith, nat_tests) in
-          ap (λ p. p && leb i k) a ∙ z ∙ sym on
-      | inr off ↦
-          elim (cases_Bool (leb k i)) [
-            | inl a ↦ let z : leb i k ≡ false = grind (arith, nat_tests) in ap (λ p. p && leb i k) a ∙ z ∙ sym off
-            | inr a ↦ ap (λ p. p && leb i k) a ∙ sym off
-          ]
-    ]
+between-one k i = grind (arith, nat_tests)
 
 between-up : (k i : ℕ) → is_between 0 k i ≡ leb i k
 between-up k i = let on : leb 0 i ≡ true = grind (arith, nat_tests) in ap (λ p. p && leb i k) on
@@ -122,8 +105,7 @@ module _ (laws : Laws) (c : Configuration) (e : Entry) (past : List Entry) (t : 
       let sums = all-shares laws c all t b w is (is_between k k) (only-one k on) in
       let first = release-is k in
       let tests : sum_from 0 (length c.processes) (λ p. sum_by (λ (x : Thread). cond (is_between k k x.level) (share c all x now) 0) (family c p all))
-      ≡ sum_from 0 (length c.processes) (λ p. sum_by (λ (x : Thread). cond (eqb x.level k) (share c all x now) 0) (family c p all)) =
-      sum_from-same 0 (length c.processes) _ _ (λ p low h. sum_by-same _ _ (family c p all) (λ x has. ap (λ on. cond on (share c all x now) 0) (between-one k x.level))) in
+      ≡ sum_from 0 (length c.processes) (λ p. sum_by (λ (x : Thread). cond (eqb x.level k) (share c all x now) 0) (family c p all)) = grind (arith, nat_tests, sum_from-same, sum_by-same, between-one) in
       let flat = sum_by-flat (λ (x : Thread). cond (eqb x.level k) (share c all x now) 0) (λ p. family c p all) 0 (length c.processes) in
       omega (arith, sums, first, tests, flat)
 
@@ -138,8 +120,7 @@ module _ (laws : Laws) (c : Configuration) (e : Entry) (past : List Entry) (t : 
       sum_from-same 0 (suc k) _ _ (λ i low h. ap (λ r. r * (period_at w k / period_at w i)) (release-is i)
       ∙ ap (λ q. release c i * (q / period_at w i)) (periods k) ∙ ap (λ q. release c i * (period c k / q)) (periods i)) in
       let sums = all-shares laws c all t b w is (is_between 0 k) (only-up k known on) in
-      let tests : sum_from 0 P (λ p. sum_by (λ (x : Thread). cond (is_between 0 k x.level) (share c all x now) 0) (family c p all)) ≡ sum_from 0 P (starting_shares c all k) =
-      sum_from-same 0 P _ _ (λ p low h. sum_by-same _ _ (family c p all) (λ x has. ap (λ on. cond on (share c all x now) 0) (between-up k x.level))) in
+      let tests : sum_from 0 P (λ p. sum_by (λ (x : Thread). cond (is_between 0 k x.level) (share c all x now) 0) (family c p all)) ≡ sum_from 0 P (starting_shares c all k) = grind (arith, nat_tests, sum_from-same, sum_by-same, between-up) in
       let future : shares_to_come b w k ≡ sum_from 0 P (past_to_come c now all k) =
       ap (λ n. sum_from 0 n (λ p. future_shares b w p k)) lenders-are ∙ sum_from-same 0 P _ _ (λ p low h. future-is laws c all t b w is k p (omega arith)) in
       let both = sum_from-add 0 P (starting_shares c all k) (past_to_come c now all k) in
@@ -175,22 +156,14 @@ module _ (laws : Laws) (c : Configuration) (e : Entry) (past : List Entry) (t : 
   -- the cells at the next tick
   pub cells-are : (z : Cells) → z.windows ≡ w → AreCells c all (record z { windows = record z.windows { tick = was } })
       → AreCells c all (cells_begun R t b (below (length c.levels)) z)
-  cells-are z windows before =
-      let L = length c.levels in
-      let at : z.windows.tick ≡ now = ap (λ (v : Clock). v.tick) (windows ∙ is.windows) in
-      let clock : record z { windows = record z.windows { tick = was + 1 } } ≡ z = ap (λ k. record z { windows = record z.windows { tick = k } }) (omega (arith, at)) in
-      subst (AreCells c all) (ap (opened_cells c all (below L)) clock ∙ sym (released-is 0 L z (omega arith) windows))
-      (laws.cells c e past is.checked is.accepted is.audited (record z { windows = record z.windows { tick = was } }) (before, refl)).0
+  cells-are z windows before = grind (arith, nat_tests, released-is, laws.cells c e past is.checked is.accepted is.audited (record z { windows = record z.windows { tick = was } }) (before, refl))
 
   -- the kernel's own parts
   kernel-stays : (k : ℕ) → k < length c.levels → begins c k now ≡ false → kernel_part c now all k ≡ kernel_part c was all k
-  kernel-stays k known off =
-      ap (λ es. record { share = release c k; used = count_by (is_kernel_at k) es; out_ticks = 0; closed = false }) (window-stays c k was all (stays k known off))
+  kernel-stays k known off = grind (arith, nat_tests, window-stays, stays)
 
   kernel-new : (k : ℕ) → begins c k now ≡ true → new_job (get_or R k 0) ≡ kernel_part c now all k
-  kernel-new k on =
-      ap new_job (release-is k)
-      ∙ ap (λ es. record { share = release c k; used = count_by (is_kernel_at k) es; out_ticks = 0; closed = false }) (sym (window-new c all k on))
+  kernel-new k on = grind (arith, nat_tests, release-is, window-new)
 
   pub kernel-are : (parts : List Job) → parts ≡ map (kernel_part c was all) (below (length c.levels))
       → parts_begun R w (below (length c.levels)) parts ≡ map (kernel_part c now all) (below (length c.levels))
@@ -200,9 +173,7 @@ module _ (laws : Laws) (c : Configuration) (e : Entry) (past : List Entry) (t : 
 
   -- the unclaimed ticks
   count-stays : (k : ℕ) → k < length c.levels → begins c k now ≡ false → unclaimed c now all k ≡ unclaimed c was all k
-  count-stays k known off =
-      subst (λ m. unclaimed c m all k ≡ unclaimed c was all k) (add-one was)
-      (laws.count_stays c was all k (subst (λ m. window_start c k m ≡ window_start c k was) (sym (add-one was)) (stays k known off)))
+  count-stays k known off = grind (arith, nat_tests, stays)
 
   pub counts-are : (ns : List ℕ) → ns ≡ map (unclaimed c was all) (below (length c.levels))
       → counts_begun w (below (length c.levels)) ns ≡ map (unclaimed c now all) (below (length c.levels))

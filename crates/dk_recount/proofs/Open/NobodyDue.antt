@@ -1,5 +1,5 @@
 -- Where no window begins, nobody is due to end or to start, and no loan is due to come back.
-use Rattle.dk_recount.proofs.Names.{◌≡◌, ◌<◌, ◌-◌, ◌%◌, ◌∙◌, inl, inr, ◌&&◌, Bool, true, false, cond, eqb, ℕ, suc, List, [], ◌∷◌, length, map, Option, Some, None, refl, ap, sym, subst, arith, slice_get, range_with_len, option_map_or, ◌∣◌, cases_Bool, ne_eqb, length-map-range_with_len, get_or-map-range_with_len, slice_get-get_or, slice_get_within, and-false, Configuration, period, window_end, map-places-stay, ThreadId, Entry, Has, Thread, family, is_main, is_void, is_ended_by, end_of, standing_children, Audited, filter-has, map-has, filter-rests, filter_map-rests, map-rests, filter_map-has, Clock, clock_at, begins_at, Family, State, ThreadRow, ends_at, is_starting, kept, started, family_ended, family_started, rows_of, counted_row, end_in_row, row_at, unplaced, row-says, Loan, Lender, is_ended_at, Book, all_given_back, with_loans, counted_lender, counted_loan, recount, Always, begins, FamiliesStand, not-now, Tables, IsClosed, due, due_threads, dvd-end}
+use Rattle.dk_recount.proofs.Names.{◌≡◌, ◌<◌, ◌-◌, ◌%◌, ◌∙◌, inl, inr, ◌&&◌, Bool, true, false, eqb, ℕ, List, ◌∷◌, length, map, Option, Some, None, refl, ap, sym, subst, arith, slice_get, range_with_len, option_map_or, ◌∣◌, cases_Bool, ne_eqb, length-map-range_with_len, get_or-map-range_with_len, slice_get-get_or, slice_get_within, and-false, Configuration, period, window_end, map-places-stay, Entry, Has, Thread, family, is_main, is_void, is_ended_by, end_of, standing_children, Audited, filter-has, map-has, filter-rests, filter_map-rests, map-rests, filter_map-has, Clock, clock_at, begins_at, Family, ThreadRow, kept, started, family_ended, family_started, rows_of, counted_row, end_in_row, row_at, unplaced, row-says, Loan, Lender, is_ended_at, all_given_back, with_loans, counted_lender, counted_loan, recount, Always, begins, FamiliesStand, not-now, Tables, IsClosed, due, due_threads, dvd-end, nat_tests}
 use Rattle.std.proofs.Common.{not}
 use Rattle.dk_budget.specs.Calls.{given_back}
 use Rattle.dk_recount.proofs.Open.Clocks.{period-is}
@@ -16,9 +16,7 @@ module _ (families : Always FamiliesStand) (c : Configuration) (e : Entry) (past
   now = length all
 
   windows : d.demand.windows ≡ clock_at c now
-  windows =
-      ap (λ k. record d.demand.windows { tick = k }) stands.clock
-      ∙ ap (λ (v : Clock). record v { tick = now }) stands.recount.cells.windows
+  windows = grind (arith, nat_tests)
 
   none : begins c 0 now ≡ false
   none = ap (λ p. eqb (now - now % p) now) (sym (period-is c now 0)) ∙ ap (λ (v : Clock). begins_at v 0) (sym windows) ∙ off
@@ -34,10 +32,7 @@ module _ (families : Always FamiliesStand) (c : Configuration) (e : Entry) (past
   ends-later p x process among child =
       let f = stand p process in
       elim (subst (λ xs. Has xs x) f.rows among) [
-        | inl is ↦
-            let serial : x.id.serial ≡ 0 = ap (λ (z : Thread). z.id.serial) (sym is) ∙ ap (λ (i : ThreadId). i.serial) f.id in
-            let on : is_main x ≡ true = ap (λ n. eqb n 0) serial in
-            absurd (cc)
+        | inl is ↦ grind (arith, nat_tests)
         | inr y ↦ go x.stop refl (f.each x y).known
       ]
     where
@@ -49,19 +44,12 @@ module _ (families : Always FamiliesStand) (c : Configuration) (e : Entry) (past
   starts-apart p x process among =
       let f = stand p process in
       elim (subst (λ xs. Has xs x) f.rows among) [
-        | inl is ↦
-            let start : x.start ≡ 0 = ap (λ (z : Thread). z.start) (sym is) ∙ f.start in
-            let later : now ≡ suc was = refl in
-            ne_eqb x.start now (λ same. omega (arith, start, later, same))
+        | inl is ↦ grind (arith, nat_tests, ne_eqb)
         | inr y ↦ let child = f.each x y in never x.level x.start child.known child.aligned
       ]
 
   ends-apart : (p : ℕ) (x : Thread) → p < length c.processes → Has (family c p all) x → option_map_or (λ tick. eqb tick now) (end_in_row c x) false ≡ false
-  ends-apart p x process among =
-      elim (cases_Bool (is_main x)) [
-        | inl main ↦ rw main refl
-        | inr child ↦ rw child (ends-later p x process among child)
-      ]
+  ends-apart p x process among = grind (arith, nat_tests, ends-later)
 
   -- whose row it is
   owner : (p : ℕ) (r : ThreadRow) → p < length c.processes → Has (rows_of d.threads p) r → (x : Thread) × Has (family c p all) x × (counted_row c was x ≡ unplaced r)
@@ -72,27 +60,14 @@ module _ (families : Always FamiliesStand) (c : Configuration) (e : Entry) (past
       (y.0, y.1, at.1)
 
   row-lasts : (p : ℕ) (r : ThreadRow) → p < length c.processes → Has (rows_of d.threads p) r → kept now r ≡ Some r
-  row-lasts p r process h =
-      let o = owner p r process h in
-      let end : end_in_row c o.0 ≡ r.end = ap (λ (z : ThreadRow). z.end) o.2 in
-      let lasts : ends_at now r ≡ false = ap (λ z. option_map_or (λ tick. eqb tick now) z false) (sym end) ∙ ends-apart p o.0 process o.1 in
-      rw lasts refl
+  row-lasts p r process h = grind (arith, nat_tests, owner, ends-apart)
 
   row-rests : (p : ℕ) (r : ThreadRow) → p < length c.processes → Has (rows_of d.threads p) r → started now r ≡ r
-  row-rests p r process h =
-      let o = owner p r process h in
-      let start : o.0.start ≡ r.start = ap (λ (z : ThreadRow). z.start) o.2 in
-      let apart : eqb r.start now ≡ false = ap (λ z. eqb z now) (sym start) ∙ starts-apart p o.0 process o.1 in
-      ap (λ b. record r { state = cond (is_starting r.state && b) State.Live r.state }) apart
-      ∙ ap (λ b. record r { state = cond b State.Live r.state }) (and-false (is_starting r.state))
+  row-rests p r process h = grind (arith, nat_tests, owner, starts-apart, and-false)
 
   -- the children of a family stand among the rows of the process
   child-row : (p : ℕ) (f : Family) (r : ThreadRow) → slice_get d.threads.families p ≡ Some f → Has f.children r → (p < length c.processes) × Has (rows_of d.threads p) r
-  child-row p f r at h =
-      let within = slice_get_within d.threads.families p f at in
-      let many = stands.recount.rows.processes in
-      let here : rows_of d.threads p ≡ f.main ∷ f.children = ap (λ o. option_map_or (λ (x : Family). x.main ∷ x.children) o []) at in
-      (omega (arith, within, many), subst (λ rows. Has rows r) (sym here) (inr h))
+  child-row p f r at h = grind (arith, nat_tests, slice_get_within)
 
   none-ends : map (family_ended now) d.threads.families ≡ d.threads.families
   none-ends =
@@ -109,9 +84,7 @@ module _ (families : Always FamiliesStand) (c : Configuration) (e : Entry) (past
       (map-rests (started now) f.children (λ r h. let row = child-row p f r at h in row-rests p r row.0 row.1)))
 
   threads-rest : due_threads now d.threads ≡ d.threads
-  threads-rest =
-      ap (λ fs. record d.threads { families = map (family_started now) fs }) none-ends
-      ∙ ap (λ fs. record d.threads { families = fs }) none-starts
+  threads-rest = grind (arith, nat_tests, none-ends, none-starts)
 
   loans-last : (p : ℕ) → p < length c.processes → given_back now (counted_lender c was all p) ≡ counted_lender c was all p
   loans-last p process =
@@ -145,13 +118,7 @@ module _ (families : Always FamiliesStand) (c : Configuration) (e : Entry) (past
       subst (λ (y : Lender). given_back now y ≡ y) is (loans-last k known))
 
   loans-rest : all_given_back now d.loans ≡ d.loans
-  loans-rest =
-      ap (all_given_back now) stands.recount.loans
-      ∙ ap (λ (xs : List Lender). record (recount c was all) { lenders = xs }) lenders-last
-      ∙ sym stands.recount.loans
+  loans-rest = grind (arith, nat_tests, lenders-last)
 
   pub rests : due d ≡ d
-  rests =
-      ap (λ k. record d { threads = due_threads k d.threads; loans = all_given_back k d.loans }) stands.clock
-      ∙ ap (λ t. record d { threads = t; loans = all_given_back now d.loans }) threads-rest
-      ∙ ap (λ (b : Book). record d { loans = b }) loans-rest
+  rests = grind (arith, nat_tests, threads-rest, loans-rest)

@@ -1,5 +1,5 @@
 -- The nodes of the threads, before and after the ends and starts of a tick.
-use Rattle.dk_recount.proofs.Names.{◌≡◌, ◌<◌, ◌≤◌, ◌+◌, ◌*◌, ◌∙◌, inl, inr, true, false, eqb, ℕ, List, [], ◌∷◌, length, map, Option, Some, None, option_map, refl, ap, sym, subst, slice_get, find, filter_map, option_map_or, cases_Bool, slice_get-map, MAX_THREADS, Configuration, ThreadId, Entry, is_same, Has, Thread, family, same-id, same-self, find-has, ThreadRow, Family, is_row_of, ends_at, kept, started, Table, rows_of, find_row, family_ended, family_started, AreFamilies, has_row, end_in_row, AreThreads, rows-apart, row-lasts, row-before, find-left, row-of-thread, row-there, slot_in, node_in, due_threads, node_on}
+use Rattle.dk_recount.proofs.Names.{◌≡◌, ◌<◌, ◌≤◌, ◌+◌, ◌*◌, ◌∙◌, inl, inr, true, false, eqb, ℕ, List, [], ◌∷◌, length, map, Option, Some, None, refl, ap, sym, subst, slice_get, find, filter_map, option_map_or, cases_Bool, slice_get-map, MAX_THREADS, Configuration, ThreadId, Entry, is_same, Has, Thread, family, same-id, same-self, find-has, ThreadRow, Family, is_row_of, ends_at, kept, started, Table, rows_of, find_row, family_ended, family_started, AreFamilies, has_row, end_in_row, AreThreads, rows-apart, row-lasts, row-before, find-left, row-of-thread, row-there, slot_in, node_in, due_threads, node_on, nat_tests, arith}
 use Rattle.dk_recount.proofs.Rows.{slot-is}
 
 -- and so are all threads
@@ -12,19 +12,12 @@ find-due now t i row found lasts = go (slice_get t.families i.process) refl
         let none : None ≡ Some row = ap (λ o. find (is_row_of i) (option_map_or (λ (f : Family). f.main ∷ f.children) o [])) (sym at) ∙ found in
         absurd (cc)
     go (Some f) at =
-        let later : slice_get (due_threads now t).families i.process ≡ Some (family_started now (family_ended now f)) =
-        slice_get-map (family_started now) (map (family_ended now) t.families) i.process
-        ∙ ap (option_map (family_started now)) (slice_get-map (family_ended now) t.families i.process ∙ ap (option_map (family_ended now)) at) in
-        let before : find (is_row_of i) (f.main ∷ f.children) ≡ Some row =
-        ap (λ o. find (is_row_of i) (option_map_or (λ (g : Family). g.main ∷ g.children) o [])) (sym at) ∙ found in
-        let rows : rows_of (due_threads now t) i.process ≡ f.main ∷ map (started now) (filter_map (kept now) f.children) =
-        ap (λ o. option_map_or (λ (g : Family). g.main ∷ g.children) o []) later in
+        let later : slice_get (due_threads now t).families i.process ≡ Some (family_started now (family_ended now f)) = grind (arith, nat_tests, slice_get-map) in
+        let before : find (is_row_of i) (f.main ∷ f.children) ≡ Some row = grind (arith, nat_tests) in
+        let rows : rows_of (due_threads now t) i.process ≡ f.main ∷ map (started now) (filter_map (kept now) f.children) = grind (arith, nat_tests) in
         ap (λ rs. option_map_or (λ (r : ThreadRow). r.slot) (find (is_row_of i) rs) 0) rows
         ∙ (elim (cases_Bool (is_row_of i f.main)) [
-          | inl here ↦
-              let some : Some f.main ≡ Some row = rw here at before in
-              let same : f.main ≡ row = cc in
-              rw here (ap (λ (r : ThreadRow). r.slot) same)
+          | inl here ↦ grind (arith, nat_tests)
           | inr other ↦ rw (other, find-left now i f.children row (rw other at before) lasts) refl
         ])
 

@@ -1,5 +1,5 @@
 -- The tables of a closed tick are those of the next one once it is opened.
-use Rattle.dk_recount.proofs.Names.{◌≡◌, ◌<◌, ◌≤◌, ◌+◌, ◌*◌, ◌∙◌, inl, inr, Bool, true, false, cond, ℕ, zero, suc, List, [], ◌∷◌, length, map, get_or, add-one, refl, ap, sym, subst, arith, slice_set, cases_Bool, cond-false, length-map, sum_by-cons, MAX_THREADS, Configuration, numbers, below, length-numbers, length-map-numbers, Entry, Has, Job, Audited, Clock, clock_at, begins_at, ThreadRow, Table, AreFamilies, AreThreads, Book, ArePeriods, recount, all_given_back, periods-sound, Cells, AreCells, Wish, dropped, Roster, new_job, released, begins, begins-faster, Tables, IsSound, IsRecount, IsClosed, IsReady, kernel_part, releases_of, MayBegin, all_rows, begin_steps, begun, begun_if, cell_steps, cells_begun, cells_set, counts_begun, due, due_threads, given, open_steps, opened, own_in, parts_begun, quieted, remaining_in, seat_in, moved, node_on}
+use Rattle.dk_recount.proofs.Names.{◌≡◌, ◌<◌, ◌≤◌, ◌+◌, ◌*◌, ◌∙◌, inl, inr, Bool, true, false, cond, ℕ, zero, suc, List, [], ◌∷◌, length, map, refl, ap, sym, subst, arith, cases_Bool, cond-false, length-map, sum_by-cons, MAX_THREADS, Configuration, numbers, below, length-numbers, length-map-numbers, Entry, Has, Job, Audited, Clock, clock_at, begins_at, ThreadRow, Table, AreFamilies, AreThreads, Book, ArePeriods, recount, periods-sound, Cells, AreCells, Wish, Roster, begins, begins-faster, Tables, IsSound, IsRecount, IsClosed, IsReady, kernel_part, releases_of, MayBegin, all_rows, begin_steps, begun, begun_if, cell_steps, cells_begun, cells_set, counts_begun, due, due_threads, given, open_steps, opened, own_in, parts_begun, quieted, remaining_in, moved, nat_tests}
 use Rattle.dk_recount.proofs.Open.Sizes.{given-switch, quieted-length, cells-windows}
 use Rattle.dk_recount.proofs.Open.Moved.{released-moved, released_now}
 use Rattle.dk_recount.proofs.Open.Due.{Laws, IsDue}
@@ -10,15 +10,11 @@ use Rattle.dk_recount.proofs.Open.Seats.{rows-known, rows-sit, rows-off, ready-a
 
 given-idle : (b : Book) (w : Clock) (rows : List ThreadRow) (r : Roster) → ((row : ThreadRow) → Has rows row → begins_at w row.level ≡ false) → given b w rows r ≡ r
 given-idle b w [] r off = refl
-given-idle b w (row ∷ rows) r off =
-    ap (given b w rows) (cond-false (begins_at w row.level) (released (node_on row) (seat_in b w row) r) r (off row (inl refl)))
-    ∙ given-idle b w rows r (λ z h. off z (inr h))
+given-idle b w (row ∷ rows) r off = grind (arith, nat_tests, cond-false, given-idle b w rows)
 
 quieted-idle : (w : Clock) (rows : List ThreadRow) (wishes : List (List Wish)) → ((row : ThreadRow) → Has rows row → begins_at w row.level ≡ false) → quieted w rows wishes ≡ wishes
 quieted-idle w [] wishes off = refl
-quieted-idle w (row ∷ rows) wishes off =
-    ap (quieted w rows) (cond-false (begins_at w row.level) (dropped (node_on row) wishes) wishes (off row (inl refl)))
-    ∙ quieted-idle w rows wishes (λ z h. off z (inr h))
+quieted-idle w (row ∷ rows) wishes off = grind (arith, nat_tests, cond-false, quieted-idle w rows)
 
 cells-idle : (R : List ℕ) (t : Table) (b : Book) (L k n : ℕ) (z : Cells) → k + n ≤ L → ((j : ℕ) → j < L → begins_at z.windows j ≡ false)
     → cells_begun R t b (numbers k n) z ≡ z
@@ -30,15 +26,11 @@ cells-idle R t b L k (suc n) z within off =
 
 parts-idle : (R : List ℕ) (w : Clock) (L k n : ℕ) (parts : List Job) → k + n ≤ L → ((j : ℕ) → j < L → begins_at w j ≡ false) → parts_begun R w (numbers k n) parts ≡ parts
 parts-idle R w L k zero parts within off = refl
-parts-idle R w L k (suc n) parts within off =
-    ap (parts_begun R w (numbers (suc k) n)) (cond-false (begins_at w k) (slice_set parts k (new_job (get_or R k 0))) parts (off k (omega arith)))
-    ∙ parts-idle R w L (suc k) n parts (omega arith) off
+parts-idle R w L k (suc n) parts within off = grind (arith, nat_tests, cond-false, parts-idle R w L (suc k) n)
 
 counts-idle : (w : Clock) (L k n : ℕ) (ns : List ℕ) → k + n ≤ L → ((j : ℕ) → j < L → begins_at w j ≡ false) → counts_begun w (numbers k n) ns ≡ ns
 counts-idle w L k zero ns within off = refl
-counts-idle w L k (suc n) ns within off =
-    ap (counts_begun w (numbers (suc k) n)) (cond-false (begins_at w k) (slice_set ns k 0) ns (off k (omega arith)))
-    ∙ counts-idle w L (suc k) n ns (omega arith) off
+counts-idle w L k (suc n) ns within off = grind (arith, nat_tests, cond-false, counts-idle w L (suc k) n)
 
 module _ (laws : Laws) (c : Configuration) (e : Entry) (past : List Entry) (d : Tables) (stands : IsClosed c e past d) (audited : Audited c (e ∷ past))
     (sound : IsSound d) (before : AreFamilies d.threads.levels d.threads.families) (after : AreFamilies (due d).threads.levels (due d).threads.families) where
@@ -58,15 +50,10 @@ module _ (laws : Laws) (c : Configuration) (e : Entry) (past : List Entry) (d : 
   tick = stands.clock
 
   windows : w ≡ clock_at c now
-  windows =
-      ap (λ k. record w { tick = k }) tick
-      ∙ ap (λ (v : Clock). record v { tick = now }) stands.recount.cells.windows
+  windows = grind (arith, nat_tests, tick)
 
   loans-are : (due d).loans ≡ recount c now all
-  loans-are =
-      ap (λ k. all_given_back k d.loans) tick
-      ∙ ap (all_given_back now) stands.recount.loans
-      ∙ subst (λ k. all_given_back k (recount c was all) ≡ recount c k all) (add-one was) (laws.loans c was all)
+  loans-are = grind (arith, nat_tests, tick)
 
   made : (due d).threads ≡ due_threads now d.threads
   made = ap (λ k. due_threads k d.threads) tick
@@ -75,16 +62,7 @@ module _ (laws : Laws) (c : Configuration) (e : Entry) (past : List Entry) (d : 
   rows-are = subst (AreThreads c now all) (sym made) (laws.threads c e past d.threads before stands.recount.rows)
 
   is-due : IsDue c all (due d).threads (due d).loans w
-  is-due = record {
-    checked = stands.ruled.checked;
-    limits = stands.ruled.limits;
-    accepted = stands.ruled.accepted;
-    audited = audited;
-    windows = windows;
-    rows = rows-are;
-    loans = loans-are;
-    families = after;
-  }
+  is-due = grind (arith, nat_tests, windows, rows-are, loans-are)
 
   levels-are : length d.kernel ≡ length c.levels
   levels-are = ap length stands.recount.kernel ∙ length-map-numbers (kernel_part c was all) 0 (length c.levels)
@@ -93,11 +71,7 @@ module _ (laws : Laws) (c : Configuration) (e : Entry) (past : List Entry) (d : 
   families-are = length-map (map _ d.threads.families) _ ∙ length-map d.threads.families _
 
   lists-are : length d.jobs.ready.lists ≡ length c.levels
-  lists-are =
-      let a = sound.queues in
-      let b = sound.kernel in
-      let k = levels-are in
-      omega (arith, a, b, k)
+  lists-are = grind (arith, nat_tests, levels-are)
 
   nodes-are : length d.jobs.seats ≡ MAX_THREADS * length (due d).threads.families
   nodes-are = let a = sound.nodes in let b = families-are in omega (arith, a, b)
@@ -187,10 +161,7 @@ module _ (laws : Laws) (c : Configuration) (e : Entry) (past : List Entry) (d : 
       go false off = subst (IsRecount c now all) (idle off) recount-begun
 
   pub opens : IsReady c all (opened d)
-  opens = record {
-    ruled = record { checked = stands.ruled.checked; limits = stands.ruled.limits; accepted = stands.ruled.accepted; audited = audited };
-    recount = recount-if;
-  }
+  opens = grind (arith, nat_tests, recount-if)
 
   cell-few : (ks : List ℕ) → cell_steps w ks ≤ 3 * length ks
   cell-few [] = omega arith

@@ -1,5 +1,5 @@
 -- What giving the rows their shares does to the seats and the queues.
-use Rattle.dk_recount.proofs.Names.{◌≡◌, ◌<◌, ◌∙◌, inl, inr, ◌&&◌, ◌||◌, Bool, true, false, cond, eqb, ℕ, zero, suc, List, [], ◌∷◌, ◌++◌, length, map, get_or, refl, ap, sym, subst, arith, slice_set, filter, not, is_some, cases_Bool, eqb-true, cond-true, cond-false, ne_eqb, eq-eqb, append-nil, append_assoc, get_or-set_same, Has, Clock, begins_at, ThreadRow, Book, Wish, dropped, wishes_at, holds, pushed, queue_at, Roster, released, seat_at, vacant, set-other, nowhere, Absent, holds-append, CanAllSit, given, given_one, quieted, quieted_one, seat_in, share_in, node_on}
+use Rattle.dk_recount.proofs.Names.{◌≡◌, ◌<◌, ◌∙◌, inl, inr, ◌&&◌, ◌||◌, Bool, true, false, cond, eqb, ℕ, zero, suc, List, [], ◌∷◌, ◌++◌, length, map, get_or, refl, ap, sym, subst, arith, slice_set, filter, not, is_some, eqb-true, cond-true, cond-false, ne_eqb, eq-eqb, append-nil, append_assoc, get_or-set_same, Has, Clock, begins_at, ThreadRow, Book, Wish, dropped, wishes_at, holds, pushed, queue_at, Roster, released, seat_at, vacant, set-other, nowhere, Absent, holds-append, CanAllSit, given, given_one, quieted, quieted_one, seat_in, share_in, node_on, nat_tests}
 use Rattle.dk_slack.specs.Wishes.{is_of}
 use Rattle.dk_recount.proofs.Open.Sizes.{given-seats, given-lists}
 
@@ -101,19 +101,13 @@ module _ (b : Book) (w : Clock) where
   pub seat-other : (xs : List ThreadRow) (r : Roster) (node : ℕ) → ((row : ThreadRow) → Has xs row → begins_at w row.level ≡ true → node_on row ≡ node → ⊥)
       → seat_at (given b w xs r) node ≡ seat_at r node
   seat-other [] r node other = refl
-  seat-other (row ∷ xs) r node other =
-      seat-other xs (given_one b w row r) node (λ z h. other z (inr h)) ∙ one-seat-other row r node (other row (inl refl))
+  seat-other (row ∷ xs) r node other = grind (arith, nat_tests, one-seat-other, seat-other xs)
 
   -- the row's thread sits on its node
   pub seat-of-row : (xs : List ThreadRow) (r : Roster) (row : ThreadRow) → AreApart xs → Has xs row → begins_at w row.level ≡ true → node_on row < length r.seats
       → seat_at (given b w xs r) (node_on row) ≡ seat_in b w row
   seat-of-row [] r row apart h on less = absurd h
-  seat-of-row (z ∷ xs) r row apart (inl is) on less =
-      seat-other xs (given_one b w z r) (node_on row) (λ y k begun same. apart.0 y k (same ∙ ap node_on (sym is)))
-      ∙ (let on' : begins_at w z.level ≡ true = subst (λ (y : ThreadRow). begins_at w y.level ≡ true) (sym is) on in
-      ap (λ (q : Roster). seat_at q (node_on row)) (cond-true (begins_at w z.level) (released (node_on z) (seat_in b w z) r) r on')
-      ∙ subst (λ (y : ThreadRow). get_or (slice_set r.seats (node_on z) (seat_in b w z)) (node_on y) vacant ≡ seat_in b w y) is
-      (get_or-set_same r.seats (node_on z) (seat_in b w z) vacant (subst (λ (y : ThreadRow). node_on y < length r.seats) (sym is) less)))
+  seat-of-row (z ∷ xs) r row apart (inl is) on less = grind (arith, nat_tests, seat-other, cond-true, get_or-set_same)
   seat-of-row (z ∷ xs) r row apart (inr h) on less =
       let seats = given-seats b w (z ∷ []) r in
       seat-of-row xs (given_one b w z r) row apart.1 h on (omega (arith, less, seats))
@@ -157,15 +151,7 @@ module _ (b : Book) (w : Clock) where
 
   has-kept : (node : ℕ) (vs : List Wish) (v : Wish) → Has (filter (λ u. not (is_of node u)) vs) v → Has vs v × (node ≡ v.node → ⊥)
   has-kept node [] v h = absurd h
-  has-kept node (u ∷ vs) v h =
-      elim (cases_Bool (eqb node u.node)) [
-        | inl on ↦ let r = has-kept node vs v (rw on at h) in (inr r.0, r.1)
-        | inr off ↦
-            elim (let h' : Has (u ∷ filter (λ z. not (is_of node z)) vs) v = rw off at h in h') [
-              | inl is ↦ (inl is, λ same. (let on : eqb node u.node ≡ true = eq-eqb node u.node (same ∙ ap (λ (z : Wish). z.node) (sym is)) in absurd (cc)))
-              | inr rest ↦ let r = has-kept node vs v rest in (inr r.0, r.1)
-            ]
-      ]
+  has-kept node (u ∷ vs) v h = grind (arith, nat_tests, eq-eqb, has-kept node vs)
 
   -- what is left of the wishes was there, and is of no row whose window begins
   pub wishes-left : (xs : List ThreadRow) (wishes : List (List Wish)) (k : ℕ) (v : Wish) → Has (wishes_at (quieted w xs wishes) k) v

@@ -1,11 +1,8 @@
 -- The rows one by one: what is left to do of them.
-use Rattle.dk_recount.proofs.Names.{◌≡◌, ◌<◌, ◌+◌, ◌-◌, ◌∙◌, Bool, cond, ℕ, suc, List, [], ◌∷◌, ◌++◌, refl, ap, arith, sum_by-cons, Clock, ThreadRow, Table, Book, Wish, Roster, AreKnown, CanAllSit, given, given_one, given_steps, quieted, quieted_one, rows_from, rows_in, share_in, shares_in}
+use Rattle.dk_recount.proofs.Names.{◌≡◌, ◌<◌, ◌+◌, ◌-◌, Bool, cond, ℕ, List, [], ◌∷◌, ◌++◌, refl, arith, sum_by-cons, Clock, ThreadRow, Table, Book, Wish, Roster, AreKnown, CanAllSit, given, given_one, given_steps, quieted, quieted_one, rows_from, rows_in, share_in, shares_in, nat_tests}
 
 pub rows-next : (table : Table) (p n : ℕ) → p < n → rows_from table p (n - p) ≡ rows_in table p ++ rows_from table (p + 1) (n - (p + 1))
-rows-next table p n less =
-    let e : n - p ≡ suc (n - (p + 1)) = omega arith in
-    let next : suc p ≡ p + 1 = omega arith in
-    ap (rows_from table p) e ∙ ap (λ q. rows_in table p ++ rows_from table q (n - (p + 1))) next
+rows-next table p n less = grind (arith, nat_tests)
 
 module _ (b : Book) (w : Clock) where
   pub given-append : (xs ys : List ThreadRow) (r : Roster) → given b w (xs ++ ys) r ≡ given b w ys (given b w xs r)

@@ -26,23 +26,13 @@ want-some node (vs ∷ ws) some = next node vs ws some (find (is_of node) vs) re
     next node vs ws some (Some v) at rest = let f = find-has (is_of node) vs v at in (0, v, f.0, sym (eqb-true node v.node f.1))
 
 some-test : (n : ℕ) → not (eqb n 0) ≡ ltb 0 n
-some-test zero = refl
-some-test (suc n) =
-    let a : eqb (suc n) 0 ≡ false = grind (arith, nat_tests) in
-    let z : ltb 0 (suc n) ≡ true = grind (arith, nat_tests) in
-    ap not a ∙ sym z
+some-test n = grind (arith, nat_tests)
 
 flat-filter : {X Y : Type 0} (f : X → ℕ) (g : X → Bool) (lists : ℕ → List X) (f' : Y → ℕ) (g' : Y → Bool) (lists' : ℕ → List Y) (low n : ℕ)
     → ((p : ℕ) → p < low + n → map f (filter g (lists p)) ≡ map f' (filter g' (lists' p)))
     → map f (filter g (flat_map lists (numbers low n))) ≡ map f' (filter g' (flat_map lists' (numbers low n)))
 flat-filter f g lists f' g' lists' low zero same = refl
-flat-filter f g lists f' g' lists' low (suc n) same =
-    ap (map f) (filter-append g (lists low) (flat_map lists (numbers (suc low) n)))
-    ∙ map-append f (filter g (lists low)) (filter g (flat_map lists (numbers (suc low) n)))
-    ∙ ap (λ xs. xs ++ map f (filter g (flat_map lists (numbers (suc low) n)))) (same low (omega arith))
-    ∙ ap (λ ys. map f' (filter g' (lists' low)) ++ ys) (flat-filter f g lists f' g' lists' (suc low) n (λ p h. same p (omega arith)))
-    ∙ sym (map-append f' (filter g' (lists' low)) (filter g' (flat_map lists' (numbers (suc low) n))))
-    ∙ ap (map f') (sym (filter-append g' (lists' low) (flat_map lists' (numbers (suc low) n))))
+flat-filter f g lists f' g' lists' low (suc n) same = grind (arith, nat_tests, filter-append, map-append, flat-filter f g lists f' g' lists' (suc low) n)
 
 apart-append : (xs ys : List ThreadRow) → AreApart xs → AreApart ys → ((x y : ThreadRow) → Has xs x → Has ys y → node_on y ≡ node_on x → ⊥) → AreApart (xs ++ ys)
 apart-append [] ys one two cross = two
@@ -159,8 +149,7 @@ module _ (laws : Laws) (c : Configuration) (e : Entry) (past : List Entry) (t0 t
       let at = place x among in
       let p = x.id.process in
       let counted : row_at c now x ≡ Some (counted_row c now x) = cond-true (has_row c now x) (Some (counted_row c now x)) None there in
-      let has : Has (map unplaced (rows_of t p)) (counted_row c now x) =
-      subst (λ rows. Has rows (counted_row c now x)) (sym (is.rows.rows p at.0)) (has-filter_map (row_at c now) (family c p all) x (counted_row c now x) at.1 counted) in
+      let has : Has (map unplaced (rows_of t p)) (counted_row c now x) = grind (arith, nat_tests, has-filter_map) in
       let r = has-map unplaced (rows_of t p) (counted_row c now x) has in
       let many = is.rows.processes in
       let known = at.0 in
@@ -246,8 +235,7 @@ module _ (laws : Laws) (c : Configuration) (e : Entry) (past : List Entry) (t0 t
   worker-there x among some = worker-has-row c all (laws.absent c all is.checked is.accepted is.audited) x among some
 
   asker-there : (x : Thread) → Has (threads c all) x → 0 < want c now all x → has_row c now x ≡ true
-  asker-there x among some =
-      there-row c now x (laws.askers c all is.checked is.accepted is.audited x among some)
+  asker-there x among some = grind (arith, nat_tests, there-row, laws.askers c all is.checked is.accepted is.audited x among some)
 
   -- who asked at the end of the tick has a row now
   asked-there : (x : Thread) → Has (threads c all) x → 0 < want c was all x → has_row c now x ≡ true
@@ -264,10 +252,7 @@ module _ (laws : Laws) (c : Configuration) (e : Entry) (past : List Entry) (t0 t
       (seats0 : (x : Thread) → Has (threads c all) x → has_row c was x ≡ true → seat_at r0 (node_in t0 x.id) ≡ seat_of c was all x)
       (queues0 : (k : ℕ) → k < length c.levels → queue_at r0.ready.lists k ≡ ready_nodes (node_in t0) c was all k) where
     ready-is : (k : ℕ) (x : Thread) → Has (filter (is_ready c now all k) (threads c all)) x → Has (threads c all) x × (x.level ≡ k) × (0 < thread_rem c now all x)
-    ready-is k x h =
-        let r = filter-has (is_ready c now all k) (threads c all) x h in
-        let parts = and_parts (eqb x.level k) (ltb 0 (thread_rem c now all x)) r.1 in
-        (r.0, eqb-true x.level k parts.0, ltb-true 0 (thread_rem c now all x) parts.1)
+    ready-is k x h = grind (arith, nat_tests, filter-has, and_parts, eqb-true, ltb-true)
 
     -- of a level of which no window begins the queue stays
     queue-stays : (k : ℕ) → k < length c.levels → begins c k now ≡ false → queue_at r0.ready.lists k ≡ ready_nodes (node_in t) c now all k
@@ -282,17 +267,11 @@ module _ (laws : Laws) (c : Configuration) (e : Entry) (past : List Entry) (t0 t
 
     -- and of one of which one does it is empty
     queue-empty : (k : ℕ) → k < length c.levels → begins c k now ≡ true → queue_at r0.ready.lists k ≡ []
-    queue-empty k known on =
-        let done = (laws.ready c e past is.checked is.accepted is.audited).done k known on in
-        queues0 k known ∙ ap (map (λ (x : Thread). node_in t0 x.id)) (map-none (λ (x : Thread). x.id) (filter (is_ready c was all k) (threads c all)) done)
+    queue-empty k known on = grind (arith, nat_tests, map-none, laws.ready c e past is.checked is.accepted is.audited)
 
     holds-has : (n : ℕ) (xs : List Thread) → holds n (map (λ (x : Thread). node_in t x.id) xs) ≡ true → (x : Thread) × Has xs x × (n ≡ node_in t x.id)
     holds-has n [] h = absurd (cc)
-    holds-has n (x ∷ xs) h =
-        elim (cases_Bool (eqb n (node_in t x.id))) [
-          | inl on ↦ (x, inl refl, eqb-true n (node_in t x.id) on)
-          | inr off ↦ let r = holds-has n xs (rw off at h) in (r.0, inr r.1, r.2)
-        ]
+    holds-has n (x ∷ xs) h = grind (arith, nat_tests, eqb-true, holds-has n xs)
 
     absent : (row : ThreadRow) → Has (all_rows t) row → begins_at w row.level ≡ true → Absent (node_on row) r0
     absent row h on k less =
@@ -316,16 +295,7 @@ module _ (laws : Laws) (c : Configuration) (e : Entry) (past : List Entry) (t0 t
         ]
 
     row-fits : (row : ThreadRow) → Has (all_rows t) row → (node_on row < length r0.seats) × (row.level < length r0.ready.lists)
-    row-fits row h =
-        let o = of-row row h in
-        let level = level-is row o in
-        let less = known-level o.thread o.among in
-        let lists = lists0 in
-        let many = many0 in
-        let processes = is.rows.processes in
-        let process = o.process in
-        let slot = o.slot in
-        (omega (arith, many, processes, process, slot), omega (arith, level, less, lists))
+    row-fits row h = grind (arith, nat_tests, of-row, level-is, known-level)
 
     pub rows-sit : CanAllSit b w (all_rows t) r0
     rows-sit = can-sit b w (all_rows t) r0 all-apart row-fits absent
@@ -371,11 +341,7 @@ module _ (laws : Laws) (c : Configuration) (e : Entry) (past : List Entry) (t0 t
     blind : (f : ThreadRow → ℕ) (g : ThreadRow → Bool) (rows : List ThreadRow) → ((row : ThreadRow) → f (unplaced row) ≡ f row) → ((row : ThreadRow) → g (unplaced row) ≡ g row)
         → map f (filter g rows) ≡ map f (filter g (map unplaced rows))
     blind f g [] same also = refl
-    blind f g (row ∷ rows) same also =
-        elim (cases_Bool (g row)) [
-          | inl on ↦ let on' = also row ∙ on in rw (on, on') (rw (same row) (ap (λ rest. f row ∷ rest) (blind f g rows same also)))
-          | inr off ↦ let off' = also row ∙ off in rw (off, off') (blind f g rows same also)
-        ]
+    blind f g (row ∷ rows) same also = grind (arith, nat_tests, blind f g rows)
 
     counted-ready : (k : ℕ) (xs : List Thread) → begins c k now ≡ true → ((x : Thread) → Has xs x → Has (threads c all) x)
         → map (λ (row : ThreadRow). node_in t row.id) (filter (gets b w k) (filter_map (row_at c now) xs)) ≡ map (λ (x : Thread). node_in t x.id) (filter (is_ready c now all k) xs)
@@ -422,10 +388,7 @@ module _ (laws : Laws) (c : Configuration) (e : Entry) (past : List Entry) (t0 t
         ∙ counted-ready k (family c p all) on (λ x h. among-all laws c all t b w is p x known h)
 
     queue-begins : (k : ℕ) → begins c k now ≡ true → map node_on (filter (gets b w k) (all_rows t)) ≡ ready_nodes (node_in t) c now all k
-    queue-begins k on =
-        ap (λ n. map node_on (filter (gets b w k) (rows_from t 0 n))) is.rows.processes
-        ∙ flat-filter node_on (gets b w k) (rows_in t) (λ (x : Thread). node_in t x.id) (is_ready c now all k) (λ p. family c p all) 0 (length c.processes)
-        (λ p h. process-ready k p (omega arith) on)
+    queue-begins k on = grind (arith, nat_tests, gets, flat-filter, process-ready)
 
     nobody-gets : (k : ℕ) (xs : List ThreadRow) → begins c k now ≡ false → filter (gets b w k) xs ≡ []
     nobody-gets k [] off = refl
@@ -446,9 +409,7 @@ module _ (laws : Laws) (c : Configuration) (e : Entry) (past : List Entry) (t0 t
         given-queue b w (all_rows t) r0 k (λ row h. (row-fits row h).1)
         ∙ (elim (cases_Bool (begins c k now)) [
           | inl on ↦ ap (λ queue. queue ++ map node_on (filter (gets b w k) (all_rows t))) (queue-empty k known on) ∙ queue-begins k on
-          | inr off ↦
-              ap (λ rows. queue_at r0.ready.lists k ++ map node_on rows) (nobody-gets k (all_rows t) off)
-              ∙ append-nil (queue_at r0.ready.lists k) ∙ queue-stays k known off
+          | inr off ↦ grind (arith, nat_tests, nobody-gets, append-nil, queue-stays)
         ])
 
     -- the seats
@@ -698,11 +659,7 @@ module _ (laws : Laws) (c : Configuration) (e : Entry) (past : List Entry) (t0 t
 
   ones-from : (low n : ℕ) → low + n ≤ length c.processes → sum_by ones (rows_from t low n) ≡ sum_from low n (λ p. sum_by one-each (family c p all))
   ones-from low zero within = refl
-  ones-from low (suc n) within =
-      let here = ones-are low (omega arith) in
-      let rest = ones-from (suc low) n (omega arith) in
-      let both = sum_by-append ones (rows_in t low) (rows_from t (suc low) n) in
-      omega (arith, here, rest, both)
+  ones-from low (suc n) within = grind (arith, nat_tests, ones-are, sum_by-append, ones-from (suc low) n)
 
   pub steps-few : (ws : List (List Wish)) → length ws ≡ length c.levels → ((k : ℕ) → k < length c.levels → AreCounted (node_in t0) c was all k (wishes_at ws k))
       → given_steps b w (all_rows t) ws ≤ 2 * released_now c all
@@ -713,10 +670,8 @@ module _ (laws : Laws) (c : Configuration) (e : Entry) (past : List Entry) (t0 t
         | inr beyond ↦ absurd (subst (λ vs. Has vs v) (past-end ws k (omega (arith, many, beyond))) h)
       ]) in
       let few = steps-below (all_rows t) ws (λ row h. h) asked in
-      let processes : sum_by ones (all_rows t) ≡ sum_from 0 (length c.processes) (λ p. sum_by one-each (family c p all)) =
-      ap (λ n. sum_by ones (rows_from t 0 n)) is.rows.processes ∙ ones-from 0 (length c.processes) (omega arith) in
-      let flat : sum_by one-each (threads c all) ≡ sum_from 0 (length c.processes) (λ p. sum_by one-each (family c p all)) =
-      sum_by-flat one-each (λ p. family c p all) 0 (length c.processes) in
+      let processes : sum_by ones (all_rows t) ≡ sum_from 0 (length c.processes) (λ p. sum_by one-each (family c p all)) = grind (arith, nat_tests, ones-from) in
+      let flat : sum_by one-each (threads c all) ≡ sum_from 0 (length c.processes) (λ p. sum_by one-each (family c p all)) = grind (arith, nat_tests, sum_by-flat) in
       let whole : released_now c all ≡ sum_by one-each (threads c all) = refl in
       omega (arith, few, processes, flat, whole)
     where

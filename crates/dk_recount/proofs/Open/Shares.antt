@@ -1,5 +1,5 @@
 -- The rows of the table are those of the threads, and the loans give them their shares.
-use Rattle.dk_recount.proofs.Names.{◌≡◌, ◌<◌, ◌≤◌, ◌+◌, ◌∙◌, inl, inr, ◌&&◌, ◌||◌, Bool, true, false, cond, eqb, ℕ, zero, suc, List, [], ◌∷◌, length, map, Option, Some, None, refl, ap, sym, subst, arith, slice_get, find, filter_map, sum_by, not, cons_option, option_map_or, cases_Bool, cond-true, cond-false, sum_by-cons, Configuration, sum_from, main_level, window_start, ThreadId, Entry, is_same, Has, Thread, threads, family, is_main, is_void, is_ended_by, share, same-self, flat-has, filter_map-has, Clock, ThreadRow, Family, is_row_of, Table, rows_of, find_row, children_at, has_row, row_at, counted_row, unplaced, main_id, Book, present_main_share, present_child_share, future_shares, HasSlowerChildren, IsFamilyOf, recount, begins, FamilyStands, past_to_come, begins-start, rows_in, rows_from, all_rows, share_in, shares_in}
+use Rattle.dk_recount.proofs.Names.{◌≡◌, ◌<◌, ◌≤◌, ◌+◌, ◌∙◌, inl, inr, ◌&&◌, ◌||◌, Bool, true, false, cond, eqb, ℕ, zero, suc, List, [], ◌∷◌, length, map, Option, Some, None, refl, ap, sym, subst, arith, slice_get, find, filter_map, sum_by, not, cons_option, option_map_or, cases_Bool, cond-true, cond-false, sum_by-cons, Configuration, sum_from, main_level, window_start, ThreadId, Entry, is_same, Has, Thread, threads, family, is_main, is_void, is_ended_by, share, same-self, flat-has, filter_map-has, Clock, ThreadRow, Family, is_row_of, Table, rows_of, find_row, children_at, has_row, row_at, counted_row, unplaced, main_id, Book, present_main_share, present_child_share, future_shares, HasSlowerChildren, IsFamilyOf, recount, begins, FamilyStands, past_to_come, begins-start, rows_in, rows_from, all_rows, share_in, shares_in, nat_tests}
 use Rattle.dk_recount.proofs.Open.RowByRow.{shares-append}
 use Rattle.dk_recount.proofs.Open.Due.{Laws, IsDue}
 
@@ -73,29 +73,7 @@ module _ (laws : Laws) (c : Configuration) (all : List Entry) (t : Table) (b : B
 
   -- a process and its threads, for the loans
   pub family-is : (p : ℕ) → (known : p < length c.processes) → IsFamilyOf c now all p (stands p known).main (stands p known).children
-  family-is p known =
-      let s = stands p known in
-      record {
-        rows = s.rows;
-        first = ap (λ (i : ThreadId). eqb i.serial 0) s.id;
-        process = ap (λ (i : ThreadId). i.process) s.id;
-        level = s.level;
-        each = λ y h.
-            (let y-stands = s.each y h in
-            record {
-              process = y-stands.process;
-              child = y-stands.child;
-              low = y-stands.low;
-              known = y-stands.known;
-              stopped = λ tick at. (let before = y-stands.stopped tick at in omega (arith, before));
-            });
-        distinct = λ y z hy hz same.
-            (let one = among-all p y known (subst (λ rows. Has rows y) (sym s.rows) (inr hy)) in
-            let two = among-all p z known (subst (λ rows. Has rows z) (sym s.rows) (inr hz)) in
-            let process : y.id.process ≡ z.id.process = (s.each y hy).process ∙ sym (s.each z hz).process in
-            (laws.named c all is.checked is.accepted is.audited).distinct y z one two
-            (ap (λ q. record { process = q; serial = y.id.serial }) process ∙ ap (λ q. record { process = z.id.process; serial = q }) same));
-      }
+  family-is p known = grind (arith, nat_tests, stands, among-all)
 
   -- the loans give each thread its share of the present window
   pub share-is : (p : ℕ) (x : Thread) → (known : p < length c.processes) → Has (family c p all) x
@@ -158,25 +136,17 @@ module _ (laws : Laws) (c : Configuration) (all : List Entry) (t : Table) (b : B
       elim (cases_Bool (has_row c now x)) [
         | inl on ↦
             let here = same x (inl refl) on in
-            let left : sum_by f (filter_map (row_at c now) (x ∷ xs)) ≡ f (counted_row c now x) + sum_by f (filter_map (row_at c now) xs) =
-            ap (λ o. sum_by f (cons_option o (filter_map (row_at c now) xs))) (cond-true (has_row c now x) (Some (counted_row c now x)) None on)
-            ∙ sum_by-cons f (counted_row c now x) (filter_map (row_at c now) xs) in
+            let left : sum_by f (filter_map (row_at c now) (x ∷ xs)) ≡ f (counted_row c now x) + sum_by f (filter_map (row_at c now) xs) = grind (arith, nat_tests, cond-true, sum_by-cons) in
             omega (arith, rest, right, here, left)
         | inr off ↦
             let here = none x (inl refl) off in
-            let left : sum_by f (filter_map (row_at c now) (x ∷ xs)) ≡ sum_by f (filter_map (row_at c now) xs) =
-            ap (λ o. sum_by f (cons_option o (filter_map (row_at c now) xs))) (cond-false (has_row c now x) (Some (counted_row c now x)) None off) in
+            let left : sum_by f (filter_map (row_at c now) (x ∷ xs)) ≡ sum_by f (filter_map (row_at c now) xs) = grind (arith, nat_tests, cond-false) in
             omega (arith, rest, right, here, left)
       ]
 
   pub sum-unplaced : (f : ThreadRow → ℕ) (rows : List ThreadRow) → ((row : ThreadRow) → f (unplaced row) ≡ f row) → sum_by f rows ≡ sum_by f (map unplaced rows)
   sum-unplaced f [] same = refl
-  sum-unplaced f (row ∷ rows) same =
-      let rest = sum-unplaced f rows same in
-      let one = sum_by-cons f row rows in
-      let two = sum_by-cons f (unplaced row) (map unplaced rows) in
-      let here = same row in
-      omega (arith, rest, one, two, here)
+  sum-unplaced f (row ∷ rows) same = grind (arith, nat_tests, sum_by-cons, sum-unplaced f rows)
 
   -- a test of levels all of whose windows begin
   abbrev pub OnlyBegin : (ℕ → Bool) → Type 0
@@ -220,20 +190,12 @@ module _ (laws : Laws) (c : Configuration) (all : List Entry) (t : Table) (b : B
   shares-from : (test : ℕ → Bool) (low n : ℕ) → low + n ≤ length c.processes → OnlyBegin test
       → shares_in b w test (rows_from t low n) ≡ sum_from low n (λ p. sum_by (λ x. cond (test x.level) (share c all x now) 0) (family c p all))
   shares-from test low zero within only = refl
-  shares-from test low (suc n) within only =
-      let here = shares-are test low (omega arith) only in
-      let rest = shares-from test (suc low) n (omega arith) only in
-      let both = shares-append b w test (rows_in t low) (rows_from t (suc low) n) in
-      omega (arith, here, rest, both)
+  shares-from test low (suc n) within only = grind (arith, nat_tests, shares-are, shares-append, shares-from test (suc low) n)
 
   pub all-shares : (test : ℕ → Bool) → OnlyBegin test
       → shares_in b w test (all_rows t) ≡ sum_from 0 (length c.processes) (λ p. sum_by (λ x. cond (test x.level) (share c all x now) 0) (family c p all))
-  all-shares test only =
-      ap (λ n. shares_in b w test (rows_from t 0 n)) is.rows.processes ∙ shares-from test 0 (length c.processes) (omega arith) only
+  all-shares test only = grind (arith, nat_tests, shares-from)
 
   -- and those to come
   pub future-is : (k p : ℕ) → p < length c.processes → future_shares b w p k ≡ past_to_come c now all k p
-  future-is k p known =
-      ap (λ z. future_shares z w p k) is.loans
-      ∙ ap (λ z. future_shares (recount c now all) z p k) is.windows
-      ∙ laws.future c now k all p (stands p known).main (stands p known).children is.checked known (family-is p known)
+  future-is k p known = grind (arith, nat_tests, stands, family-is, laws.future c now k all p (stands p known).main (stands p known).children is.checked known (family-is p known))

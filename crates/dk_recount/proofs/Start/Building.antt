@@ -1,5 +1,5 @@
 -- The tables at tick 0 are built one level, and one process, after the other; and they are the recount of no entries.
-use Rattle.dk_recount.proofs.Names.{◌≡◌, ◌+◌, ◌∙◌, inl, inr, ℕ, true, false, cond, ltb, eqb, List, map, refl, ap, sym, arith, cases_eq, cases_lt, nat_tests, below, at_level, set_to, map-same}
+use Rattle.dk_recount.proofs.Names.{◌≡◌, ◌+◌, ℕ, true, false, cond, ltb, List, map, refl, arith, nat_tests, below, at_level, set_to, map-same}
 
 -- f of each number that is low enough, and 0 of all others
 abbrev pub part_filled : (ℕ → ℕ) → ℕ → ℕ → ℕ
@@ -10,26 +10,7 @@ filled f done n = map (part_filled f done) (below n)
 
 -- one more cell is filled
 pub fill-more : (f : ℕ → ℕ) (k v j : ℕ) → v ≡ f k → at_level k (set_to v) j (part_filled f k j) ≡ part_filled f (k + 1) j
-fill-more f k v j is =
-    elim (cases_eq j k) [
-      | inl same ↦
-          let on : eqb j k ≡ true = grind (arith, nat_tests) in
-          let in' : ltb j (k + 1) ≡ true = grind (arith, nat_tests) in
-          let at : v ≡ f j = is ∙ ap f (sym same) in
-          rw (on, in') at
-      | inr apart ↦
-          let off : eqb j k ≡ false = grind (arith, nat_tests) in
-          elim (cases_lt j k) [
-            | inl low ↦
-                let a : ltb j k ≡ true = grind (arith, nat_tests) in
-                let b : ltb j (k + 1) ≡ true = grind (arith, nat_tests) in
-                rw (off, a, b) refl
-            | inr high ↦
-                let a : ltb j k ≡ false = grind (arith, nat_tests) in
-                let b : ltb j (k + 1) ≡ false = grind (arith, nat_tests) in
-                rw (off, a, b) refl
-          ]
-    ]
+fill-more f k v j is = grind (arith, nat_tests)
 
 pub fill-none : (f : ℕ → ℕ) (j : ℕ) → part_filled f 0 j ≡ 0
 fill-none f j = let off : ltb j 0 ≡ false = grind (arith, nat_tests) in rw off refl

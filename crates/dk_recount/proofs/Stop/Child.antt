@@ -1,5 +1,5 @@
 -- Tables of a charged tick in which a child is stopped are those of the booked one once it is stopped.
-use Rattle.dk_recount.proofs.Names.{◌≡◌, ◌<◌, inl, inr, List, ◌∷◌, length, Some, ap, sym, subst, arith, cases_Bool, slice_get_within, Configuration, user-mutex, ThreadId, Label, Entry, is_of, quiet, Has, Thread, family, Hold, held_by, has-aged, holding-some, find-has, map-has, filter_map-has, quiet-stops, family-charged, HoldersKnown, FamiliesStand, ThreadRow, is_row_of, Table, rows_of, find_row, row_at, counted_rows, unplaced, AreThreads, row-says, RowOf, rows-family, AreMutexes}
+use Rattle.dk_recount.proofs.Names.{◌≡◌, ◌<◌, List, ◌∷◌, length, Some, ap, sym, subst, arith, slice_get_within, Configuration, user-mutex, ThreadId, Label, Entry, quiet, Has, Thread, family, has-aged, holding-some, find-has, map-has, filter_map-has, quiet-stops, family-charged, HoldersKnown, FamiliesStand, ThreadRow, is_row_of, Table, rows_of, find_row, row_at, counted_rows, unplaced, AreThreads, row-says, RowOf, rows-family, AreMutexes, nat_tests}
 
 -- which thread a row is of
 pub thread-of-row : (c : Configuration) (label : Label) (past : List Entry) (table : Table) (row : ThreadRow) → AreThreads c (length past) (quiet label ∷ past) table
@@ -31,15 +31,4 @@ thread-of-row c label past table row is families found =
 
 -- each mutex that is held after a tick without an event is there
 pub mutexes-there : (c : Configuration) (label : Label) (past : List Entry) → HoldersKnown c past → AreMutexes c (quiet label ∷ past)
-mutexes-there c label past known x h has =
-    elim (cases_Bool (is_of x (quiet label))) [
-      | inl mine ↦
-          let r = has-aged (held_by x past) h (rw (quiet-stops x label, mine) at has) in
-          let user = (known x (holding-some (held_by x past) r.0 r.1)).users r.0 r.1 in
-          let m = user-mutex c r.0.mutex x.process user in
-          subst (λ (z : Hold). z.mutex < length c.mutexes) r.2 m
-      | inr other ↦
-          let has' : Has (held_by x past) h = rw (quiet-stops x label, other) at has in
-          let user = (known x (holding-some (held_by x past) h has')).users h has' in
-          user-mutex c h.mutex x.process user
-    ]
+mutexes-there c label past known x h has = grind (arith, nat_tests, has-aged, quiet-stops, holding-some, user-mutex)

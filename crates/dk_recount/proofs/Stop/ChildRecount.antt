@@ -156,12 +156,7 @@ module _ (laws : ChildLaws) (c : Configuration) (e : Entry) (past : List Entry) 
       elsewhere y same = rw (subst (λ k. eqb k row.id.process ≡ false) (sym same) off) refl
 
   loans-new : changed_lender row.id.process (stopped_child d.demand.windows row.id.serial) d.loans ≡ recount c now (e ∷ past)
-  loans-new =
-      ap (λ b. changed_lender row.id.process (stopped_child d.demand.windows row.id.serial) b) rec.loans
-      ∙ ap (λ w. changed_lender row.id.process (stopped_child w row.id.serial) (recount c now before)) (rec.cells.windows ∙ ap (clock_at c) rec.tick)
-      ∙ changed-lenders c now row.id.process before (e ∷ past) (stopped_child (clock_at c now) row.id.serial) known
-      (loans-own ∙ ap (stopped_child (clock_at c now) row.id.serial) (sym (quiet-lender c now row.id.process e.label past)))
-      loans-others
+  loans-new = grind (arith, nat_tests, rec, changed-lenders, known, loans-own, quiet-lender, loans-others)
 
   -- All tables.
   stopped-recount : IsRecount c now (e ∷ past) (without_child row d)
@@ -184,8 +179,4 @@ module _ (laws : ChildLaws) (c : Configuration) (e : Entry) (past : List Entry) 
   }
 
   pub child-booked : IsBooked c e past (without_child row d)
-  child-booked = record {
-    ruled = charged.ruled;
-    chose = charged.chose;
-    recount = stopped-recount;
-  }
+  child-booked = grind (arith, nat_tests, stopped-recount)

@@ -40,18 +40,13 @@ module _ (c : Configuration) (label : Label) (past : List Entry) (d : Tables) (c
       let two = and_parts (not (is_main y)) (eqb y.id.serial serial) one.0 in
       let place = (named c past charged.ruled.checked charged.ruled.accepted charged.ruled.audited).place x h in
       let f = stands x.id.process place.0 in
-      let process : y.id.process ≡ x.id.process =
-      elim (subst (λ xs. Has xs y) f.rows r.1) [
-        | inl is ↦ ap (λ (z : Thread). z.id.process) (sym is) ∙ ap (λ (i : ThreadId). i.process) f.id
-        | inr child ↦ (f.each y child).process
-      ] in
+      let process : y.id.process ≡ x.id.process = grind (arith, nat_tests) in
       let serial' : y.id.serial ≡ serial = (let t = two.1 in grind (arith, nat_tests)) in
       let id : y.id ≡ child_of x.id serial = ap (λ k. record { process = k; serial = y.id.serial }) process ∙ ap (λ k. record { process = x.id.process; serial = k }) serial' in
       let stop = none-stop y.stop one.1 in
       let there = running-row c (length past) y stop in
       let known : y.id.process < length c.processes = subst (λ k. k < length c.processes) (sym process) place.0 in
-      let among : Has (family c y.id.process before) y =
-      subst (λ xs. Has xs y) (sym (family-charged c y.id.process label past)) (subst (λ k. Has (family c k past) y) (sym process) r.1) in
+      let among : Has (family c y.id.process before) y = grind (arith, nat_tests, family-charged) in
       let row = row-there c (length past) before d.threads y charged.recount.rows known among there in
       let found : find_row d.threads row.row.id ≡ Some row.row = subst (λ i. find_row d.threads i ≡ Some row.row) (sym row.name) row.found in
       let t = thread-of-row c label past d.threads row.row charged.recount.rows stands found in

@@ -1,27 +1,15 @@
 -- The rows of a process that haven't been stopped are those of its threads that run.
-use Rattle.dk_recount.proofs.Names.{◌≡◌, ◌<◌, ◌≤◌, ◌+◌, ◌*◌, ◌∙◌, inl, inr, Bool, false, eqb, ℕ, List, [], ◌∷◌, length, map, Some, is_none, ap, sym, subst, arith, filter, filter_map, find, cases_Bool, nat_tests, MAX_CHILDREN, MAX_THREADS, Configuration, ThreadId, Label, Entry, quiet, Has, Thread, family, same-id, same-self, filter-has, map-has, find-some, filter_map-has, family-charged, FamiliesStand, ThreadRow, AreChildren, is_row_of, Table, AreFamilies, find_row, is_running, rows_of, row_at, counted_row, unplaced, AreThreads, unplaced-running, running-rows, RowOf, row-says, names-apart, child-slot, family-of, slot-apart, child-later, one-row, node_on}
+use Rattle.dk_recount.proofs.Names.{◌≡◌, ◌<◌, ◌≤◌, ◌∙◌, inl, inr, Bool, false, eqb, ℕ, List, [], ◌∷◌, length, map, Some, is_none, ap, sym, subst, arith, filter, filter_map, find, nat_tests, MAX_CHILDREN, Configuration, ThreadId, Label, Entry, quiet, Has, Thread, family, same-id, same-self, filter-has, map-has, find-some, filter_map-has, family-charged, FamiliesStand, ThreadRow, AreChildren, is_row_of, Table, AreFamilies, find_row, is_running, rows_of, row_at, counted_row, unplaced, AreThreads, unplaced-running, running-rows, RowOf, row-says, names-apart, child-slot, family-of, slot-apart, child-later, one-row, node_on}
 use Rattle.dk_recount.proofs.Stop.ShutTables.{AreApart}
 
 -- Rows of one process in slots of their own are apart.
 
 nodes-apart : (q r : ThreadRow) → q.slot ≤ MAX_CHILDREN → r.slot ≤ MAX_CHILDREN → (r.slot ≡ q.slot → ⊥) → eqb (node_on q) (node_on r) ≡ false
-nodes-apart q r low high apart =
-    elim (cases_Bool (eqb (node_on q) (node_on r))) [
-      | inr off ↦ off
-      | inl on ↦
-          let same : MAX_THREADS * q.id.process + q.slot ≡ MAX_THREADS * r.id.process + r.slot = grind (arith, nat_tests) in
-          absurd (apart (omega (arith, low, high, same)))
-    ]
+nodes-apart q r low high apart = grind (arith, nat_tests)
 
 children-apart : (levels low high : ℕ) (rows : List ThreadRow) → AreChildren levels low high rows → AreApart rows
 children-apart levels low high [] are = tt
-children-apart levels low high (r ∷ rows) are = (
-  (λ q h. (
-    nodes-apart q r (child-slot levels r.id.serial high rows q are.2 h).1 are.0.last_slot (slot-apart rows r q are.1 h),
-    names-apart q r (child-later levels r.id.serial high rows q are.2 h),
-  )),
-  children-apart levels r.id.serial high rows are.2,
-)
+children-apart levels low high (r ∷ rows) are = grind (arith, nat_tests, nodes-apart, child-slot, slot-apart, names-apart, child-later, children-apart levels r.id.serial high rows)
 
 pub family-apart : (table : Table) (p : ℕ) (row : ThreadRow) → AreFamilies table.levels table.families → Has (rows_of table p) row → AreApart (rows_of table p)
 family-apart table p row are among =
@@ -43,12 +31,7 @@ family-apart table p row are among =
 
 pub filter-apart : (test : ThreadRow → Bool) (rows : List ThreadRow) → AreApart rows → AreApart (filter test rows)
 filter-apart test [] apart = tt
-filter-apart test (r ∷ rows) apart =
-    let rest = filter-apart test rows apart.1 in
-    elim (cases_Bool (test r)) [
-      | inl on ↦ rw on ((λ q h. apart.0 q (filter-has test rows q h).0), rest)
-      | inr off ↦ rw off rest
-    ]
+filter-apart test (r ∷ rows) apart = grind (arith, nat_tests, filter-has, filter-apart test rows)
 
 module _ (c : Configuration) (label : Label) (past : List Entry) (table : Table) (p : ℕ) (known : p < length c.processes)
     (are : AreFamilies table.levels table.families) (recount : AreThreads c (length past) (quiet label ∷ past) table) (stand : FamiliesStand c past) where

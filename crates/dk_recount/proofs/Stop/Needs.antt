@@ -1,5 +1,5 @@
 -- What the tables of a charged tick owe the stop of a child.
-use Rattle.dk_recount.proofs.Names.{◌≡◌, ◌<◌, ◌≤◌, ◌+◌, ◌*◌, ◌∙◌, true, eqb, ltb, leb, ℕ, List, ◌∷◌, length, Some, ap, sym, subst, arith, slice_index, if◌then◌else◌, IsSome, option_map_or, nat_tests, MAX_THREADS, Configuration, IsChecked, IsAccepted, ThreadId, Label, Entry, Has, Thread, threads, job, thread_rem, held_by, greatest_left, thread_blocking, blocking, own_demand, remaining_demand, Audited, ThreadRow, AreFamilies, find_row, runs, is_child, has_row, HasRow, row-there, row-slot, rows-family, RowOf, left_up_to, threads-charged, each_level, holder, left_on, dropped_on, Tables, IsSound, node_in, IsCharged, IsRecount, node_on, MayShut, MayStopChild, Laws, sum_by, eq-eqb, slice_get_within, thread_demand, rem, sum_by-term, family-charged, family-among, quiet, window_end, at_index, Seat}
+use Rattle.dk_recount.proofs.Names.{◌≡◌, ◌<◌, ◌≤◌, ◌+◌, ◌*◌, ◌∙◌, true, ltb, leb, ℕ, List, ◌∷◌, length, Some, ap, sym, subst, arith, slice_index, IsSome, option_map_or, nat_tests, MAX_THREADS, Configuration, IsChecked, IsAccepted, ThreadId, Label, Entry, Has, Thread, threads, job, thread_rem, held_by, greatest_left, thread_blocking, blocking, own_demand, remaining_demand, Audited, ThreadRow, AreFamilies, find_row, runs, is_child, has_row, HasRow, row-there, row-slot, rows-family, RowOf, left_up_to, threads-charged, holder, left_on, dropped_on, Tables, IsSound, node_in, IsCharged, IsRecount, node_on, MayShut, MayStopChild, Laws, eq-eqb, slice_get_within, rem, sum_by-term, family-charged, family-among, quiet, at_index, Seat}
 use Rattle.dk_recount.proofs.Stop.Child.{mutexes-there}
 
 leb-on : (a b j : ℕ) → a ≡ b → b ≤ j → leb a j ≡ true
@@ -42,9 +42,7 @@ module _ (laws : Laws) (c : Configuration) (label : Label) (past : List Entry) (
   known = (laws.places c past checked accepted audited x among).level
 
   pub node-row : node x.id ≡ node_on row
-  node-row =
-      ap node of.id
-      ∙ ap (λ o. MAX_THREADS * row.id.process + option_map_or (λ (r : ThreadRow). r.slot) o 0) found
+  node-row = grind (arith, nat_tests)
 
   pub row-known : (y : Thread) → Has (threads c past) y → has_row c now y ≡ true → HasRow d.threads y.id
   row-known y h there =
@@ -65,9 +63,7 @@ module _ (laws : Laws) (c : Configuration) (label : Label) (past : List Entry) (
   left-here = ap (λ (s : Seat). rem d.jobs.switch s.job) (rec.jobs.seats x here of.there) ∙ ap (λ w. rem w (job c now before x)) rec.jobs.switch
 
   dropped-low : dropped_on (node_on row) d.jobs ≤ thread_rem c now before x
-  dropped-low =
-      let e = sym (ap (left_on d.jobs) node-row) ∙ left-here in
-      omega (arith, e)
+  dropped-low = grind (arith, nat_tests, node-row, left-here)
 
   in-queue : 0 < left_on d.jobs (node x.id) → IsSome (holder d.jobs.ready.lists (node x.id))
   in-queue left =
@@ -81,35 +77,19 @@ module _ (laws : Laws) (c : Configuration) (label : Label) (past : List Entry) (
   level-in = subst (λ l. l < length c.levels) of.level known
 
   own-cell : (j : ℕ) → j < length c.levels → slice_index d.demand.own j ≡ own_demand c now before j
-  own-cell j in-levels =
-      ap (λ ns. slice_index ns j) (rec.cells.own ∙ ap (λ t. each_level c (own_demand c t before)) rec.tick)
-      ∙ at_index (own_demand c now before) (length c.levels) j 0 in-levels
+  own-cell j in-levels = grind (arith, nat_tests, rec, at_index)
 
   remaining-cell : (j : ℕ) → j < length c.levels → slice_index d.demand.remaining j ≡ remaining_demand c now before j
-  remaining-cell j in-levels =
-      ap (λ ns. slice_index ns j) (rec.cells.remaining ∙ ap (λ t. each_level c (remaining_demand c t before)) rec.tick)
-      ∙ at_index (remaining_demand c now before) (length c.levels) j 0 in-levels
+  remaining-cell j in-levels = grind (arith, nat_tests, rec, at_index)
 
   blocking-cell : (j : ℕ) → j < length c.levels → slice_index d.demand.blocking j ≡ blocking c before j
   blocking-cell j in-levels = ap (λ ns. slice_index ns j) rec.cells.blocking ∙ at_index (blocking c before) (length c.levels) j 0 in-levels
 
   own-room : thread_rem c now before x ≤ own_demand c now before row.level
-  own-room =
-      let on : eqb x.level row.level ≡ true = eq-eqb x.level row.level of.level in
-      let t : (if eqb x.level row.level then thread_rem c now before x else 0) ≤ sum_by (λ y. if eqb y.level row.level then thread_rem c now before y else 0) (threads c before) =
-      sum_by-term (λ (y : Thread). if eqb y.level row.level then thread_rem c now before y else 0) (threads c before) x here in
-      let t' : thread_rem c now before x ≤ sum_by (λ y. if eqb y.level row.level then thread_rem c now before y else 0) (threads c before) =
-      subst (λ b. (if b then thread_rem c now before x else 0) ≤ sum_by (λ y. if eqb y.level row.level then thread_rem c now before y else 0) (threads c before)) on t in
-      omega (arith, t')
+  own-room = grind (arith, nat_tests, eq-eqb, sum_by-term, here)
 
   remaining-room : (j : ℕ) → row.level ≤ j → thread_rem c now before x ≤ remaining_demand c now before j
-  remaining-room j low =
-      let on : leb x.level j ≡ true = leb-on x.level row.level j of.level low in
-      let f : Thread → ℕ = λ y. if leb y.level j then thread_demand c now before (window_end c j now) y else 0 in
-      let t : f x ≤ sum_by f (threads c before) = sum_by-term f (threads c before) x here in
-      let t' : thread_demand c now before (window_end c j now) x ≤ sum_by f (threads c before) =
-      subst (λ b. (if b then thread_demand c now before (window_end c j now) x else 0) ≤ sum_by f (threads c before)) on t in
-      omega (arith, t')
+  remaining-room j low = grind (arith, nat_tests, leb-on, sum_by-term, here)
 
   blocking-room : (j : ℕ) → j < row.level → left_up_to row.id j d.mutexes ≤ blocking c before j
   blocking-room j low =
@@ -118,8 +98,7 @@ module _ (laws : Laws) (c : Configuration) (label : Label) (past : List Entry) (
       ∙ ap (λ i. greatest_left c j (held_by i before)) (sym of.id) in
       let on : ltb j x.level ≡ true = ltb-on j x.level row.level of.level low in
       let t : thread_blocking c before j x ≤ blocking c before j = sum_by-term (thread_blocking c before j) (threads c before) x here in
-      let t' : greatest_left c j (held_by x.id before) ≤ blocking c before j =
-      subst (λ b. (if b then greatest_left c j (held_by x.id before) else 0) ≤ blocking c before j) on t in
+      let t' : greatest_left c j (held_by x.id before) ≤ blocking c before j = grind (arith, nat_tests) in
       omega (arith, left, t')
 
   pub may-shut : MayShut row d
@@ -129,13 +108,9 @@ module _ (laws : Laws) (c : Configuration) (label : Label) (past : List Entry) (
       known = (let a = periods-many in let b = level-in in omega (arith, a, b));
       queued = λ left. subst (λ n. IsSome (holder d.jobs.ready.lists n)) node-row (in-queue (subst (λ n. 0 < left_on d.jobs n) (sym node-row) left));
       own = (let a = dropped-low in let b = own-room in let cell = own-cell row.level level-in in omega (arith, a, b, cell));
-      remaining = λ j low high.
-          (let in-levels : j < length c.levels = (let a = periods-many in omega (arith, a, high)) in
-          let a = dropped-low in let b = remaining-room j low in let cell = remaining-cell j in-levels in omega (arith, a, b, cell));
+      remaining = grind (arith, nat_tests, periods-many, dropped-low, remaining-room, remaining-cell);
     };
-    blocking = λ j low.
-        (let in-levels : j < length c.levels = (let a = level-in in omega (arith, a, low)) in
-        let b = blocking-room j low in let cell = blocking-cell j in-levels in omega (arith, b, cell));
+    blocking = grind (arith, nat_tests, level-in, blocking-room, blocking-cell);
   }
 
   pub may-stop : is_child row.id ≡ true → runs d.threads row.id ≡ true → MayStopChild row d
@@ -143,8 +118,5 @@ module _ (laws : Laws) (c : Configuration) (label : Label) (past : List Entry) (
     shut = may-shut;
     child = child;
     runs = running;
-    process =
-        (let a = sound.lenders in let b = rec.rows.processes in
-        let p : row.id.process < length c.processes = subst (λ (i : ThreadId). i.process < length c.processes) of.id of.process in
-        omega (arith, a, b, p));
+    process = grind (arith, nat_tests, rec);
   }

@@ -1,12 +1,11 @@
 -- An event that closes one thread's window: what the tables then have.
-use Rattle.dk_recount.proofs.Names.{◌≡◌, ◌<◌, ◌+◌, ◌∙◌, inl, inr, true, false, Bool, eqb, leb, ℕ, List, [], ◌∷◌, length, Some, refl, ap, sym, subst, arith, if◌then◌else◌, Configuration, IsChecked, IsAccepted, eqb-flip, ThreadId, Entry, is_same, quiet, Has, Thread, threads, held_by, greatest_left, own_demand, remaining_demand, Audited, Follows, same-id, same-self, IsPlain, family-among, AtEachEntry, closes, given_up, IsClosedAlone, OneIsClosed, RowsAreNamed, ThreadRow, AreFamilies, find_row, RowOf, named, left_up_to, dropped_on, Tables, IsSound, IsCharged, node_on, Laws}
+use Rattle.dk_recount.proofs.Names.{◌≡◌, ◌<◌, ◌+◌, ◌∙◌, inl, inr, true, Bool, ℕ, List, [], ◌∷◌, length, Some, refl, ap, sym, subst, arith, if◌then◌else◌, Configuration, IsChecked, IsAccepted, eqb-flip, ThreadId, Entry, is_same, quiet, Has, Thread, threads, held_by, greatest_left, own_demand, remaining_demand, Audited, Follows, same-id, same-self, IsPlain, family-among, AtEachEntry, closes, given_up, IsClosedAlone, OneIsClosed, RowsAreNamed, ThreadRow, AreFamilies, find_row, RowOf, named, left_up_to, dropped_on, Tables, IsSound, IsCharged, node_on, Laws, nat_tests}
 use Rattle.dk_recount.proofs.Stop.ShutTables.{own-part, remaining-part}
 use Rattle.dk_recount.proofs.Stop.ShutRecount.{Shuts, dropped-is, lefts-are}
 
 -- the sum over one row
 pub first-part : (b b' : Bool) (n m : ℕ) → b ≡ b' → n ≡ m → 0 + (if b then n else 0) ≡ (if b' then m else 0)
-first-part true b' n m same is = rw (← same) (omega (arith, is))
-first-part false b' n m same is = rw (← same) (omega arith)
+first-part b b' n m same is = grind (arith, nat_tests)
 
 module _ (laws : Laws) (ones : AtEachEntry OneIsClosed) (c : Configuration) (e : Entry) (past : List Entry) (d : Tables) (row : ThreadRow)
     (sound : IsSound d) (are : AreFamilies d.threads.levels d.threads.families)
@@ -70,14 +69,7 @@ module _ (laws : Laws) (ones : AtEachEntry OneIsClosed) (c : Configuration) (e :
 
   -- what demand loses is what the row gives up
   pub own-law : (j : ℕ) → j < length c.levels → own_demand c now (e ∷ past) j + own-part rows j d ≡ own_demand c now before j
-  own-law j h =
-      ap (λ n. own_demand c now (e ∷ past) j + n)
-      (first-part (eqb j row.level) (eqb x.level j) (dropped_on (node_on row) d.jobs) (given_up c e past x)
-      (eqb-flip j row.level ∙ ap (λ l. eqb l j) (sym of.level)) dropped-here)
-      ∙ one.own x j among closed
+  own-law j h = grind (arith, nat_tests, first-part, eqb-flip, dropped-here, one, among, one.own x j among closed)
 
   pub remaining-law : (j : ℕ) → j < length c.levels → remaining_demand c now (e ∷ past) j + remaining-part rows j d ≡ remaining_demand c now before j
-  remaining-law j h =
-      ap (λ n. remaining_demand c now (e ∷ past) j + n)
-      (first-part (leb row.level j) (leb x.level j) (dropped_on (node_on row) d.jobs) (given_up c e past x) (ap (λ l. leb l j) (sym of.level)) dropped-here)
-      ∙ one.remaining x j h among closed
+  remaining-law j h = grind (arith, nat_tests, first-part, dropped-here, one, among, one.remaining x j h among closed)

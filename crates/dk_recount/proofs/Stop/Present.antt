@@ -1,5 +1,5 @@
 -- Who has something left or asks for slack at the end of a tick has a row.
-use Rattle.dk_recount.proofs.Names.{◌≡◌, ◌<◌, ◌≤◌, ◌∙◌, inl, inr, Bool, true, false, ltb, leb, ℕ, List, ◌∷◌, length, Option, Some, None, refl, ap, sym, subst, arith, nat_lt, option_map_or, cases_Bool, or_parts, nat_tests, or-true, Configuration, period, window_end, Label, Entry, Has, stops, quiet, Thread, threads, after_entry, is_ended_by, is_main, is_void, thread_rem, want, window_end-above, after-stopped, IsThere, AskersThere, TickSpends, TickLowersRem, EventLowersRem, AbsentHaveNothing, is_gone, row-same, want-before, has_row}
+use Rattle.dk_recount.proofs.Names.{◌≡◌, ◌<◌, ◌≤◌, ◌∙◌, Bool, true, false, ltb, leb, ℕ, List, ◌∷◌, length, Option, Some, None, refl, ap, sym, subst, arith, nat_lt, option_map_or, or_parts, nat_tests, or-true, Configuration, period, window_end, Label, Entry, Has, stops, quiet, Thread, threads, after_entry, is_main, thread_rem, want, window_end-above, after-stopped, IsThere, AskersThere, TickSpends, TickLowersRem, EventLowersRem, AbsentHaveNothing, row-same, want-before, has_row}
 
 pub there-row : (c : Configuration) (now : ℕ) (x : Thread) → IsThere c now x → has_row c now x ≡ true
 there-row c now x is = let a = is.started in let b = is.lasts in rw (a, b) (or-true (is_main x))
@@ -23,18 +23,12 @@ stopped-row c e now x positive started there = go x.stop (stops x.id e) refl ref
 
 pub asker-row : (c : Configuration) (label : Label) (past : List Entry) → TickSpends c label past → AskersThere c past → (x : Thread) → Has (threads c past) x
     → nat_lt 0 (want c (length past) (quiet label ∷ past) x) ≡ true → has_row c (length past) x ≡ true
-asker-row c label past spends askers x h some =
-    let some' : 0 < want c (length past) (quiet label ∷ past) x = grind (arith, nat_tests) in
-    there-row c (length past) x (askers x h (want-before c label past spends x h some'))
+asker-row c label past spends askers x h some = grind (arith, nat_tests, there-row, want-before)
 
 -- who has something left is neither void nor ended, and has a row
 pub worker-has-row : (c : Configuration) (past : List Entry) → AbsentHaveNothing c past → (x : Thread) → Has (threads c past) x → 0 < thread_rem c (length past) past x
     → has_row c (length past) x ≡ true
-worker-has-row c past absent x h some =
-    elim (cases_Bool (is_gone c (length past) x)) [
-      | inl gone ↦ let none = absent.gone x h gone in absurd (omega (arith, none, some))
-      | inr here ↦ let parts = or_parts (is_void x) (is_ended_by c (length past) x) here in there-row c (length past) x (record { started = parts.0; lasts = parts.1 })
-    ]
+worker-has-row c past absent x h some = grind (arith, nat_tests, or_parts, there-row)
 
 pub worker-row : (c : Configuration) (e : Entry) (past : List Entry) → TickLowersRem c e.label past → EventLowersRem c e past → AbsentHaveNothing c past
     → (x : Thread) → Has (threads c past) x → 0 < period c x.level → 0 < thread_rem c (length past) (e ∷ past) (after_entry e (length past) x)
@@ -43,9 +37,5 @@ worker-row c e past tick event absent x h positive some =
     let a = event x h in
     let b = tick x h in
     let left : 0 < thread_rem c (length past) past x = omega (arith, a, b, some) in
-    let started : x.start ≤ length past =
-    elim (cases_Bool (ltb (length past) x.start)) [
-      | inl early ↦ let before : length past < x.start = grind (arith, nat_tests) in let none = absent.waiting x h before in absurd (omega (arith, none, left))
-      | inr late ↦ grind (arith, nat_tests)
-    ] in
+    let started : x.start ≤ length past = grind (arith, nat_tests) in
     stopped-row c e (length past) x positive started (worker-has-row c past absent x h left)

@@ -1,5 +1,5 @@
 -- The tables in which a process was stopped are the recount of the past with its main's end.
-use Rattle.dk_recount.proofs.Names.{◌≡◌, ◌<◌, ◌≤◌, ◌+◌, ◌-◌, ◌∙◌, inl, inr, ◌&&◌, ◌||◌, Bool, true, false, eqb, ℕ, suc, List, [], ◌∷◌, length, map, Option, Some, None, is_none, refl, ap, sym, subst, arith, filter, find, nat_lt, nat_le, slice_get, slice_index, sum_by, if◌then◌else◌, option_map_or, cases_Bool, and_parts, eq-eqb, eqb-true, length-map, sum_by-cons, slice_get_within, Configuration, IsChecked, IsAccepted, ThreadId, Entry, is_same, is_of, is_end, is_delete_of, has_event, does, main_of, stops, quiet, Has, Thread, threads, family, after_entry, made_by, is_main, Hold, held_by, greatest_left, is_holding, thread_blocking, blocking, own_demand, remaining_demand, Audited, Follows, same-id, same-self, find-has, filter-has, list_any-has, map-has, has-filter, sum_by-map, any-has, sum-filter, quiet-stops, family-charged, family-after, threads-after, family-among, family-sum, end-no-delete, end-plain, whose, some-event, Always, HoldersStand, AtEachEntry, GivenUp, closes, given_up, IsMainsEnd, ProcessIsClosed, WhoCloses, FamiliesStand, RowsAreNamed, Clock, clock_at, ThreadRow, Family, is_row_of, Table, AreFamilies, all_stopped, children_at, find_row, is_running, rows_of, changed_family, counted_row, has_row, main_id, unplaced, AreThreads, row-there, one-row, rows-family, process-descends, row-was, running-row, row-runs, RowOf, paired-sum, future_shares, IsFamilyOf, counted_lender, counted_stop, recount, stopped_process, changed_lender, MainsStopEndsLoans, TellsFutureShares, changed-lenders, quiet-lender, left_up_to, by_level, each_level, AreCells, length-map-numbers, at_index, eqb-flip, none-stop, spares_of, AreWishes, dropped_on, Tables, IsSound, node_in, IsBooked, IsCharged, IsRecount, node_on, stopped, stops_in, MayStopProcess, StopsProcess, cells_lost, running_children, shut_all, without_process, Laws}
+use Rattle.dk_recount.proofs.Names.{◌≡◌, ◌<◌, ◌≤◌, ◌+◌, ◌-◌, ◌∙◌, inl, inr, ◌&&◌, ◌||◌, Bool, true, false, eqb, ℕ, suc, List, [], ◌∷◌, length, map, Option, Some, None, is_none, refl, ap, sym, subst, arith, filter, find, nat_lt, nat_le, slice_get, slice_index, sum_by, if◌then◌else◌, option_map_or, cases_Bool, and_parts, eq-eqb, eqb-true, length-map, sum_by-cons, slice_get_within, Configuration, IsChecked, IsAccepted, ThreadId, Entry, is_same, is_of, is_end, is_delete_of, has_event, does, main_of, stops, quiet, Has, Thread, threads, family, after_entry, made_by, is_main, Hold, held_by, greatest_left, is_holding, thread_blocking, blocking, own_demand, remaining_demand, Audited, Follows, same-id, same-self, find-has, filter-has, list_any-has, map-has, has-filter, sum_by-map, any-has, sum-filter, quiet-stops, family-charged, family-after, threads-after, family-among, family-sum, end-no-delete, end-plain, whose, some-event, Always, HoldersStand, AtEachEntry, GivenUp, closes, given_up, IsMainsEnd, ProcessIsClosed, WhoCloses, FamiliesStand, RowsAreNamed, Clock, clock_at, ThreadRow, Family, is_row_of, Table, AreFamilies, all_stopped, children_at, find_row, is_running, rows_of, changed_family, counted_row, has_row, main_id, unplaced, AreThreads, row-there, one-row, rows-family, process-descends, row-was, running-row, row-runs, RowOf, paired-sum, future_shares, IsFamilyOf, counted_lender, counted_stop, recount, stopped_process, changed_lender, MainsStopEndsLoans, TellsFutureShares, changed-lenders, quiet-lender, left_up_to, by_level, each_level, AreCells, length-map-numbers, at_index, eqb-flip, none-stop, spares_of, AreWishes, dropped_on, Tables, IsSound, node_in, IsBooked, IsCharged, IsRecount, node_on, stopped, stops_in, MayStopProcess, StopsProcess, cells_lost, running_children, shut_all, without_process, Laws, nat_tests}
 use Rattle.std.proofs.Common.{not}
 use Rattle.dk_bound.specs.Moves.{shares_to_come}
 use Rattle.dk_recount.proofs.Slots.{node-kept}
@@ -22,8 +22,7 @@ pub record ProcessLaws : Type 0 where
   pub future : TellsFutureShares
 
 nothing : (b : Bool) → ◌≡◌ {A = ℕ} (if b then 0 else 0) 0
-nothing true = refl
-nothing false = refl
+nothing b = grind (arith, nat_tests)
 
 some-and : (o : Option ℕ) (b : Bool) → is_none o ≡ false → (is_none o && b) ≡ false
 some-and o b off = ap (λ t. t && b) off
@@ -79,10 +78,7 @@ module _ (laws : ProcessLaws) (c : Configuration) (e : Entry) (past : List Entry
   f-is = (rows-family d.threads p main main-among).1
 
   known : p < length c.processes
-  known =
-      let low = slice_get_within d.threads.families p f f-is in
-      let many = rec.rows.processes in
-      omega (arith, low, many)
+  known = grind (arith, nat_tests, slice_get_within, f-is, rec)
 
   first-row : main ≡ f.main
   first-row =
@@ -95,9 +91,7 @@ module _ (laws : ProcessLaws) (c : Configuration) (e : Entry) (past : List Entry
   children-are = ap (λ o. option_map_or (λ (z : Family). z.children) o []) f-is
 
   rows-are : rows_of d.threads p ≡ main ∷ children_at d.threads p
-  rows-are =
-      ap (λ o. option_map_or (λ (z : Family). z.main ∷ z.children) o []) f-is
-      ∙ ap (λ r. r ∷ f.children) (sym first-row) ∙ ap (λ rs. main ∷ rs) (sym children-are)
+  rows-are = grind (arith, nat_tests, f-is, first-row, children-are)
 
   -- The main's thread has not been stopped.
   abbrev x : Thread
@@ -161,10 +155,7 @@ module _ (laws : ProcessLaws) (c : Configuration) (e : Entry) (past : List Entry
       all false s false o = refl
 
   running-shuts : (y : Thread) → y.stop ≡ None → y.id.process ≡ p → closes e y ≡ true
-  running-shuts y runs process =
-      let none : is_none y.stop ≡ true = ap is_none runs in
-      let here : eqb y.id.process p ≡ true = eq-eqb y.id.process p process in
-      shuts-is y ∙ rw (none, here) refl
+  running-shuts y runs process = grind (arith, nat_tests, eq-eqb, shuts-is)
 
   -- a row that is shut is one of the process's that runs
   of-rows : (r : ThreadRow) → Has rows r → Has (rows_of d.threads p) r × (is_running r ≡ true)
@@ -192,9 +183,7 @@ module _ (laws : ProcessLaws) (c : Configuration) (e : Entry) (past : List Entry
       (own.row, subst (λ rs. Has rs own.row) running-are (has-filter is_running (rows_of d.threads p) own.row among on), own.name)
 
   shut-parts : (y : Thread) → closes e y ≡ true → (y.stop ≡ None) × (y.id.process ≡ p)
-  shut-parts y shut =
-      let parts = and_parts (is_none y.stop) (eqb y.id.process p) (sym (shuts-is y) ∙ shut) in
-      (none-stop y.stop parts.0, eqb-true y.id.process p parts.1)
+  shut-parts y shut = grind (arith, nat_tests, and_parts, shuts-is, none-stop, eqb-true)
 
   -- whoever was stopped before holds nothing
   holds-nothing : (i : ThreadId) → i.process ≡ p → ((y : Thread) → Has (threads c past) y → y.id ≡ i → y.stop ≡ None → ⊥) → held_by i before ≡ []
@@ -309,30 +298,11 @@ module _ (laws : ProcessLaws) (c : Configuration) (e : Entry) (past : List Entry
       ∙ closed-process.own x j main-end
 
   blocking-law : (j : ℕ) → blocking c (e ∷ past) j + blocking-part rows j d ≡ blocking c before j
-  blocking-law j =
-      ap (λ n. blocking c (e ∷ past) j + n) (blocking-sum j ∙ ap (λ q. sum_by (thread_blocking c before j) (family c q past)) (sym x-process))
-      ∙ closed-process.blocking x j main-end
+  blocking-law j = grind (arith, nat_tests, blocking-sum, x-process, closed-process, main-end, closed-process.blocking x j main-end)
 
   -- the process and its threads, for the loans
   family-is : IsFamilyOf c now before p (family-stands p known).main (family-stands p known).children
-  family-is =
-      let s = family-stands p known in
-      record {
-        rows = family-charged c p e.label past ∙ s.rows;
-        first = ap (λ (i : ThreadId). eqb i.serial 0) s.id;
-        process = ap (λ (i : ThreadId). i.process) s.id;
-        level = s.level;
-        each = λ y h.
-            (let is = s.each y h in
-            record {
-              process = is.process;
-              child = is.child;
-              low = is.low;
-              known = is.known;
-              stopped = λ tick at. (let earlier = is.stopped tick at in omega (arith, earlier));
-            });
-        distinct = s.distinct;
-      }
+  family-is = grind (arith, nat_tests, family-stands, known, family-charged)
 
   abbrev future : ℕ → ℕ
   future j = future_shares d.loans d.demand.windows p j
@@ -341,9 +311,7 @@ module _ (laws : ProcessLaws) (c : Configuration) (e : Entry) (past : List Entry
   windows-are = rec.cells.windows ∙ ap (clock_at c) rec.tick
 
   future-is : (j : ℕ) → future j ≡ shares_to_come c now before j p
-  future-is j =
-      ap (λ b. future_shares b d.demand.windows p j) rec.loans ∙ ap (λ w. future_shares (recount c now before) w p j) windows-are
-      ∙ laws.future c now j before p (family-stands p known).main (family-stands p known).children checked known family-is
+  future-is j = grind (arith, nat_tests, rec, windows-are, family-stands, known, checked, family-is, laws.future c now j before p (family-stands p known).main (family-stands p known).children checked known family-is)
 
   remaining-law : (j : ℕ) → j < length c.levels → (remaining_demand c now (e ∷ past) j + future j) + remaining-part rows j d ≡ remaining_demand c now before j
   remaining-law j h =
@@ -391,9 +359,7 @@ module _ (laws : ProcessLaws) (c : Configuration) (e : Entry) (past : List Entry
     needs = ap (λ (ns : List ℕ). length ns) remaining-before ∙ each-many (remaining_demand c now before);
     waits = ap (λ (ns : List ℕ). length ns) rec.cells.blocking ∙ each-many (blocking c before);
     own = λ j h. (let law = own-law j (in-levels j h) in let cell = cell-is d.demand.own (own_demand c now before) j own-before h in omega (arith, law, cell));
-    remaining = λ j h.
-        (let law = remaining-law j (in-levels j h) in
-        let cell = cell-is d.demand.remaining (remaining_demand c now before) j remaining-before h in omega (arith, law, cell));
+    remaining = grind (arith, nat_tests, remaining-law, in-levels, cell-is, remaining-before);
     blocking = λ j h. (let law = blocking-law j in let cell = cell-is d.demand.blocking (blocking c before) j rec.cells.blocking h in omega (arith, law, cell));
   }
 
@@ -473,11 +439,7 @@ module _ (laws : ProcessLaws) (c : Configuration) (e : Entry) (past : List Entry
           stops-is y.id ∙ ap (λ i. eqb i p) process ∙ off
 
   loans-new : changed_lender p (stopped_process d.demand.windows) d.loans ≡ recount c now (e ∷ past)
-  loans-new =
-      ap (changed_lender p (stopped_process d.demand.windows)) rec.loans
-      ∙ ap (λ w. changed_lender p (stopped_process w) (recount c now before)) windows-are
-      ∙ changed-lenders c now p before (e ∷ past) (stopped_process (clock_at c now)) known
-      (loans-own ∙ ap (stopped_process (clock_at c now)) (sym (quiet-lender c now p e.label past))) loans-others
+  loans-new = grind (arith, nat_tests, rec, windows-are, changed-lenders, known, loans-own, quiet-lender, loans-others)
 
   tick-is : next.demand.windows.tick ≡ now
   tick-is = ap (λ (w : Clock). w.tick) (shut-windows rows d) ∙ rec.tick
@@ -516,11 +478,7 @@ module _ (laws : ProcessLaws) (c : Configuration) (e : Entry) (past : List Entry
   }
 
   pub process-booked : IsBooked c e past (without_process main d)
-  process-booked = record {
-    ruled = charged.ruled;
-    chose = charged.chose;
-    recount = stopped-recount;
-  }
+  process-booked = grind (arith, nat_tests, stopped-recount)
 
   -- The rows that are shut are of threads that stop in the tick.
   pub counts : 1 + length (running_children d.threads p) ≤ stopped c (e ∷ past)
@@ -530,8 +488,7 @@ module _ (laws : ProcessLaws) (c : Configuration) (e : Entry) (past : List Entry
       ∙ length-map (filter (λ (y : Thread). is_none y.stop) (family c p past)) (counted_row c now) in
       let here = all-stop (family c p past) (λ y h. h) in
       let part = family-sum c p past one known in
-      let all : stopped c (e ∷ past) ≡ sum_by one (threads c past) =
-      ap (sum_by (λ y. if stops_in now y then 1 else 0)) (threads-after c e past makes) ∙ sum_by-map (λ y. if stops_in now y then 1 else 0) after (threads c past) in
+      let all : stopped c (e ∷ past) ≡ sum_by one (threads c past) = grind (arith, nat_tests, threads-after, makes, sum_by-map) in
       omega (arith, many, here, part, all)
     where
       one : Thread → ℕ

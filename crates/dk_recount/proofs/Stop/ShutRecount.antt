@@ -97,15 +97,10 @@ module _ (laws : Laws) (c : Configuration) (e : Entry) (past : List Entry) (d : 
 
   -- who has something left, or asks, has a row
   worker-before : (x : Thread) → Has (threads c past) x → 0 < thread_rem c now before x → has_row c now x ≡ true
-  worker-before x h some =
-      let tick = laws.lowers c e.label past checked accepted audited charged.chose x h in
-      let left : 0 < thread_rem c now past x = omega (arith, tick, some) in
-      worker-has-row c past (laws.absent c past checked accepted audited) x h left
+  worker-before x h some = grind (arith, nat_tests, checked, accepted, audited, worker-has-row, laws.lowers c e.label past checked accepted audited charged.chose x h, laws.absent c past checked accepted audited)
 
   worker-after : (x : Thread) → Has (threads c past) x → 0 < thread_rem c now (e ∷ past) (after x) → has_row c now (after x) ≡ true
-  worker-after x h some =
-      worker-row c e past (laws.lowers c e.label past checked accepted audited charged.chose) (laws.rem c e past checked accepted audited-on)
-      (laws.absent c past checked accepted audited) x h (positive x h) some
+  worker-after x h some = grind (arith, nat_tests, worker-row, checked, accepted, audited, audited-on, positive, laws.lowers c e.label past checked accepted audited charged.chose, laws.rem c e past checked accepted audited-on, laws.absent c past checked accepted audited)
 
   asker : (x : Thread) → Has (threads c past) x → nat_lt 0 (want c now before x) ≡ true → has_row c now x ≡ true
   asker x h some = asker-row c e.label past spends (laws.askers c past checked accepted audited) x h some
@@ -173,21 +168,11 @@ module _ (laws : Laws) (c : Configuration) (e : Entry) (past : List Entry) (d : 
 
   rest-is : (x : Thread) → Has (threads c past) x → has_row c now x ≡ true → closes e x ≡ true
       → rem d.jobs.switch (closed (seat_at d.jobs (node x.id)).job) ≡ thread_rem c now (e ∷ past) (after x)
-  rest-is x h there shut =
-      ap (λ (s : Seat). rem d.jobs.switch (closed s.job)) (seat-was x h there)
-      ∙ ap (λ w. rem w (closed (job c now before x))) rec.jobs.switch
-      ∙ sym (ap (rem c.costs.switch) (job-shut x h shut))
+  rest-is x h there shut = grind (arith, nat_tests, seat-was, rec, job-shut)
 
   -- what a row that is shut gives up, and for how long it kept others waiting
   pub dropped-is : (r : ThreadRow) (h : Has rows r) → dropped_on (node_on r) d.jobs ≡ given_up c e past (shuts.each r h).0
-  dropped-is r h =
-      let x = shut-thread r h in
-      let among = shut-among r h in
-      let there = (shut-is r h).there in
-      let a = left-is x among there in
-      let b = rest-is x among there (shuts.each r h).3 in
-      sym (ap (λ n. dropped_on n d.jobs) (shut-node r h)) ∙ ap (λ n. n - rem d.jobs.switch (closed (seat_at d.jobs (node x.id)).job)) a
-      ∙ ap (λ n. thread_rem c now before x - n) b
+  dropped-is r h = grind (arith, nat_tests, shut-among, left-is, rest-is, shut-node, shuts.each r h)
 
   pub lefts-are : (r : ThreadRow) (h : Has rows r) (j : ℕ) → left_up_to r.id j d.mutexes ≡ greatest_left c j (held_by (shuts.each r h).0.id before)
   lefts-are r h j =

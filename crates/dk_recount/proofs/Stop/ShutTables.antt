@@ -39,12 +39,8 @@ seats-shut (r ∷ rows) d n inside =
     let rest = seats-shut rows (shut r d) n (inside-on r rows d inside) in
     let here = one-seat d.jobs (node_on r) n (inside r (inl refl)) in
     elim (cases_Bool (eqb (node_on r) n)) [
-      | inl own ↦
-          let here' : seat_at (shut r d).jobs n ≡ seat-shut (seat_at d.jobs n) = rw own at here in
-          rw own (rest ∙ ap (λ s. if sits rows n then seat-shut s else s) here' ∙ twice (sits rows n))
-      | inr other ↦
-          let here' : seat_at (shut r d).jobs n ≡ seat_at d.jobs n = rw other at here in
-          rw other (rest ∙ ap (λ s. if sits rows n then seat-shut s else s) here')
+      | inl own ↦ grind (arith, nat_tests, seat-shut)
+      | inr other ↦ grind (arith, nat_tests, seat-shut)
     ]
   where
     twice : (b : Bool) → (if b then seat-shut (seat-shut (seat_at d.jobs n)) else seat-shut (seat_at d.jobs n)) ≡ seat-shut (seat_at d.jobs n)
@@ -180,9 +176,7 @@ blocking-part rows j d = sum_by (λ (r : ThreadRow). if nat_lt j r.level then le
 
 module _ (r : ThreadRow) (rows : List ThreadRow) (d : Tables) (apart : AreApart (r ∷ rows)) (inside : AreInside (r ∷ rows) d) where
   seat-kept : (q : ThreadRow) → Has rows q → seat_at (shut r d).jobs (node_on q) ≡ seat_at d.jobs (node_on q)
-  seat-kept q h =
-      let off : eqb (node_on r) (node_on q) ≡ false = eqb-not (node_on q) (node_on r) (apart.0 q h).0 in
-      rw off at (one-seat d.jobs (node_on r) (node_on q) (inside r (inl refl)))
+  seat-kept q h = grind (arith, nat_tests, eqb-not, one-seat)
 
   left-kept : (q : ThreadRow) → Has rows q → left_on (shut r d).jobs (node_on q) ≡ left_on d.jobs (node_on q)
   left-kept q h = ap (λ (s : Seat). rem d.jobs.switch s.job) (seat-kept q h)
@@ -200,8 +194,7 @@ module _ (r : ThreadRow) (rows : List ThreadRow) (d : Tables) (apart : AreApart 
   blocking-kept j = sum_by-same _ _ rows (λ q h. ap (λ n. if nat_lt j q.level then n else 0) (left-other q.id r.id j d.mutexes (apart.0 q h).1))
 
 less-both : (b : Bool) (n a rest sum : ℕ) → sum ≡ (if b then a else 0) + rest → (if b then n - a else n) - rest ≡ n - sum
-less-both true n a rest sum is = let e : sum ≡ a + rest = is in omega (arith, e)
-less-both false n a rest sum is = let e : sum ≡ 0 + rest = is in omega (arith, e)
+less-both b n a rest sum is = grind (arith, nat_tests)
 
 less-none : (f : ℕ → ℕ) (ns : List ℕ) → ((j : ℕ) → f j ≡ 0) → ns ≡ by_level (λ j n. n - f j) ns
 less-none f ns none = sym (by-nothing (λ j n. n - f j) ns (λ j n h. let e = none j in omega (arith, e)))

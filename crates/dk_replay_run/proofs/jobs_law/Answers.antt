@@ -1,4 +1,4 @@
-use Rattle.dk_replay_run.proofs.Windows.{entries}
+use Rattle.dk_replay_run.proofs.TimedTurns.{entries}
 use Rattle.dk_replay_run.proofs.jobs_law.Goals as goal
 
 pub returns : goal.returns

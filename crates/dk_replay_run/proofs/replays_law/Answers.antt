@@ -1,20 +1,15 @@
-use Rattle.dk_alone.proofs.Names.{ℕ, ◌+◌, ◌*◌, ◌∙◌, List, [], ap, sym, subst, mul-mod_left, take, period, main_level, alone, entries_of, ReadsNoTick, KeepsToItself}
-use Rattle.std.specs.Prelude.{slice_index_or}
-use Rattle.dk_alone.proofs.Cycles.{begins-sum}
-use Rattle.std.proofs.Math.Nat.{mod_self}
-use Rattle.dk_replay_run.specs.Jobs.{steps_of_jobs}
+use Rattle.dk_alone.proofs.Names.{◌∙◌, List, ap, reverse}
+use Rattle.dk_profile.specs.declared.steps.Step.{Step}
+use Rattle.dk_replay.specs.Code.{program_of}
+use Rattle.std.proofs.Common.{sym}
+use Rattle.dk_replay_run.specs.Jobs.{job_time}
+use Rattle.dk_replay_run.specs.Profiles.{job_entries, whole_window}
+use Rattle.dk_replay_run.proofs.Timed.{same-profile, same-window, some-work, timed-fit, timed-turn, timed-within, timed_jobs}
 use Rattle.dk_replay_run.proofs.replays_law.Goals as goal
 
 pub returns : goal.returns
-returns c config programs p k times limits checked accepted known few right long room is =
-    let span : ℕ = period config (main_level config p) in
-    let keeps : KeepsToItself config p (slice_index_or programs p []) = record {
-      known = known;
-      threads = few;
-      slack = right;
-      clock = subst ReadsNoTick (sym is) (c.clock_law.ensures (steps_of_jobs times));
-    } in
-    let here = mul-mod_left k span in
-    c.windows_law.ensures config programs p (k * span) span checked accepted keeps here (begins-sum config p (k * span) span here (mod_self span))
-    ∙ ap (λ (program : List ℕ). entries_of p (take span (alone config p program (k * span + span)).past)) is
-    ∙ c.jobs_law.ensures config p k times limits checked accepted known long room
+returns c config programs p k times limits checked accepted known children right works room is =
+    c.whole_jobs_law.ensures config programs p k (timed_jobs times) limits checked accepted known children right (some-work times works)
+    (timed-fit config p times limits room) (timed-within config p times room) (is ∙ ap (λ (l : List Step). program_of l) (sym (same-profile times)))
+    ∙ ap (λ (job : List Step). reverse (whole_window config p (job_entries config p job))) (timed-turn times k)
+    ∙ same-window config p (job_time times k)

@@ -1,4 +1,4 @@
-use Rattle.dk_replay_run.proofs.Windows.{ready}
+use Rattle.dk_replay_run.proofs.TimedTurns.{ready}
 use Rattle.dk_replay_run.proofs.turn_law.Goals as goal
 
 pub returns : goal.returns

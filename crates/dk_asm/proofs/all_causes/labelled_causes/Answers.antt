@@ -1,7 +1,4 @@
-use Rattle.std.proofs.Common.{◌≡◌, ◌∙◌, ◌+◌, ◌++◌, ap, sym, take, drop, arith}
-use Rattle.dk_asm.specs.Causes.{causes_from}
-use Rattle.dk_asm.specs.Seen.{seen_line, seen_lines}
-use Rattle.dk_asm.specs.Source.{instructions, has_instruction, cause_at}
+use Rattle.dk_asm.proofs.Imports.{◌≡◌, ◌∙◌, ◌+◌, ◌++◌, ap, sym, take, drop, arith, causes_from, seen_line, seen_lines, instructions, has_instruction, cause_at}
 use Rattle.dk_asm.proofs.Places.{few_instructions, take_one, length_taken, instructions_push, at_most_one}
 use Rattle.dk_asm.proofs.Causes.{cause_is, get_seen}
 use Rattle.dk_asm.proofs.FirstCause.{one_more}

@@ -1,7 +1,4 @@
-use Rattle.std.proofs.Common.{◌≡◌, ◌++◌, take, drop}
-use Rattle.dk_asm.specs.Causes.{causes_from}
-use Rattle.dk_asm.specs.Seen.{seen_lines}
-use Rattle.dk_asm.specs.Source.{instructions}
+use Rattle.dk_asm.proofs.Imports.{◌≡◌, ◌++◌, take, drop, causes_from, seen_lines, instructions}
 use Rattle.dk_asm.proofs.all_causes.labelled_causes.Given as goal
 
 -- the causes so far, before those of the lines that are left

@@ -1,5 +1,4 @@
-use Rattle.std.proofs.Common.{◌+◌}
-use Rattle.dk_asm.specs.Source.{Outcome}
+use Rattle.dk_asm.proofs.Imports.{◌+◌, Outcome}
 use Rattle.dk_asm.proofs.Outcomes.{one_outcome}
 use Rattle.dk_asm.proofs.Sizes.{program_size}
 use Rattle.dk_asm.proofs.assembling.assemble.Goals as goal

@@ -1,6 +1,4 @@
-use Rattle.std.proofs.Common.{arith}
-use Rattle.dk_asm.specs.Seen.{seen_lines}
-use Rattle.dk_asm.specs.Source.{lines_of}
+use Rattle.dk_asm.proofs.Imports.{arith, seen_lines, lines_of}
 use Rattle.dk_asm.proofs.Programs.{all_fit, gives_program, gives_fault}
 use Rattle.dk_asm.proofs.assembling.labelled_outcome.Goals as goal
 

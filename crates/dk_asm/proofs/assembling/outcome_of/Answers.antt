@@ -1,5 +1,4 @@
-use Rattle.std.proofs.Common.{◌∙◌, ap, arith, length}
-use Rattle.dk_asm.specs.Seen.{seen_line, seen_lines}
+use Rattle.dk_asm.proofs.Imports.{◌∙◌, ap, arith, length, seen_line, seen_lines}
 use Rattle.dk_asm.proofs.Programs.{count_read}
 use Rattle.dk_asm.proofs.assembling.outcome_of.Goals as goal
 

@@ -1,8 +1,4 @@
-use Rattle.std.proofs.Common.{◌≡◌, ◌∙◌, ◌+◌, None, ap, sym, take, arith, below_more, ⊎_elim}
-use Rattle.std.proofs.lemmas.Bool.{cases_lt}
-use Rattle.std.proofs.lemmas.List.{length-map}
-use Rattle.dk_asm.specs.Seen.{seen_line, seen_lines}
-use Rattle.dk_asm.specs.Source.{instructions, has_instruction, cause_at}
+use Rattle.dk_asm.proofs.Imports.{◌≡◌, ◌∙◌, ◌+◌, None, ap, sym, take, arith, below_more, ⊎_elim, cases_lt, length-map, seen_line, seen_lines, instructions, has_instruction, cause_at}
 use Rattle.dk_asm.proofs.Places.{few_instructions, take_one, length_taken, instructions_push, at_most_one}
 use Rattle.dk_asm.proofs.Causes.{cause_is, get_seen, none_past}
 use Rattle.dk_asm.proofs.checking.first_fault.Goals as goal

@@ -1,6 +1,4 @@
-use Rattle.std.proofs.Common.{◌≡◌, ◌<◌, ℕ, None, take}
-use Rattle.dk_asm.specs.Seen.{seen_lines}
-use Rattle.dk_asm.specs.Source.{instructions, cause_at}
+use Rattle.dk_asm.proofs.Imports.{◌≡◌, ◌<◌, ℕ, None, take, seen_lines, instructions, cause_at}
 use Rattle.dk_asm.proofs.checking.first_fault.Given as goal
 
 abbrev pub invariant-loop-i : goal.invariant-loop-i

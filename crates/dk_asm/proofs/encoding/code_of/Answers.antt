@@ -1,8 +1,4 @@
-use Rattle.std.proofs.Common.{◌++◌, ◌∷◌, [], sym, subst, take, arith}
-use Rattle.std.proofs.lemmas.List.{take_all, length-map}
-use Rattle.dk_asm.specs.Ranges.{FitsLine, value_by}
-use Rattle.dk_asm.specs.Seen.{seen_line, seen_lines}
-use Rattle.dk_asm.specs.Source.{IsCode}
+use Rattle.dk_asm.proofs.Imports.{◌++◌, ◌∷◌, [], sym, subst, take, arith, take_all, length-map, FitsLine, value_by, seen_line, seen_lines, IsCode}
 use Rattle.dk_asm.proofs.Places.{take_one}
 use Rattle.dk_asm.proofs.Encodings.{each_seen, code_push}
 use Rattle.dk_asm.proofs.encoding.code_of.Goals as goal

@@ -1,7 +1,4 @@
-use Rattle.std.proofs.Common.{take}
-use Rattle.dk_asm.specs.Ranges.{value_by}
-use Rattle.dk_asm.specs.Seen.{seen_lines}
-use Rattle.dk_asm.specs.Source.{IsCode}
+use Rattle.dk_asm.proofs.Imports.{take, value_by, seen_lines, IsCode}
 use Rattle.dk_asm.proofs.encoding.code_of.Given as goal
 
 abbrev pub invariant-loop-line : goal.invariant-loop-line

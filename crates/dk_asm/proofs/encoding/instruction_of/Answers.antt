@@ -1,7 +1,4 @@
-use Rattle.std.proofs.Common.{◌∙◌, ap, sym, subst}
-use Rattle.dk_asm.specs.Ranges.{FitPlaces, value_by, values_by}
-use Rattle.dk_asm.specs.Seen.{operands}
-use Rattle.dk_asm.specs.Table.{row_of, with_values}
+use Rattle.dk_asm.proofs.Imports.{◌∙◌, ap, sym, subst, FitPlaces, value_by, values_by, operands, row_of, with_values}
 use Rattle.dk_asm.proofs.Encodings.{fit_words, values_are, registers_fit}
 use Rattle.dk_asm.proofs.encoding.instruction_of.Goals as goal
 

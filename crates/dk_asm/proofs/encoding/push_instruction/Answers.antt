@@ -1,6 +1,4 @@
-use Rattle.std.proofs.lemmas.Result.{on_ok_weaker}
-use Rattle.dk_isa.specs.Table.{bytes_of}
-use Rattle.std.proofs.Common.{refl}
+use Rattle.dk_asm.proofs.Imports.{on_ok_weaker, bytes_of, refl}
 use Rattle.dk_asm.proofs.encoding.push_instruction.Goals as goal
 
 pub returns : goal.returns

@@ -1,6 +1,4 @@
-use Rattle.std.proofs.Common.{◌∙◌, ◌<◌}
-use Rattle.dk_asm.specs.Ranges.{value_by}
-use Rattle.dk_asm.specs.Seen.{operand}
+use Rattle.dk_asm.proofs.Imports.{◌∙◌, ◌<◌, value_by, operand}
 use Rattle.dk_asm.proofs.Encodings.{value_seen, each_at}
 use Rattle.dk_asm.proofs.encoding.value_at.Goals as goal
 

@@ -1,7 +1,5 @@
-use Rattle.std.proofs.Common.{◌∙◌, ap, sym}
-use Rattle.std.specs.Prelude.{is_some}
+use Rattle.dk_asm.proofs.Imports.{◌∙◌, ap, sym, is_some, place_in}
 use Rattle.std.proofs.lemmas.Map.Text.{btree_map_updates_str}
-use Rattle.dk_asm.specs.Places.{place_in}
 use Rattle.dk_asm.proofs.Places.{placed}
 use Rattle.dk_asm.proofs.labels.add_label.Goals as goal
 

@@ -1,8 +1,4 @@
-use Rattle.std.proofs.Common.{◌∙◌, ◌+◌, ap, sym, take, arith, cond}
-use Rattle.std.proofs.lemmas.List.{take_all, length-map}
-use Rattle.dk_asm.specs.Places.{place_in, place_of}
-use Rattle.dk_asm.specs.Seen.{seen_line, seen_lines}
-use Rattle.dk_asm.specs.Source.{instructions, has_instruction}
+use Rattle.dk_asm.proofs.Imports.{◌∙◌, ◌+◌, ap, sym, take, arith, cond, take_all, length-map, place_in, place_of, seen_line, seen_lines, instructions, has_instruction}
 use Rattle.dk_asm.proofs.Places.{few_instructions, take_one, length_taken, instructions_push, places_more}
 use Rattle.dk_asm.proofs.labels.labels_of.Goals as goal
 

@@ -1,7 +1,4 @@
-use Rattle.std.proofs.Common.{◌≡◌, take}
-use Rattle.dk_asm.specs.Places.{ArePlaces}
-use Rattle.dk_asm.specs.Seen.{seen_lines}
-use Rattle.dk_asm.specs.Source.{instructions}
+use Rattle.dk_asm.proofs.Imports.{◌≡◌, take, ArePlaces, seen_lines, instructions}
 use Rattle.dk_asm.proofs.labels.labels_of.Given as goal
 
 abbrev pub invariant-loop-i : goal.invariant-loop-i

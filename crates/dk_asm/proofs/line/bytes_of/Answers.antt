@@ -1,7 +1,4 @@
-use Rattle.std.proofs.Common.{◌∙◌, ap, rules}
-use Rattle.std.specs.Option.{option_map}
-use Rattle.dk_asm.specs.Grammar.{Statement}
-use Rattle.dk_asm.specs.Reading.{pieces_of}
+use Rattle.dk_asm.proofs.Imports.{◌∙◌, ap, rules, option_map, Statement, pieces_of}
 use Rattle.dk_asm.proofs.SomeReading.{one_to_four}
 use Rattle.dk_asm.proofs.line.bytes_of.Goals as goal
 

@@ -1,9 +1,4 @@
-use Rattle.std.proofs.Common.{◌∙◌, ap, length, arith, rules}
-use Rattle.std.proofs.lemmas.Bool.{leb-true}
-use Rattle.std.specs.Option.{option_map}
-use Rattle.dk_asm.specs.Grammar.{Statement}
-use Rattle.dk_asm.specs.Table.{row_of}
-use Rattle.dk_asm.specs.Reading.{pieces_of, read_some}
+use Rattle.dk_asm.proofs.Imports.{◌∙◌, ap, length, arith, rules, leb-true, option_map, Statement, row_of, pieces_of, read_some}
 use Rattle.dk_asm.proofs.Encodings.{three_kinds}
 use Rattle.dk_asm.proofs.SomeReading.{all_pieces}
 use Rattle.dk_asm.proofs.line.instruction_of.Goals as goal

@@ -1,5 +1,4 @@
-use Rattle.std.proofs.Common.{◌∙◌, sym, take, drop, arith, ap, length, length-append}
-use Rattle.dk_asm.specs.Listing.{listing}
+use Rattle.dk_asm.proofs.Imports.{◌∙◌, sym, take, drop, arith, ap, length, length-append, listing}
 use Rattle.dk_asm.proofs.Listings.{one_more_listed, some_by_test}
 use Rattle.dk_asm.proofs.Sizes.{listing_size}
 use Rattle.dk_asm.proofs.Law.{listed_back, are_bytes}

@@ -1,5 +1,4 @@
-use Rattle.std.proofs.Common.{◌≡◌, ◌++◌, length}
-use Rattle.dk_asm.specs.Listing.{listing}
+use Rattle.dk_asm.proofs.Imports.{◌≡◌, ◌++◌, length, listing}
 use Rattle.dk_asm.proofs.listing.disassemble.Given as goal
 
 abbrev pub invariant-loop-rest : goal.invariant-loop-rest

@@ -1,8 +1,4 @@
-use Rattle.std.proofs.Common.{◌∙◌, ◌++◌, ap}
-use Rattle.std.proofs.lemmas.Result.{on_ok_weaker}
-use Rattle.dk_asm.specs.Listing.{operand_texts}
-use Rattle.dk_asm.specs.Writing.{behind}
-use Rattle.dk_asm.specs.Table.{row_of, written}
+use Rattle.dk_asm.proofs.Imports.{◌∙◌, ◌++◌, ap, on_ok_weaker, operand_texts, behind, row_of, written}
 use Rattle.dk_asm.proofs.Listings.{after_name, same_operands}
 use Rattle.dk_asm.proofs.listing.push_instruction.Goals as goal
 

@@ -1,5 +1,4 @@
-use Rattle.std.proofs.Common.{◌≡◌, min, take}
-use Rattle.std.specs.Str.Parse.{digits_value}
+use Rattle.dk_asm.proofs.Imports.{◌≡◌, min, take, digits_value}
 use Rattle.dk_asm.proofs.number.capped_value.Given as goal
 
 abbrev pub invariant-loop-digit : goal.invariant-loop-digit

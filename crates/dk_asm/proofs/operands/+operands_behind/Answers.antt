@@ -1,6 +1,4 @@
-use Rattle.std.proofs.Common.{ap, sym, ◌++◌}
-use Rattle.std.specs.Option.{option_map}
-use Rattle.dk_asm.specs.Seen.{operands as seen_operands}
+use Rattle.dk_asm.proofs.Imports.{ap, sym, ◌++◌, option_map, seen_operands}
 use Rattle.dk_asm.proofs.SomeReading.{no_kind}
 use Rattle.dk_asm.proofs.operands.+operands_behind.Goals as goal
 

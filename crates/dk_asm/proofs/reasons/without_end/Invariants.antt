@@ -1,6 +1,4 @@
-use Rattle.std.proofs.Common.{◌≡◌, ◌≤◌, true, drop, length}
-use Rattle.std.specs.List.{list_all}
-use Rattle.dk_asm.specs.Words.{is_blank}
+use Rattle.dk_asm.proofs.Imports.{◌≡◌, ◌≤◌, true, drop, length, list_all, is_blank}
 use Rattle.dk_asm.proofs.reasons.without_end.Given as goal
 
 abbrev pub invariant-loop-end : goal.invariant-loop-end

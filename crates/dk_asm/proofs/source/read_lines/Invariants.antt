@@ -1,7 +1,4 @@
-use Rattle.std.proofs.Common.{◌≡◌, ◌++◌, map, length}
-use Rattle.dk_asm.specs.Reading.{read_line}
-use Rattle.dk_asm.specs.Seen.{seen_lines}
-use Rattle.dk_asm.specs.Source.{lines_of}
+use Rattle.dk_asm.proofs.Imports.{◌≡◌, ◌++◌, map, length, read_line, seen_lines, lines_of}
 use Rattle.dk_asm.proofs.source.read_lines.Given as goal
 
 abbrev pub invariant-loop-rest : goal.invariant-loop-rest

@@ -1,5 +1,4 @@
-use Rattle.std.proofs.Common.{◌∙◌, ap, sym}
-use Rattle.std.specs.Prelude.{is_some}
+use Rattle.dk_asm.proofs.Imports.{◌∙◌, ap, sym, is_some}
 use Rattle.dk_asm.proofs.Cuts.{blanks_by_place}
 use Rattle.dk_asm.proofs.words.are_blanks.Goals as goal
 

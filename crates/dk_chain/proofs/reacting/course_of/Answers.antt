@@ -1,5 +1,4 @@
-use Rattle.std.proofs.Common.{suc, arith}
-use Rattle.std.specs.Prelude.{slice_index_or}
+use Rattle.dk_chain.proofs.Names.{suc, arith, slice_index_or}
 use Rattle.std.proofs.Math.ListN.{drop_of_length-le}
 use Rattle.dk_chain.proofs.Paced.{goes-on, course-of, drop-next}
 use Rattle.dk_chain.proofs.reacting.course_of.Goals as goal

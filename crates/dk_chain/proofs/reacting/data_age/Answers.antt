@@ -1,7 +1,4 @@
-use Rattle.std.proofs.Common.{◌≡◌, ◌+◌, ◌-◌, ◌≤◌, ◌∙◌, ap, arith}
-use Rattle.std.proofs.lemmas.Nat.Gcd.{le_of_dvd}
-use Rattle.dk_config.specs.Windows.{period, main_level}
-use Rattle.dk_chain.specs.Chain.{window_length}
+use Rattle.dk_chain.proofs.Names.{◌≡◌, ◌+◌, ◌-◌, ◌≤◌, ◌∙◌, ap, arith, le_of_dvd, period, main_level, window_length}
 use Rattle.dk_chain.proofs.Oldest.{met-age}
 use Rattle.dk_chain.proofs.Paced.{age-of}
 use Rattle.dk_chain.proofs.reacting.data_age.Goals as goal

@@ -1,7 +1,4 @@
-use Rattle.std.proofs.Common.{◌+◌, ◌<◌, ◌≤◌, ◌∙◌, ap, arith}
-use Rattle.dk_config.specs.Windows.{main_level, period}
-use Rattle.dk_chain.specs.Pace.{start_by}
-use Rattle.dk_chain.specs.Rounding.{round_up}
+use Rattle.dk_chain.proofs.Names.{◌+◌, ◌<◌, ◌≤◌, ◌∙◌, ap, arith, main_level, period, start_by, round_up}
 use Rattle.dk_chain.proofs.Paced.{at-the-pace, slower-pace}
 use Rattle.dk_chain.proofs.reacting.step.Goals as goal
 

@@ -1,5 +1,4 @@
-use Rattle.std.proofs.Common.{◌+◌, ◌-◌, ◌∙◌, ap}
-use Rattle.dk_chain.specs.Rounding.{round_up}
+use Rattle.dk_chain.proofs.Names.{◌+◌, ◌-◌, ◌∙◌, ap, round_up}
 use Rattle.dk_chain.proofs.Paced.{worst-of}
 use Rattle.dk_chain.proofs.reacting.worst_event.Goals as goal
 

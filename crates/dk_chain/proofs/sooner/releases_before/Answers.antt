@@ -1,6 +1,4 @@
-use Rattle.std.proofs.Common.{suc, ◌≡◌, ap, ◌∙◌, arith}
-use Rattle.dk_config.specs.Sums.{sum_from}
-use Rattle.dk_config.specs.Windows.{main_level, release}
+use Rattle.dk_chain.proofs.Names.{suc, ◌≡◌, ap, ◌∙◌, arith, sum_from, main_level, release}
 use Rattle.dk_chain.proofs.sooner.releases_before.Goals as goal
 
 pub returns : goal.returns

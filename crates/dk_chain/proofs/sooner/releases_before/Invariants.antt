@@ -1,7 +1,4 @@
-use Rattle.std.proofs.Common.{◌≡◌, ◌*◌, ◌≤◌}
-use Rattle.dk_config.specs.Sums.{sum_from}
-use Rattle.dk_config.specs.Windows.{release}
-use Rattle.dk_config.specs.declared.TheConstants.{MAX_SPAN}
+use Rattle.dk_chain.proofs.Names.{◌≡◌, ◌*◌, ◌≤◌, sum_from, release, MAX_SPAN}
 use Rattle.dk_chain.proofs.sooner.releases_before.Given as goal
 
 abbrev pub invariant-loop-faster : goal.invariant-loop-faster

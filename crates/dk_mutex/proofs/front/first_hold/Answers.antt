@@ -1,5 +1,4 @@
-use Rattle.std.proofs.Common.{take, subst, sym}
-use Rattle.dk_mutex.specs.Front.{IsFirstHold}
+use Rattle.dk_mutex.proofs.Names.{take, subst, sym, IsFirstHold}
 use Rattle.dk_mutex.proofs.Least.{no_row}
 use Rattle.dk_mutex.proofs.Firsts.{take-one}
 use Rattle.dk_mutex.proofs.front.first_hold.Goals as goal

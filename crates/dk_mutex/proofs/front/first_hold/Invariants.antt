@@ -1,5 +1,4 @@
-use Rattle.std.proofs.Common.{take}
-use Rattle.dk_mutex.specs.Front.{IsFirstHold}
+use Rattle.dk_mutex.proofs.Names.{take, IsFirstHold}
 use Rattle.dk_mutex.proofs.front.first_hold.Given as goal
 
 abbrev pub invariant-loop-row : goal.invariant-loop-row

@@ -1,5 +1,4 @@
-use Rattle.std.proofs.Common.{◌≡◌, drop}
-use Rattle.dk_mutex.specs.Table.{first_holder, holder_at}
+use Rattle.dk_mutex.proofs.Names.{◌≡◌, drop, first_holder, holder_at}
 use Rattle.dk_mutex.proofs.front.holder_among.Given as goal
 
 abbrev pub invariant-loop-row : goal.invariant-loop-row

@@ -1,5 +1,4 @@
-use Rattle.std.proofs.Common.{◌≡◌, ◌≤◌, ◌∙◌, None, Some, sym}
-use Rattle.dk_mutex.specs.declared.front.FirstHold.{FirstHold}
+use Rattle.dk_mutex.proofs.Names.{◌≡◌, ◌≤◌, ◌∙◌, None, Some, sym, FirstHold}
 use Rattle.dk_mutex.proofs.Firsts.{first-lower, no-higher}
 use Rattle.dk_mutex.proofs.front.join_hold.Goals.{in-Some-first+else-hold-row, in_default-first}
 use Rattle.dk_mutex.proofs.front.join_hold.Goals as goal

@@ -1,5 +1,4 @@
-use Rattle.std.proofs.Common.{◌≡◌, ◌∙◌, get_or, map, take, ap, sym}
-use Rattle.dk_mutex.specs.Rows.{ceiling_of, joined, least}
+use Rattle.dk_mutex.proofs.Names.{◌≡◌, ◌∙◌, get_or, map, take, ap, sym, ceiling_of, joined, least}
 use Rattle.dk_mutex.proofs.Least.{least-more, no_row}
 use Rattle.dk_mutex.proofs.front.least_ceiling.Goals as goal
 

@@ -1,5 +1,4 @@
-use Rattle.std.proofs.Common.{◌≡◌, map, take}
-use Rattle.dk_mutex.specs.Rows.{ceiling_of, least}
+use Rattle.dk_mutex.proofs.Names.{◌≡◌, map, take, ceiling_of, least}
 use Rattle.dk_mutex.proofs.front.least_ceiling.Given as goal
 
 abbrev pub invariant-loop-row : goal.invariant-loop-row

@@ -1,5 +1,4 @@
-use Rattle.std.proofs.Common.{◌≡◌, map, take}
-use Rattle.dk_mutex.specs.Rows.{left_of, least}
+use Rattle.dk_mutex.proofs.Names.{◌≡◌, map, take, left_of, least}
 use Rattle.dk_mutex.proofs.front.least_left.Given as goal
 
 abbrev pub invariant-loop-row : goal.invariant-loop-row

@@ -1,6 +1,4 @@
-use Rattle.std.proofs.Common.{◌∙◌, Bool, true, Option, Some, ap, sym}
-use Rattle.std.specs.Option.{option_map_or}
-use Rattle.std.proofs.lemmas.Option.{slice_get-get_or, slice_get_past}
+use Rattle.dk_mutex.proofs.Names.{◌∙◌, Bool, true, Option, Some, ap, sym, option_map_or, slice_get-get_or, slice_get_past}
 use Rattle.dk_mutex.proofs.marks.may_hold.Goals as goal
 
 pub returns-in-Some : goal.returns-in-Some

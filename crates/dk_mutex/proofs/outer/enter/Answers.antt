@@ -1,8 +1,5 @@
-use Rattle.std.proofs.Common.{◌∙◌, List, None, ap, sym, subst}
+use Rattle.dk_mutex.proofs.Names.{◌∙◌, List, None, ap, sym, subst, Outer, AreOuter, IsFirst, given_to}
 use Rattle.arrayvec.specs.ArrayVec.{ArrayVec}
-use Rattle.dk_mutex.specs.declared.outer.Outer.{Outer}
-use Rattle.dk_mutex.specs.Front.{AreOuter, IsFirst}
-use Rattle.dk_mutex.specs.Table.{given_to}
 use Rattle.dk_mutex.proofs.Outers.{first-of, outer-last}
 use Rattle.dk_mutex.proofs.outer.enter.Goals.{then-is_full, else-is_full}
 use Rattle.dk_mutex.proofs.outer.enter.Goals as goal

@@ -1,7 +1,4 @@
-use Rattle.std.proofs.Common.{List, None, subst}
-use Rattle.dk_mutex.specs.declared.outer.Outer.{Outer}
-use Rattle.dk_mutex.specs.Front.{AreOuter, IsFirst}
-use Rattle.dk_mutex.specs.Table.{given_to}
+use Rattle.dk_mutex.proofs.Names.{List, None, subst, Outer, AreOuter, IsFirst, given_to}
 use Rattle.dk_mutex.proofs.Outers.{outer-parts}
 use Rattle.dk_mutex.proofs.outer.leave.Goals as goal
 

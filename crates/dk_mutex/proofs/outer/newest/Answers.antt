@@ -1,5 +1,4 @@
-use Rattle.std.proofs.Common.{◌≡◌, ◌-◌, List, Some, length, refl, slice_get, subst, sym}
-use Rattle.dk_mutex.specs.declared.outer.Outer.{Outer}
+use Rattle.dk_mutex.proofs.Names.{◌≡◌, ◌-◌, List, Some, length, refl, slice_get, subst, sym, Outer}
 use Rattle.dk_mutex.proofs.Outers.{outer-newest}
 use Rattle.dk_mutex.proofs.outer.newest.Goals as goal
 

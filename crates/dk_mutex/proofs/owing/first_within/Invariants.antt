@@ -1,6 +1,4 @@
-use Rattle.std.proofs.Common.{◌≡◌, drop}
-use Rattle.std.specs.List.{position_from}
-use Rattle.dk_mutex.specs.Rows.{is_within_owed}
+use Rattle.dk_mutex.proofs.Names.{◌≡◌, drop, position_from, is_within_owed}
 use Rattle.dk_mutex.proofs.owing.first_within.Given as goal
 
 abbrev pub invariant-loop-mutex : goal.invariant-loop-mutex

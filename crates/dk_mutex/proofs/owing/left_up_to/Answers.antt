@@ -1,6 +1,4 @@
-use Rattle.std.proofs.Common.{◌≡◌, ◌∙◌, take, ap, sym}
-use Rattle.std.specs.Prelude.{max}
-use Rattle.dk_mutex.specs.Rows.{left_up_to}
+use Rattle.dk_mutex.proofs.Names.{◌≡◌, ◌∙◌, take, ap, sym, max, left_up_to}
 use Rattle.dk_mutex.proofs.Least.{no_row}
 use Rattle.dk_mutex.proofs.UpTo.{up_to-more}
 use Rattle.dk_mutex.proofs.owing.left_up_to.Goals as goal

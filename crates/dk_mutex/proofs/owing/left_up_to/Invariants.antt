@@ -1,5 +1,4 @@
-use Rattle.std.proofs.Common.{◌≡◌, take}
-use Rattle.dk_mutex.specs.Rows.{left_up_to}
+use Rattle.dk_mutex.proofs.Names.{◌≡◌, take, left_up_to}
 use Rattle.dk_mutex.proofs.owing.left_up_to.Given as goal
 
 abbrev pub invariant-loop-row : goal.invariant-loop-row

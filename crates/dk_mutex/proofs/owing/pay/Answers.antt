@@ -1,5 +1,4 @@
-use Rattle.std.proofs.Common.{◌≡◌, ◌∙◌, arith, ap, sym, map}
-use Rattle.dk_mutex.specs.Rows.{taken}
+use Rattle.dk_mutex.proofs.Names.{◌≡◌, ◌∙◌, arith, ap, sym, map, taken}
 use Rattle.dk_mutex.proofs.Owed.{taken-none}
 use Rattle.dk_mutex.proofs.owing.pay.Goals as goal
 

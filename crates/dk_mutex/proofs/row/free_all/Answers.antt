@@ -1,9 +1,5 @@
-use Rattle.std.proofs.Common.{◌∙◌, get_or, ap, set, arith}
+use Rattle.dk_mutex.proofs.Names.{◌∙◌, get_or, ap, set, arith, get_or_default, map_over_more, Holder, freed}
 use Rattle.std.specs.Prelude.{Option}
-use Rattle.std.proofs.lemmas.List.{get_or_default}
-use Rattle.std.proofs.lemmas.List.Edits.{map_over_more}
-use Rattle.dk_mutex.specs.declared.row.Holder.{Holder}
-use Rattle.dk_mutex.specs.Rows.{freed}
 use Rattle.dk_mutex.proofs.Least.{no_row}
 use Rattle.dk_mutex.proofs.row.free_all.Goals as goal
 

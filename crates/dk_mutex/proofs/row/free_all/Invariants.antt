@@ -1,5 +1,4 @@
-use Rattle.std.proofs.Common.{◌≡◌, ◌++◌, map, take, drop}
-use Rattle.dk_mutex.specs.Rows.{freed}
+use Rattle.dk_mutex.proofs.Names.{◌≡◌, ◌++◌, map, take, drop, freed}
 use Rattle.dk_mutex.proofs.row.free_all.Given as goal
 
 abbrev pub invariant-loop-row : goal.invariant-loop-row

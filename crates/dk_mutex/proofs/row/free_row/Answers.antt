@@ -1,10 +1,6 @@
-use Rattle.std.proofs.Common.{◌≡◌, ◌<◌, ◌∙◌, ap, refl, subst, sym, ℕ, Bool, List, length, Option, None, Some}
+use Rattle.dk_mutex.proofs.Names.{◌≡◌, ◌<◌, ◌∙◌, ap, refl, subst, sym, ℕ, Bool, List, length, Option, None, Some, option_map_or, slice_get_read, Configuration, row_of, users_of}
 use Rattle.std.specs.Prelude.{slice_get}
-use Rattle.std.specs.Option.{option_map_or}
-use Rattle.std.proofs.lemmas.Option.{slice_get_read}
-use Rattle.dk_config.specs.Configuration.{Configuration}
 use Rattle.dk_config.specs.Mutex.{Mutex}
-use Rattle.dk_mutex.specs.Rows.{row_of, users_of}
 use Rattle.dk_mutex.proofs.row.free_row.Goals as goal
 
 made : (c : Configuration) (m : ℕ) (row : Mutex) → slice_get c.mutexes m ≡ Some row

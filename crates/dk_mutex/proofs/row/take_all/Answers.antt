@@ -1,8 +1,4 @@
-use Rattle.std.proofs.Common.{◌∙◌, get_or, ap, set, arith}
-use Rattle.std.proofs.lemmas.List.{get_or_default}
-use Rattle.std.proofs.lemmas.List.Edits.{map_over_more}
-use Rattle.dk_mutex.specs.declared.row.Lockable.{Lockable}
-use Rattle.dk_mutex.specs.Rows.{taken}
+use Rattle.dk_mutex.proofs.Names.{◌∙◌, get_or, ap, set, arith, get_or_default, map_over_more, Lockable, taken}
 use Rattle.dk_mutex.proofs.Least.{no_row}
 use Rattle.dk_mutex.proofs.row.take_all.Goals as goal
 

@@ -1,5 +1,4 @@
-use Rattle.std.proofs.Common.{◌≡◌, ◌++◌, map, take, drop}
-use Rattle.dk_mutex.specs.Rows.{taken}
+use Rattle.dk_mutex.proofs.Names.{◌≡◌, ◌++◌, map, take, drop, taken}
 use Rattle.dk_mutex.proofs.row.take_all.Given as goal
 
 abbrev pub invariant-loop-row : goal.invariant-loop-row

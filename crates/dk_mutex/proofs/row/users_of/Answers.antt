@@ -1,9 +1,4 @@
-use Rattle.std.proofs.Common.{◌≡◌, ◌<◌, false, length, arith}
-use Rattle.std.proofs.lemmas.List.Edits.{fill_by_more}
-use Rattle.std.proofs.lemmas.List.FromFn.{fill_by_all}
-use Rattle.std.proofs.Math.ListN.{length-set}
-use Rattle.dk_config.specs.declared.TheConstants.{MAX_PROCESSES}
-use Rattle.dk_config.specs.Certification.{is_user}
+use Rattle.dk_mutex.proofs.Names.{◌≡◌, ◌<◌, false, length, arith, fill_by_more, fill_by_all, length-set, MAX_PROCESSES, is_user}
 use Rattle.dk_mutex.proofs.row.users_of.Goals as goal
 
 pub loop-process-preserved : goal.loop-process-preserved

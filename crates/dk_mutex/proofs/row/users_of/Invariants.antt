@@ -1,6 +1,4 @@
-use Rattle.std.proofs.Common.{◌≡◌, ◌<◌, ℕ, false, get_or, length}
-use Rattle.dk_config.specs.declared.TheConstants.{MAX_PROCESSES}
-use Rattle.dk_config.specs.Certification.{is_user}
+use Rattle.dk_mutex.proofs.Names.{◌≡◌, ◌<◌, ℕ, false, get_or, length, MAX_PROCESSES, is_user}
 use Rattle.dk_mutex.proofs.row.users_of.Given as goal
 
 abbrev pub invariant-loop-process : goal.invariant-loop-process

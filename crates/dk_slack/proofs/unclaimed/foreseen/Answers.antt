@@ -1,11 +1,4 @@
-use Rattle.std.proofs.Common.{◌≡◌, ◌<◌, ◌+◌, ◌-◌, ◌%◌, ◌^◌, ◌∙◌, ltb, cond, inl, inr, ℕ, length, get_or, drop, refl, ap, sym, arith, add-one}
-use Rattle.std.specs.Prelude.{sum, None}
-use Rattle.std.proofs.lemmas.Bool.{cases_lt, le-ltb, lt-ltb}
-use Rattle.std.proofs.lemmas.List.{drop_all}
-use Rattle.std.proofs.lemmas.List.Sums.{sum_by-drop_more}
-use Rattle.dk_trace.specs.declared.Source.{Source}
-use Rattle.dk_slack.specs.Counters.{since, run_of_slower, unclaimed_by}
-use Rattle.dk_slack.specs.Unclaimed.{counted_for}
+use Rattle.dk_slack.proofs.Names.{◌≡◌, ◌<◌, ◌+◌, ◌-◌, ◌%◌, ◌^◌, ◌∙◌, ltb, cond, inl, inr, ℕ, length, get_or, drop, refl, ap, sym, arith, add-one, sum, None, cases_lt, le-ltb, lt-ltb, drop_all, sum_by-drop_more, Source, since, run_of_slower, unclaimed_by, counted_for}
 use Rattle.dk_slack.proofs.Counts.{source_from, source_named, source-end, named-none, named-first}
 use Rattle.dk_slack.proofs.Running.{length-unclaimed, since-wraps, unclaimed-at}
 use Rattle.dk_slack.proofs.Lasting.{lasts-hit, lasts-miss}

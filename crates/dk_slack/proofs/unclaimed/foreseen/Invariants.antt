@@ -1,7 +1,4 @@
-use Rattle.std.proofs.Common.{ℕ, ◌≡◌, ◌+◌, ◌%◌, ◌^◌, ◌<◌, length, drop}
-use Rattle.std.specs.Prelude.{sum, None}
-use Rattle.dk_slack.specs.Counters.{unclaimed_by}
-use Rattle.dk_slack.specs.Unclaimed.{counted_for}
+use Rattle.dk_slack.proofs.Names.{ℕ, ◌≡◌, ◌+◌, ◌%◌, ◌^◌, ◌<◌, length, drop, sum, None, unclaimed_by, counted_for}
 use Rattle.dk_slack.proofs.Counts.{source_from, source_named}
 use Rattle.dk_slack.proofs.unclaimed.foreseen.Given as goal
 

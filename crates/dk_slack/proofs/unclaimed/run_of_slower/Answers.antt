@@ -1,7 +1,4 @@
-use Rattle.std.proofs.Common.{◌+◌, ◌%◌, ◌^◌, drop, ap, arith, add-one}
-use Rattle.std.specs.Prelude.{sum}
-use Rattle.std.proofs.lemmas.List.{drop_all}
-use Rattle.std.proofs.lemmas.List.Sums.{sum_by-drop_more}
+use Rattle.dk_slack.proofs.Names.{◌+◌, ◌%◌, ◌^◌, drop, ap, arith, add-one, sum, drop_all, sum_by-drop_more}
 use Rattle.dk_slack.proofs.unclaimed.run_of_slower.Goals as goal
 
 pub loop-slower-init : goal.loop-slower-init

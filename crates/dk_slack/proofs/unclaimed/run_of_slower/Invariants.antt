@@ -1,6 +1,4 @@
-use Rattle.std.proofs.Common.{◌≡◌, ◌+◌, ◌%◌, ◌^◌, drop}
-use Rattle.std.specs.Prelude.{sum}
-use Rattle.dk_slack.specs.Counters.{run_of_slower}
+use Rattle.dk_slack.proofs.Names.{◌≡◌, ◌+◌, ◌%◌, ◌^◌, drop, sum, run_of_slower}
 use Rattle.dk_slack.proofs.unclaimed.run_of_slower.Given as goal
 
 abbrev pub invariant-loop-slower : goal.invariant-loop-slower

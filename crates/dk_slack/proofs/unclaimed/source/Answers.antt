@@ -1,9 +1,4 @@
-use Rattle.std.proofs.Common.{◌≡◌, ◌<◌, ◌+◌, ◌-◌, ◌%◌, ◌^◌, ◌∙◌, ltb, cond, ℕ, length, get_or, drop, refl, ap, sym, arith, add-one}
-use Rattle.std.specs.Prelude.{sum}
-use Rattle.std.proofs.lemmas.List.{drop_all}
-use Rattle.std.proofs.lemmas.List.Sums.{sum_by-drop_more}
-use Rattle.dk_trace.specs.declared.Source.{Source}
-use Rattle.dk_slack.specs.Counters.{since, run_of_slower, unclaimed_by}
+use Rattle.dk_slack.proofs.Names.{◌≡◌, ◌<◌, ◌+◌, ◌-◌, ◌%◌, ◌^◌, ◌∙◌, ltb, cond, ℕ, length, get_or, drop, refl, ap, sym, arith, add-one, sum, drop_all, sum_by-drop_more, Source, since, run_of_slower, unclaimed_by}
 use Rattle.dk_slack.proofs.Counts.{source_from, source_named, source-here, source-end, named-none, named-first}
 use Rattle.dk_slack.proofs.Running.{since-wraps, unclaimed-at}
 use Rattle.dk_slack.proofs.unclaimed.source.Goals as goal

@@ -1,6 +1,4 @@
-use Rattle.std.proofs.Common.{◌≡◌, ◌+◌, ◌%◌, ◌^◌, length, drop}
-use Rattle.std.specs.Prelude.{sum}
-use Rattle.dk_slack.specs.Counters.{unclaimed_by}
+use Rattle.dk_slack.proofs.Names.{◌≡◌, ◌+◌, ◌%◌, ◌^◌, length, drop, sum, unclaimed_by}
 use Rattle.dk_slack.proofs.Counts.{source_from, source_named}
 use Rattle.dk_slack.proofs.unclaimed.source.Given as goal
 

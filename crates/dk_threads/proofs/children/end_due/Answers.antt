@@ -1,5 +1,4 @@
-use Rattle.std.proofs.Common.{arith}
-use Rattle.dk_threads.specs.Rows.{kept}
+use Rattle.dk_threads.proofs.Names.{arith, kept}
 use Rattle.dk_threads.proofs.Turns.{turned-step}
 use Rattle.dk_threads.proofs.children.end_due.Goals as goal
 

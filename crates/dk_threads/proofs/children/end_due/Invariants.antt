@@ -1,5 +1,4 @@
-use Rattle.std.proofs.Common.{◌≡◌}
-use Rattle.dk_threads.specs.Rows.{kept}
+use Rattle.dk_threads.proofs.Names.{◌≡◌, kept}
 use Rattle.dk_threads.proofs.Turns.{turned}
 use Rattle.dk_threads.proofs.children.end_due.Given as goal
 

@@ -1,7 +1,4 @@
-use Rattle.std.proofs.Common.{ap, arith}
-use Rattle.std.specs.Prelude.{Some}
-use Rattle.dk_threads.specs.declared.row.ThreadRow.{ThreadRow}
-use Rattle.dk_threads.specs.Rows.{started}
+use Rattle.dk_threads.proofs.Names.{ap, arith, Some, ThreadRow, started}
 use Rattle.dk_threads.proofs.Turns.{turned-step}
 use Rattle.dk_threads.proofs.children.start_due.Goals as goal
 

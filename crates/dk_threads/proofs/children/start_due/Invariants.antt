@@ -1,6 +1,4 @@
-use Rattle.std.proofs.Common.{◌≡◌}
-use Rattle.std.specs.Prelude.{Some}
-use Rattle.dk_threads.specs.Rows.{started}
+use Rattle.dk_threads.proofs.Names.{◌≡◌, Some, started}
 use Rattle.dk_threads.proofs.Turns.{turned}
 use Rattle.dk_threads.proofs.children.start_due.Given as goal
 

@@ -1,5 +1,4 @@
-use Rattle.std.proofs.Common.{◌≡◌}
-use Rattle.dk_threads.specs.Rows.{stopped_child}
+use Rattle.dk_threads.proofs.Names.{◌≡◌, stopped_child}
 use Rattle.dk_threads.proofs.Turns.{turned}
 use Rattle.dk_threads.proofs.children.stop_child.Given as goal
 

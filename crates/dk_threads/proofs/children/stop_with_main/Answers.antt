@@ -1,6 +1,4 @@
-use Rattle.std.proofs.Common.{◌<◌, ◌∙◌, length, sym, subst, arith}
-use Rattle.dk_threads.specs.declared.row.ThreadRow.{ThreadRow}
-use Rattle.dk_threads.specs.Rows.{stopped_with_main}
+use Rattle.dk_threads.proofs.Names.{◌<◌, ◌∙◌, length, sym, subst, arith, ThreadRow, stopped_with_main}
 use Rattle.dk_threads.proofs.Turns.{turned-step, turned-row}
 use Rattle.dk_threads.proofs.children.stop_with_main.Goals as goal
 

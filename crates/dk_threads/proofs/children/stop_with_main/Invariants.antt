@@ -1,5 +1,4 @@
-use Rattle.std.proofs.Common.{◌≡◌}
-use Rattle.dk_threads.specs.Rows.{stopped_with_main}
+use Rattle.dk_threads.proofs.Names.{◌≡◌, stopped_with_main}
 use Rattle.dk_threads.proofs.Turns.{turned}
 use Rattle.dk_threads.proofs.children.stop_with_main.Given as goal
 

@@ -1,6 +1,4 @@
-use Rattle.std.proofs.Common.{◌≡◌, ◌∙◌, refl, ap, sym, false, Option, ℕ}
-use Rattle.std.specs.Prelude.{unwrap_or, not}
-use Rattle.dk_config.specs.declared.TheConstants.{MAX_THREADS}
+use Rattle.dk_threads.proofs.Names.{◌≡◌, ◌∙◌, refl, ap, sym, false, Option, ℕ, unwrap_or, not, MAX_THREADS}
 use Rattle.dk_threads.specs.Table.{free_slot}
 use Rattle.dk_threads.proofs.Slots.{is_free, find-more}
 use Rattle.dk_threads.proofs.family.free_slot.Goals as goal

@@ -1,8 +1,4 @@
-use Rattle.std.proofs.Common.{◌≡◌, ◌-◌}
-use Rattle.std.specs.Prelude.{find, unwrap_or}
-use Rattle.dk_config.specs.declared.TheConstants.{MAX_THREADS}
-use Rattle.dk_config.specs.Sums.{numbers}
-use Rattle.dk_threads.specs.Table.{free_slot}
+use Rattle.dk_threads.proofs.Names.{◌≡◌, ◌-◌, find, unwrap_or, MAX_THREADS, numbers, free_slot}
 use Rattle.dk_threads.proofs.Slots.{is_free}
 use Rattle.dk_threads.proofs.family.free_slot.Given as goal
 

@@ -1,5 +1,4 @@
-use Rattle.std.proofs.Common.{◌∙◌, ap, sym}
-use Rattle.dk_threads.specs.Table.{family_ended}
+use Rattle.dk_threads.proofs.Names.{◌∙◌, ap, sym, family_ended}
 use Rattle.dk_threads.proofs.Families.{one-more}
 use Rattle.dk_threads.proofs.threads.end_all.Goals as goal
 

@@ -1,5 +1,4 @@
-use Rattle.std.proofs.Common.{◌≡◌, ◌++◌, take, drop, map}
-use Rattle.dk_threads.specs.Table.{family_ended}
+use Rattle.dk_threads.proofs.Names.{◌≡◌, ◌++◌, take, drop, map, family_ended}
 use Rattle.dk_threads.proofs.threads.end_all.Given as goal
 
 abbrev pub invariant-loop-family : goal.invariant-loop-family

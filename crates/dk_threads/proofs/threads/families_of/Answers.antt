@@ -1,8 +1,4 @@
-use Rattle.std.proofs.Common.{◌∙◌, ◌++◌, ◌∷◌, [], ap, sym, arith, map}
-use Rattle.std.specs.List.{range_with_len}
-use Rattle.std.proofs.lemmas.List.FromFn.{map-range_with_len_more}
-use Rattle.dk_threads.specs.declared.family.Family.{Family}
-use Rattle.dk_threads.specs.Table.{first_family}
+use Rattle.dk_threads.proofs.Names.{◌∙◌, ◌++◌, ◌∷◌, [], ap, sym, arith, map, range_with_len, map-range_with_len_more, Family, first_family}
 use Rattle.dk_threads.proofs.threads.families_of.Goals as goal
 
 pub loop-process-preserved : goal.loop-process-preserved

@@ -1,6 +1,4 @@
-use Rattle.std.proofs.Common.{◌≡◌, map}
-use Rattle.std.specs.List.{range_with_len}
-use Rattle.dk_threads.specs.Table.{first_family}
+use Rattle.dk_threads.proofs.Names.{◌≡◌, map, range_with_len, first_family}
 use Rattle.dk_threads.proofs.threads.families_of.Given as goal
 
 abbrev pub invariant-loop-process : goal.invariant-loop-process

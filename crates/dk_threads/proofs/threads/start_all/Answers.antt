@@ -1,5 +1,4 @@
-use Rattle.std.proofs.Common.{◌∙◌, ap, sym}
-use Rattle.dk_threads.specs.Table.{family_started}
+use Rattle.dk_threads.proofs.Names.{◌∙◌, ap, sym, family_started}
 use Rattle.dk_threads.proofs.Families.{one-more}
 use Rattle.dk_threads.proofs.threads.start_all.Goals as goal
 

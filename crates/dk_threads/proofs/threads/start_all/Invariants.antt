@@ -1,5 +1,4 @@
-use Rattle.std.proofs.Common.{◌≡◌, ◌++◌, take, drop, map}
-use Rattle.dk_threads.specs.Table.{family_started}
+use Rattle.dk_threads.proofs.Names.{◌≡◌, ◌++◌, take, drop, map, family_started}
 use Rattle.dk_threads.proofs.threads.start_all.Given as goal
 
 abbrev pub invariant-loop-family : goal.invariant-loop-family

@@ -1,6 +1,4 @@
-use Rattle.std.proofs.Common.{◌≡◌, ◌++◌, flat_map}
-use Rattle.dk_config.specs.Sums.{below}
-use Rattle.dk_warnings.specs.Found.{of_process}
+use Rattle.dk_warnings.proofs.Names.{◌≡◌, ◌++◌, flat_map, below, of_process}
 use Rattle.dk_warnings.proofs.listing.add_of_processes.Given as goal
 
 -- the warnings so far are added

@@ -1,6 +1,4 @@
-use Rattle.std.proofs.Common.{◌<◌, ◌∙◌, eqb, length, sym, rules}
-use Rattle.dk_config.specs.Certification.{spare}
-use Rattle.dk_warnings.specs.Found.{full_level}
+use Rattle.dk_warnings.proofs.Names.{◌<◌, ◌∙◌, eqb, length, sym, rules, spare, full_level}
 use Rattle.dk_warnings.proofs.Searching.{ends_here, ends_without, goes_on}
 use Rattle.dk_warnings.proofs.processes.full_level.Goals as goal
 

@@ -1,7 +1,4 @@
-use Rattle.std.proofs.Common.{◌≡◌, ◌-◌, length, eqb}
-use Rattle.std.specs.Prelude.{find}
-use Rattle.dk_config.specs.Sums.{below, numbers}
-use Rattle.dk_config.specs.Certification.{spare}
+use Rattle.dk_warnings.proofs.Names.{◌≡◌, ◌-◌, length, eqb, find, below, numbers, spare}
 use Rattle.dk_warnings.proofs.processes.full_level.Given as goal
 
 -- the search goes on with the levels that are left

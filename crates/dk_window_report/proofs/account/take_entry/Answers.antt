@@ -12,7 +12,7 @@ returns-then-place-len c =
     let there : i < length found = omega (arith, c.if-place-len.true, c.len.ensures) in
     ap (set found i) (c.account_with.ensures ∙ ap f c.index.ensures)
     ∙ account-changed f found i c.index.result.now there
-    ∙ ap (λ o. option_map_or (λ x. changed_account f x.process found) o found) (sym c.in-Some.is ∙ c.thread_of.ensures)
+    ∙ ap (λ o. option_map_or (λ x. changed_account f x.process found) o found) (sym c.in-Some.is ∙ c.thread.ensures)
 
 pub returns-else-place-len : goal.returns-else-place-len
 returns-else-place-len c =
@@ -21,4 +21,4 @@ returns-else-place-len c =
     let i = c.in-Some.thread.process in
     let past : length found ≤ i = omega (arith, c.if-place-len.false, c.len.ensures) in
     account-past f found i past
-    ∙ ap (λ o. option_map_or (λ x. changed_account f x.process found) o found) (sym c.in-Some.is ∙ c.thread_of.ensures)
+    ∙ ap (λ o. option_map_or (λ x. changed_account f x.process found) o found) (sym c.in-Some.is ∙ c.thread.ensures)

@@ -1,6 +1,4 @@
-use Rattle.std.proofs.Common.{Some, ap, ◌∙◌, ◌≡◌, sym, subst, false}
-use Rattle.dk_trace.specs.Entries.{is_same}
-use Rattle.dk_trace.proofs.Same.{same-id}
+use Rattle.dk_mutex.proofs.Names.{Some, ap, ◌∙◌, ◌≡◌, sym, subst, false, is_same, same-id}
 use Rattle.dk_mutex.proofs.front.Front.is_of.Goals as goal
 
 pub returns-in-Some-clause-own : goal.returns-in-Some-clause-own

@@ -1,5 +1,4 @@
-use Rattle.std.proofs.Common.{◌≡◌, ◌<◌, ◌∙◌, ◌⊎◌, inl, inr, ap, min, Some, sym, subst}
-use Rattle.dk_mutex.specs.Table.{ceiling_at}
+use Rattle.dk_mutex.proofs.Names.{◌≡◌, ◌<◌, ◌∙◌, ◌⊎◌, inl, inr, ap, min, Some, sym, subst, ceiling_at}
 use Rattle.dk_mutex.proofs.Locking.{front-locked}
 use Rattle.dk_mutex.proofs.front.Front.locked.Goals.{then-ceiling-self, else-ceiling-self}
 use Rattle.dk_mutex.proofs.front.Front.locked.Goals as goal

@@ -1,5 +1,4 @@
-use Rattle.std.proofs.Common.{◌∙◌, ap, sym}
-use Rattle.std.specs.Prelude.{is_some}
+use Rattle.dk_mutex.proofs.Names.{◌∙◌, ap, sym, is_some}
 use Rattle.dk_mutex.proofs.Marking.{unheld-process}
 use Rattle.dk_mutex.proofs.front.Front.may_be_of.Goals as goal
 

@@ -1,6 +1,4 @@
-use Rattle.std.proofs.Common.{◌∙◌, ap, subst}
-use Rattle.std.specs.Prelude.{is_some}
-use Rattle.dk_mutex.specs.Front.{IsFirstHold, IsLeastHold}
+use Rattle.dk_mutex.proofs.Names.{◌∙◌, ap, subst, is_some, IsFirstHold, IsLeastHold}
 use Rattle.dk_mutex.proofs.Firsts.{somebody}
 use Rattle.dk_mutex.proofs.Unheld.{none-there}
 use Rattle.dk_mutex.proofs.front.Front.of.Goals as goal

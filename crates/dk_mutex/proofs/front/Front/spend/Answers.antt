@@ -1,7 +1,5 @@
-use Rattle.std.proofs.Common.{◌≡◌, ◌∙◌, ◌-◌, ap, refl, sym}
-use Rattle.dk_mutex.specs.Rows.{spent}
+use Rattle.dk_mutex.proofs.Names.{◌≡◌, ◌∙◌, ◌-◌, ap, refl, sym, spent, hold_left}
 use Rattle.std.specs.Prelude.{map}
-use Rattle.dk_mutex.specs.Table.{hold_left}
 use Rattle.dk_mutex.proofs.Fronts.{front-spent, hold-other, hold-own}
 use Rattle.dk_mutex.proofs.front.Front.spend.Goals as goal
 

@@ -1,8 +1,4 @@
-use Rattle.std.proofs.Common.{◌≡◌, ◌∙◌, false, List, subst, sym}
-use Rattle.std.specs.List.{list_any}
-use Rattle.std.proofs.lemmas.Bool.{not-true}
-use Rattle.dk_mutex.specs.declared.row.Lockable.{Lockable}
-use Rattle.dk_mutex.specs.Rows.{is_held}
+use Rattle.dk_mutex.proofs.Names.{◌≡◌, ◌∙◌, false, List, subst, sym, list_any, not-true, Lockable, is_held}
 use Rattle.dk_mutex.proofs.Unheld.{nothing-left, own-level, spent-none, unheld-by}
 use Rattle.dk_mutex.proofs.mutexes.Mutexes.are_free.Goals as goal
 

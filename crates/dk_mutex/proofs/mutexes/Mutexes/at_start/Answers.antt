@@ -1,11 +1,4 @@
-use Rattle.std.proofs.Common.{subst, ◌≡◌, ◌≤◌, ◌∙◌, ◌++◌, ◌∷◌, [], ap, sym, arith, false, length, map}
-use Rattle.std.specs.List.{list_any, range_with_len}
-use Rattle.std.proofs.lemmas.List.FromFn.{length-map-range_with_len, map-range_with_len_more}
-use Rattle.dk_config.specs.declared.TheConstants.{MAX_MUTEXES}
-use Rattle.dk_config.specs.Configuration.{Configuration}
-use Rattle.dk_mutex.specs.declared.row.Lockable.{Lockable}
-use Rattle.dk_mutex.specs.Rows.{is_held, row_of}
-use Rattle.dk_mutex.specs.Table.{LeftsDiffer}
+use Rattle.dk_mutex.proofs.Names.{subst, ◌≡◌, ◌≤◌, ◌∙◌, ◌++◌, ◌∷◌, [], ap, sym, arith, false, length, map, list_any, range_with_len, length-map-range_with_len, map-range_with_len_more, MAX_MUTEXES, Configuration, Lockable, is_held, row_of, LeftsDiffer}
 use Rattle.dk_mutex.proofs.Lefts.{LeftsDiffer-start}
 use Rattle.dk_mutex.proofs.Outers.{no-outer}
 use Rattle.dk_mutex.proofs.Unheld.{start-unheld, unheld-by}

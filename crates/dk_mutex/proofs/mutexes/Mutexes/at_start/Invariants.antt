@@ -1,6 +1,4 @@
-use Rattle.std.proofs.Common.{◌≡◌, map}
-use Rattle.std.specs.List.{range_with_len}
-use Rattle.dk_mutex.specs.Rows.{row_of}
+use Rattle.dk_mutex.proofs.Names.{◌≡◌, map, range_with_len, row_of}
 use Rattle.dk_mutex.proofs.mutexes.Mutexes.at_start.Given as goal
 
 abbrev pub invariant-loop-mutex : goal.invariant-loop-mutex

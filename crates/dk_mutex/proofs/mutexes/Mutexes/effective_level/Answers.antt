@@ -1,6 +1,4 @@
-use Rattle.std.proofs.Common.{◌∙◌, List, ap, sym}
-use Rattle.dk_mutex.specs.declared.row.Lockable.{Lockable}
-use Rattle.dk_mutex.specs.Table.{effective_level}
+use Rattle.dk_mutex.proofs.Names.{◌∙◌, List, ap, sym, Lockable, effective_level}
 use Rattle.dk_mutex.proofs.Unheld.{own-level, runs-there}
 use Rattle.dk_mutex.proofs.mutexes.Mutexes.effective_level.Goals as goal
 

@@ -1,11 +1,5 @@
-use Rattle.std.proofs.Common.{◌≡◌, ◌∙◌, ap, sym, subst, refl, List, None}
-use Rattle.std.specs.Prelude.{IfSome, false}
-use Rattle.std.specs.List.{list_any}
-use Rattle.dk_mutex.specs.Front.{AreOuter, IsFirst}
-use Rattle.dk_mutex.specs.Marks.{AreMarked}
-use Rattle.dk_mutex.specs.declared.row.Lockable.{Lockable}
-use Rattle.dk_mutex.specs.Rows.{is_by_process}
-use Rattle.dk_mutex.specs.Table.{LeftsDiffer, given_to}
+use Rattle.dk_mutex.proofs.Names.{◌≡◌, ◌∙◌, ap, sym, subst, refl, List, None, IfSome, list_any, AreOuter, IsFirst, AreMarked, Lockable, is_by_process, LeftsDiffer, given_to}
+use Rattle.std.specs.Prelude.{false}
 use Rattle.dk_mutex.proofs.Lefts.{LeftsDiffer-unlocked}
 use Rattle.dk_mutex.proofs.Marking.{marked-unlocked}
 use Rattle.dk_mutex.proofs.mutexes.Mutexes.free.Goals as goal

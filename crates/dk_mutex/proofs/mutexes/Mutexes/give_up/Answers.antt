@@ -1,8 +1,5 @@
-use Rattle.std.proofs.Common.{◌∙◌, ap, map, sym, subst}
-use Rattle.dk_mutex.specs.Rows.{freed}
-use Rattle.dk_mutex.specs.Table.{LeftsDiffer}
+use Rattle.dk_mutex.proofs.Names.{◌∙◌, ap, map, sym, subst, freed, LeftsDiffer, AreMarked}
 use Rattle.dk_mutex.proofs.Lefts.{LeftsDiffer-freed}
-use Rattle.dk_mutex.specs.Marks.{AreMarked}
 use Rattle.dk_mutex.proofs.Marking.{marked-freed}
 use Rattle.dk_mutex.proofs.Outers.{freed-none, no-outer}
 use Rattle.dk_mutex.proofs.mutexes.Mutexes.give_up.Goals as goal

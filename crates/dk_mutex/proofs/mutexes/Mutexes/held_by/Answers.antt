@@ -1,6 +1,4 @@
-use Rattle.std.proofs.Common.{◌∙◌, ap}
-use Rattle.std.specs.List.{position_from}
-use Rattle.dk_mutex.specs.Rows.{is_within}
+use Rattle.dk_mutex.proofs.Names.{◌∙◌, ap, position_from, is_within}
 use Rattle.dk_mutex.proofs.Lefts.{innermost-alone}
 use Rattle.dk_mutex.proofs.mutexes.Mutexes.held_by.Goals as goal
 

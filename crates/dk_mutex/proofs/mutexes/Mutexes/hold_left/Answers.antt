@@ -1,6 +1,4 @@
-use Rattle.std.proofs.Common.{◌∙◌, List, ap, sym}
-use Rattle.dk_mutex.specs.declared.row.Lockable.{Lockable}
-use Rattle.dk_mutex.specs.Table.{hold_left}
+use Rattle.dk_mutex.proofs.Names.{◌∙◌, List, ap, sym, Lockable, hold_left}
 use Rattle.dk_mutex.proofs.Unheld.{nothing-left}
 use Rattle.dk_mutex.proofs.mutexes.Mutexes.hold_left.Goals as goal
 

@@ -1,6 +1,4 @@
-use Rattle.std.proofs.Common.{◌≡◌, ◌∙◌, List, None, ap, arith, sym}
-use Rattle.dk_mutex.specs.declared.row.Lockable.{Lockable}
-use Rattle.dk_mutex.specs.Table.{holder_at}
+use Rattle.dk_mutex.proofs.Names.{◌≡◌, ◌∙◌, List, None, ap, arith, sym, Lockable, holder_at}
 use Rattle.dk_mutex.proofs.Unheld.{nobody-at}
 use Rattle.dk_mutex.proofs.mutexes.Mutexes.holder_at.Goals.{else-level-self-2-via-then-level-self-2+else-is_held, else-level-self-2-via-else-level-self-2}
 use Rattle.dk_mutex.proofs.mutexes.Mutexes.holder_at.Goals as goal

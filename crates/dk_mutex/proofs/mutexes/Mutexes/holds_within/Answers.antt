@@ -1,6 +1,4 @@
-use Rattle.std.proofs.Common.{◌∙◌, List, ap, sym}
-use Rattle.dk_mutex.specs.declared.row.Lockable.{Lockable}
-use Rattle.dk_mutex.specs.Table.{holds_within}
+use Rattle.dk_mutex.proofs.Names.{◌∙◌, List, ap, sym, Lockable, holds_within}
 use Rattle.dk_mutex.proofs.Fronts.{first-within, none-within}
 use Rattle.dk_mutex.proofs.mutexes.Mutexes.holds_within.Goals as goal
 

@@ -1,7 +1,5 @@
-use Rattle.std.proofs.Common.{◌≡◌, ◌∙◌, ◌<◌, ap, refl, sym, subst, length, List, None, Some}
+use Rattle.dk_mutex.proofs.Names.{◌≡◌, ◌∙◌, ◌<◌, ap, refl, sym, subst, length, List, None, Some, Lockable, given_to, hold_of, holds_within, lock_refusal}
 use Rattle.std.specs.Prelude.{false}
-use Rattle.dk_mutex.specs.declared.row.Lockable.{Lockable}
-use Rattle.dk_mutex.specs.Table.{given_to, hold_of, holds_within, lock_refusal}
 use Rattle.dk_mutex.proofs.Lefts.{far-locked}
 use Rattle.dk_mutex.proofs.mutexes.Mutexes.lock.Goals as goal
 

@@ -1,7 +1,4 @@
-use Rattle.std.proofs.Common.{◌∙◌, true, false, ap, refl, sym, slice_get, List}
-use Rattle.std.proofs.lemmas.Option.{slice_get_within}
-use Rattle.dk_trace.specs.declared.Refusal.{Refusal}
-use Rattle.dk_mutex.specs.declared.row.Lockable.{Lockable}
+use Rattle.dk_mutex.proofs.Names.{◌∙◌, true, false, ap, refl, sym, slice_get, List, slice_get_within, Refusal, Lockable}
 use Rattle.dk_mutex.proofs.Reasons.{not-none, lock-none, lock-some}
 use Rattle.dk_mutex.proofs.mutexes.Mutexes.lock_refusal.Goals as goal
 

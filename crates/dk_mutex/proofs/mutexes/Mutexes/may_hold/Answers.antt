@@ -1,7 +1,4 @@
-use Rattle.std.proofs.Common.{◌≡◌, ◌∙◌, List, false, subst, sym}
-use Rattle.std.specs.List.{list_any}
-use Rattle.dk_mutex.specs.declared.row.Lockable.{Lockable}
-use Rattle.dk_mutex.specs.Rows.{is_by}
+use Rattle.dk_mutex.proofs.Names.{◌≡◌, ◌∙◌, List, false, subst, sym, list_any, Lockable, is_by}
 use Rattle.dk_mutex.proofs.Unheld.{unheld-by}
 use Rattle.dk_mutex.proofs.mutexes.Mutexes.may_hold.Goals as goal
 

@@ -1,11 +1,6 @@
-use Rattle.std.proofs.Common.{◌≡◌, ◌∙◌, List, ap, map, sym, subst}
+use Rattle.dk_mutex.proofs.Names.{◌≡◌, ◌∙◌, List, ap, map, sym, subst, Lockable, AreOuter, IsFrontOf, spent, LeftsDiffer, holds_within, AreMarked}
 use Rattle.std.specs.Prelude.{false}
-use Rattle.dk_mutex.specs.declared.row.Lockable.{Lockable}
-use Rattle.dk_mutex.specs.Front.{AreOuter, IsFrontOf}
-use Rattle.dk_mutex.specs.Rows.{spent}
-use Rattle.dk_mutex.specs.Table.{LeftsDiffer, holds_within}
 use Rattle.dk_mutex.proofs.Lefts.{LeftsDiffer-spent}
-use Rattle.dk_mutex.specs.Marks.{AreMarked}
 use Rattle.dk_mutex.proofs.Marking.{marked-spent}
 use Rattle.dk_mutex.proofs.Outers.{outer-spent}
 use Rattle.dk_mutex.proofs.Unheld.{spent-none}

@@ -1,6 +1,4 @@
-use Rattle.std.proofs.Common.{◌≡◌, ◌∙◌, ap, refl, sym, subst, Some}
-use Rattle.dk_mutex.specs.Front.{IsFrontOf, IsLockable}
-use Rattle.dk_mutex.specs.Table.{LeftsDiffer, given_to}
+use Rattle.dk_mutex.proofs.Names.{◌≡◌, ◌∙◌, ap, refl, sym, subst, Some, IsFrontOf, IsLockable, LeftsDiffer, given_to}
 use Rattle.dk_mutex.proofs.Marking.{marked-locked}
 use Rattle.dk_mutex.proofs.Lefts.{LeftsDiffer-locked}
 use Rattle.dk_mutex.proofs.Outers.{back-given, innermost-given}

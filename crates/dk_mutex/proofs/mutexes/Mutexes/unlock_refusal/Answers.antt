@@ -1,10 +1,4 @@
-use Rattle.std.proofs.Common.{◌≡◌, ◌∙◌, true, false, ap, refl, sym, slice_get, List}
-use Rattle.std.proofs.lemmas.Option.{slice_get_within}
-use Rattle.dk_mutex.specs.Rows.{is_within}
-use Rattle.dk_mutex.specs.Table.{at_row, hold_left}
-use Rattle.dk_trace.specs.declared.Refusal.{Refusal}
-use Rattle.std.specs.Option.{option_map_or}
-use Rattle.dk_mutex.specs.declared.row.Lockable.{Lockable}
+use Rattle.dk_mutex.proofs.Names.{◌≡◌, ◌∙◌, true, false, ap, refl, sym, slice_get, List, slice_get_within, is_within, at_row, hold_left, Refusal, option_map_or, Lockable}
 use Rattle.dk_mutex.proofs.Reasons.{not-none, unlock-none, unlock-some}
 use Rattle.dk_mutex.proofs.mutexes.Mutexes.unlock_refusal.Goals as goal
 

@@ -1,6 +1,4 @@
-use Rattle.std.proofs.Common.{◌∙◌, ap, sym}
-use Rattle.std.specs.List.{position_from}
-use Rattle.dk_mutex.specs.Rows.{is_within, is_within_owed, owed_by, taken}
+use Rattle.dk_mutex.proofs.Names.{◌∙◌, ap, sym, position_from, is_within, is_within_owed, owed_by, taken}
 use Rattle.dk_mutex.proofs.Owed.{position-by, within-taken}
 use Rattle.dk_mutex.proofs.rows.Rows.first_within.Goals as goal
 

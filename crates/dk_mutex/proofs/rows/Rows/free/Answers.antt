@@ -1,8 +1,4 @@
-use Rattle.std.proofs.Common.{◌<◌, ◌∙◌, ap, sym, subst, length, map, List, None}
-use Rattle.std.proofs.lemmas.List.{length-map}
-use Rattle.dk_mutex.specs.declared.row.Lockable.{Lockable}
-use Rattle.dk_mutex.specs.Rows.{taken}
-use Rattle.dk_mutex.specs.Table.{given_to}
+use Rattle.dk_mutex.proofs.Names.{◌<◌, ◌∙◌, ap, sym, subst, length, map, List, None, length-map, Lockable, taken, given_to}
 use Rattle.dk_mutex.proofs.Giving.{give-row}
 use Rattle.dk_mutex.proofs.Least.{no_row}
 use Rattle.dk_mutex.proofs.Owed.{given-taken}

@@ -1,8 +1,4 @@
-use Rattle.std.proofs.Common.{◌∙◌, ap, length, map, List}
-use Rattle.std.specs.List.{refill}
-use Rattle.dk_mutex.specs.declared.row.Lockable.{Lockable}
-use Rattle.std.proofs.lemmas.List.{length-map}
-use Rattle.dk_mutex.specs.Rows.{freed, taken}
+use Rattle.dk_mutex.proofs.Names.{◌∙◌, ap, length, map, List, refill, Lockable, length-map, freed, taken}
 use Rattle.dk_mutex.proofs.Giving.{rows-whole}
 use Rattle.dk_mutex.proofs.Owed.{taken-none}
 use Rattle.dk_mutex.proofs.rows.Rows.free_all.Goals as goal

@@ -1,8 +1,4 @@
-use Rattle.std.proofs.Common.{◌∙◌, ap, length, map, subst, sym, List}
-use Rattle.std.specs.List.{refill}
-use Rattle.dk_mutex.specs.declared.row.Lockable.{Lockable}
-use Rattle.dk_mutex.specs.Rows.{taken}
-use Rattle.dk_mutex.specs.Front.{IsFrontOf}
+use Rattle.dk_mutex.proofs.Names.{◌∙◌, ap, length, map, subst, sym, List, refill, Lockable, taken, IsFrontOf}
 use Rattle.dk_mutex.proofs.Owed.{paid, taken-none}
 use Rattle.dk_mutex.proofs.rows.Rows.front.Goals as goal
 

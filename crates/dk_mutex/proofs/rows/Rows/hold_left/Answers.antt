@@ -1,6 +1,4 @@
-use Rattle.std.proofs.Common.{◌∙◌, ◌-◌, ap, sym, List}
-use Rattle.dk_mutex.specs.declared.row.Lockable.{Lockable}
-use Rattle.dk_mutex.specs.Table.{hold_left}
+use Rattle.dk_mutex.proofs.Names.{◌∙◌, ◌-◌, ap, sym, List, Lockable, hold_left}
 use Rattle.dk_mutex.proofs.Owed.{hold-taken}
 use Rattle.dk_mutex.proofs.rows.Rows.hold_left.Goals as goal
 

@@ -1,6 +1,4 @@
-use Rattle.std.proofs.Common.{◌∙◌, ap, sym, List}
-use Rattle.dk_mutex.specs.declared.row.Lockable.{Lockable}
-use Rattle.dk_mutex.specs.Table.{holder_at}
+use Rattle.dk_mutex.proofs.Names.{◌∙◌, ap, sym, List, Lockable, holder_at}
 use Rattle.dk_mutex.proofs.Owed.{taken-first}
 use Rattle.dk_mutex.proofs.rows.Rows.holder_at.Goals as goal
 

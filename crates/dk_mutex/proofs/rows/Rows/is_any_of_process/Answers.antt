@@ -1,6 +1,4 @@
-use Rattle.std.proofs.Common.{◌∙◌, ap, sym}
-use Rattle.std.specs.List.{list_any}
-use Rattle.dk_mutex.specs.Rows.{is_by_process}
+use Rattle.dk_mutex.proofs.Names.{◌∙◌, ap, sym, list_any, is_by_process}
 use Rattle.dk_mutex.proofs.Owed.{taken-process}
 use Rattle.dk_mutex.proofs.rows.Rows.is_any_of_process.Goals as goal
 

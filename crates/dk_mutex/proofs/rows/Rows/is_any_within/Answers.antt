@@ -1,6 +1,4 @@
-use Rattle.std.proofs.Common.{◌∙◌, ap, sym}
-use Rattle.std.specs.List.{list_any}
-use Rattle.dk_mutex.specs.Rows.{is_within, is_within_owed, owed_by, taken}
+use Rattle.dk_mutex.proofs.Names.{◌∙◌, ap, sym, list_any, is_within, is_within_owed, owed_by, taken}
 use Rattle.dk_mutex.proofs.Owed.{any-by, within-taken}
 use Rattle.dk_mutex.proofs.rows.Rows.is_any_within.Goals as goal
 

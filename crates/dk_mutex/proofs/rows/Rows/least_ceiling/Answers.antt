@@ -1,6 +1,4 @@
-use Rattle.std.proofs.Common.{◌∙◌, ap, map, sym, List}
-use Rattle.dk_mutex.specs.declared.row.Lockable.{Lockable}
-use Rattle.dk_mutex.specs.Rows.{ceiling_of, least}
+use Rattle.dk_mutex.proofs.Names.{◌∙◌, ap, map, sym, List, Lockable, ceiling_of, least}
 use Rattle.dk_mutex.proofs.Owed.{taken-least}
 use Rattle.dk_mutex.proofs.rows.Rows.least_ceiling.Goals as goal
 

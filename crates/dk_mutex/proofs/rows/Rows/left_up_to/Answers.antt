@@ -1,5 +1,4 @@
-use Rattle.std.proofs.Common.{◌∙◌, ◌-◌, ap, sym}
-use Rattle.dk_mutex.specs.Rows.{left_up_to}
+use Rattle.dk_mutex.proofs.Names.{◌∙◌, ◌-◌, ap, sym, left_up_to}
 use Rattle.dk_mutex.proofs.Owed.{up_to-taken}
 use Rattle.dk_mutex.proofs.rows.Rows.left_up_to.Goals as goal
 

@@ -1,6 +1,4 @@
-use Rattle.std.proofs.Common.{◌∙◌, add-one, ap, sym, map}
-use Rattle.dk_trace.proofs.Same.{same-id}
-use Rattle.dk_mutex.specs.Rows.{spent, taken}
+use Rattle.dk_mutex.proofs.Names.{◌∙◌, add-one, ap, sym, map, same-id, spent, taken}
 use Rattle.dk_mutex.proofs.Owed.{taken-more}
 use Rattle.dk_mutex.proofs.rows.Rows.spend.Goals as goal
 

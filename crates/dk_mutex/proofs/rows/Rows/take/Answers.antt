@@ -1,9 +1,4 @@
-use Rattle.std.proofs.Common.{◌≡◌, ◌<◌, ◌∙◌, ap, sym, subst, length, map, List, Some}
-use Rattle.std.proofs.lemmas.List.{length-map}
-use Rattle.dk_mutex.specs.declared.row.Holder.{Holder}
-use Rattle.dk_mutex.specs.declared.row.Lockable.{Lockable}
-use Rattle.dk_mutex.specs.Rows.{lowered_by, taken}
-use Rattle.dk_mutex.specs.Table.{given_to}
+use Rattle.dk_mutex.proofs.Names.{◌≡◌, ◌<◌, ◌∙◌, ap, sym, subst, length, map, List, Some, length-map, Holder, Lockable, lowered_by, taken, given_to}
 use Rattle.dk_mutex.proofs.Giving.{give-row}
 use Rattle.dk_mutex.proofs.Least.{no_row}
 use Rattle.dk_mutex.proofs.Owed.{given-taken, lowered-back, lowered-none, paid}

@@ -1,5 +1,4 @@
-use Rattle.std.proofs.Common.{ℕ, ◌<◌, List, length, slice_index, sym, ap, arith}
-use Rattle.dk_rail.specs.Places.{numbers}
+use Rattle.dk_rail.proofs.Names.{ℕ, ◌<◌, List, length, slice_index, sym, ap, arith, numbers}
 use Rattle.dk_rail.proofs.PlacesLemmas.{number_at}
 use Rattle.dk_rail.proofs.block.Block.read.Goals as goal
 

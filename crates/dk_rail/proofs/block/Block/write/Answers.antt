@@ -1,5 +1,4 @@
-use Rattle.std.proofs.Common.{ℕ, List, map, length, set, Option, Some, sym, ap, ◌∙◌, length-set}
-use Rattle.dk_rail.specs.Places.{numbers}
+use Rattle.dk_rail.proofs.Names.{ℕ, List, map, length, set, Option, Some, sym, ap, ◌∙◌, length-set, numbers}
 use Rattle.dk_rail.proofs.PlacesLemmas.{numbers-set, filled-set}
 use Rattle.dk_rail.proofs.block.Block.write.Goals as goal
 

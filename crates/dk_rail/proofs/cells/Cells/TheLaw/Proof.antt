@@ -1,13 +1,5 @@
 -- A `&` to the places reaches each item. Assumes `Logic`.
-use mathlib.Core.List.{[], ◌++◌}
-use base.Fml.{Incl-trans}
-use contract.BorrowLft.{meet_⊑_left}
-use denote.RattleType.{RattleType}
-use denote.RawPtr.{RawPtr}
-use denote.Param.Laws.{Laws}
-use denote.Param.Shared.{copy_shared}
-use denote.Struct.Laws.{field_copy}
-use denote.Struct.Lending.{of_Lends}
+use Rattle.dk_rail.proofs.Names.{[], ◌++◌, Incl-trans, meet_⊑_left, RattleType, RawPtr, Laws, copy_shared, field_copy, of_Lends}
 use Rattle.std.specs.contracts.marker.PhantomData as marker
 use Rattle.dk_rail.specs.contracts.cells.Cells as C
 use Rattle.dk_rail.proofs.cells.Cells.TheLaw.Statement.{statement}

@@ -1,6 +1,4 @@
-use Rattle.std.proofs.Common.{◌∙◌, sym}
-use Rattle.std.proofs.lemmas.List.{length-map}
-use Rattle.dk_rail.specs.Queues.{without}
+use Rattle.dk_rail.proofs.Names.{◌∙◌, sym, length-map, without}
 use Rattle.dk_rail.proofs.Quiet.{first-unlinked, quiet-unlinked}
 use Rattle.dk_rail.proofs.level_queues.LevelQueues.unlink.Goals as goal
 

@@ -1,5 +1,4 @@
-use Rattle.std.proofs.Common.{ℕ, ◌<◌, List, length, slice_get, Some, sym, ap, ◌∙◌, arith}
-use Rattle.dk_rail.specs.Queues.{Queues, queue_at}
+use Rattle.dk_rail.proofs.Names.{ℕ, ◌<◌, List, length, slice_get, Some, sym, ap, ◌∙◌, arith, Queues, queue_at}
 use Rattle.dk_rail.proofs.Linked.{length-lists_of, queue-at_lists, front_none, front_some}
 use Rattle.dk_rail.proofs.rail.Rail.front.Goals as goal
 

@@ -1,7 +1,5 @@
-use Rattle.std.proofs.Common.{◌≡◌, ℕ, suc, ◌+◌, ◌<◌, ◌≤◌, List, [], Option, Some, None, drop, slice_get, sym, ap, subst, ◌∙◌, arith}
-use Rattle.std.proofs.lemmas.List.{get_or_past}
-use Rattle.dk_rail.specs.Queues.{Queues, queue_at}
-use Rattle.dk_rail.specs.Links.{next, lists_of, list_at, IsPath}
+use Rattle.dk_rail.proofs.Names.{◌≡◌, ℕ, suc, ◌+◌, ◌<◌, ◌≤◌, List, Option, Some, drop, slice_get, sym, ap, ◌∙◌, arith, get_or_past, Queues, queue_at, next, lists_of, list_at, IsPath}
+use Rattle.std.proofs.Common.{[], None, subst}
 use Rattle.dk_rail.proofs.Linked.{length-lists_of, queue-at_lists}
 use Rattle.dk_rail.proofs.Walking.{walk-on, walk-ends}
 use Rattle.dk_rail.proofs.rail.Rail.node_at.Goals as goal

@@ -1,5 +1,4 @@
-use Rattle.std.proofs.Common.{◌+◌, ◌<◌, ◌≤◌, drop}
-use Rattle.dk_rail.specs.Links.{IsPath, list_at}
+use Rattle.dk_rail.proofs.Names.{◌+◌, ◌<◌, ◌≤◌, drop, IsPath, list_at}
 use Rattle.dk_rail.proofs.rail.Rail.node_at.Given as goal
 
 abbrev pub invariant-loop-passed : goal.invariant-loop-passed

@@ -1,7 +1,4 @@
-use Rattle.std.proofs.Common.{◌≡◌, ℕ, List, ◌+◌, ◌<◌, length, IsNone, is_some, ap, refl, ◌∙◌, arith}
-use Rattle.dk_rail.specs.Queues.{Queues, holder, pushed}
-use Rattle.dk_rail.specs.Sound.{IsSound}
-use Rattle.dk_rail.specs.Links.{owner, IsPushed, lists_of, list_at}
+use Rattle.dk_rail.proofs.Names.{◌≡◌, ℕ, List, ◌+◌, ◌<◌, length, IsNone, is_some, ap, refl, ◌∙◌, arith, Queues, holder, pushed, IsSound, owner, IsPushed, lists_of, list_at}
 use Rattle.dk_rail.proofs.Linked.{length-lists_of, last_in, last_other, free_owner, lists_pushed}
 use Rattle.dk_rail.proofs.rail.Rail.push_back.Goals as goal
 

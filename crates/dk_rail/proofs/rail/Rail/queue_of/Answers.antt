@@ -1,6 +1,4 @@
-use Rattle.std.proofs.Common.{◌≡◌, suc, ◌+◌, ◌-◌, ◌<◌, sym, ap, ◌∙◌, arith}
-use Rattle.dk_rail.specs.Queues.{Queues, holder}
-use Rattle.dk_rail.specs.Links.{owner}
+use Rattle.dk_rail.proofs.Names.{◌≡◌, suc, ◌+◌, ◌-◌, ◌<◌, sym, ap, ◌∙◌, arith, Queues, holder, owner}
 use Rattle.dk_rail.proofs.Linked.{holder_none, holder_some}
 use Rattle.dk_rail.proofs.rail.Rail.queue_of.Goals as goal
 

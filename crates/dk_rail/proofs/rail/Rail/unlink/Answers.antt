@@ -1,7 +1,4 @@
-use Rattle.std.proofs.Common.{◌≡◌, ℕ, List, true, ◌+◌, ◌<◌, IsSome, is_some, ap, ◌∙◌, inl, inr, arith}
-use Rattle.dk_rail.specs.Queues.{Queues, holds, holder, unlinked}
-use Rattle.dk_rail.specs.Sound.{IsSound}
-use Rattle.dk_rail.specs.Links.{IsUnlinked, lists_of, list_at}
+use Rattle.dk_rail.proofs.Names.{◌≡◌, ℕ, List, true, ◌+◌, ◌<◌, IsSome, is_some, ap, ◌∙◌, inl, inr, arith, Queues, holds, holder, unlinked, IsSound, IsUnlinked, lists_of, list_at}
 use Rattle.dk_rail.proofs.Rings.{IsBetween}
 use Rattle.dk_rail.proofs.Linked.{held_in, held_between, lists_unlinked}
 use Rattle.dk_rail.proofs.rail.Rail.unlink.Goals as goal
@@ -24,8 +21,7 @@ after b d n q x v sound is h u =
     (record { nodes = sound.nodes; queues = sound.queues; linked = both.0 }, both.1 ∙ ap (λ (w : Queues). unlinked w.lists x) is)
 
 pub take_out-requires-clause-node : goal.take_out-requires-clause-node
-take_out-requires-clause-node g c =
-    let h = held _ _ _ _ _ c.self.invariant c.self.view_is c.requires in omega (arith, h.mid.low)
+take_out-requires-clause-node g c = let h = held _ _ _ _ _ c.self.invariant c.self.view_is c.requires in omega (arith, h.mid.low)
 
 pub take_out-requires-clause-cells : goal.take_out-requires-clause-cells
 take_out-requires-clause-cells g c =

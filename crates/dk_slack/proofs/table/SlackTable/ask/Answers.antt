@@ -1,6 +1,4 @@
-use Rattle.std.proofs.Common.{◌∙◌, ap}
-use Rattle.dk_slack.specs.Wishes.{want}
-use Rattle.dk_slack.specs.Slack.{Slack}
+use Rattle.dk_slack.proofs.Names.{◌∙◌, ap, want, Slack}
 use Rattle.dk_slack.proofs.Wished.{want-dropped}
 use Rattle.dk_slack.proofs.table.SlackTable.ask.Goals as goal
 

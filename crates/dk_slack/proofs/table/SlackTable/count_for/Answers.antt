@@ -1,8 +1,4 @@
-use Rattle.std.proofs.Common.{◌≡◌, ◌<◌, ◌≤◌, ◌+◌, ◌%◌, ◌^◌, ◌∙◌, All, length, get_or, set, refl, ap, sym, subst, arith}
-use Rattle.std.specs.Prelude.{None}
-use Rattle.dk_slack.specs.Slack.{Slack}
-use Rattle.dk_slack.specs.Unclaimed.{raised, counted_for}
-use Rattle.dk_slack.specs.Counters.{unclaimed_by}
+use Rattle.dk_slack.proofs.Names.{◌≡◌, ◌<◌, ◌≤◌, ◌+◌, ◌%◌, ◌^◌, ◌∙◌, All, length, get_or, set, refl, ap, sym, subst, arith, None, Slack, raised, counted_for, unclaimed_by}
 use Rattle.dk_slack.proofs.Running.{length-unclaimed, level-counts, nobody-counts, stranger-counts, put}
 use Rattle.dk_slack.proofs.Lasting.{counted-nobody, counted-stranger, lasts-on}
 use Rattle.dk_slack.proofs.table.SlackTable.count_for.Goals.{in_default-via-in-Some+else-level-len, in_default-via-in_default}

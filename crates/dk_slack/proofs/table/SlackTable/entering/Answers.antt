@@ -1,5 +1,4 @@
-use Rattle.std.proofs.Common.{◌∙◌, ap}
-use Rattle.dk_slack.specs.Kept.{row_of}
+use Rattle.dk_slack.proofs.Names.{◌∙◌, ap, row_of}
 use Rattle.dk_slack.proofs.Tables.{entering-read, nothing-read}
 use Rattle.dk_slack.proofs.table.SlackTable.entering.Goals as goal
 

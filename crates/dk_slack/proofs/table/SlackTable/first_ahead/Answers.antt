@@ -1,11 +1,4 @@
-use Rattle.std.proofs.Common.{◌≡◌, ◌<◌, ◌∙◌, ℕ, false, length, map, ap, arith, sym}
-use Rattle.std.specs.Prelude.{None, nat_lt}
-use Rattle.std.proofs.lemmas.Bool.{le-ltb}
-use Rattle.std.proofs.lemmas.List.{length-map}
-use Rattle.dk_slack.specs.Slack.{Slack}
-use Rattle.dk_slack.specs.Kept.{row_of, wish_at}
-use Rattle.dk_slack.specs.Unclaimed.{counted_for, source}
-use Rattle.dk_slack.specs.Wishes.{first_node}
+use Rattle.dk_slack.proofs.Names.{◌≡◌, ◌<◌, ◌∙◌, ℕ, false, length, map, ap, arith, sym, None, nat_lt, le-ltb, length-map, Slack, row_of, wish_at, counted_for, source, first_node}
 use Rattle.dk_slack.proofs.Fronts.{front, nobody}
 use Rattle.dk_slack.proofs.Tables.{amount-read, entering-read}
 use Rattle.dk_slack.proofs.table.SlackTable.first_ahead.Goals as goal

@@ -1,6 +1,4 @@
-use Rattle.std.proofs.Common.{ℕ, List, subst}
-use Rattle.dk_slack.specs.Counters.{unclaimed_by}
-use Rattle.dk_slack.specs.Lasting.{Lasts}
+use Rattle.dk_slack.proofs.Names.{ℕ, List, subst, unclaimed_by, Lasts}
 use Rattle.dk_slack.proofs.table.SlackTable.foresee.Goals as goal
 
 pub invariant_of-self : goal.invariant_of-self

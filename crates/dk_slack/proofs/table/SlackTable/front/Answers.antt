@@ -1,6 +1,4 @@
-use Rattle.std.proofs.Common.{◌∙◌, ap}
-use Rattle.dk_slack.specs.Slack.{Slack}
-use Rattle.dk_slack.specs.Wishes.{first_node}
+use Rattle.dk_slack.proofs.Names.{◌∙◌, ap, Slack, first_node}
 use Rattle.dk_slack.proofs.Fronts.{front}
 use Rattle.dk_slack.proofs.table.SlackTable.front.Goals as goal
 

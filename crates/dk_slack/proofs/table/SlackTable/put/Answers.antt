@@ -1,7 +1,4 @@
-use Rattle.std.proofs.Common.{◌<◌, length, map, refl, ap, arith}
-use Rattle.std.proofs.lemmas.List.{length-map}
-use Rattle.dk_slack.specs.Kept.{wish_at}
-use Rattle.dk_slack.specs.Slack.{Slack}
+use Rattle.dk_slack.proofs.Names.{◌<◌, length, map, refl, ap, arith, length-map, wish_at, Slack}
 use Rattle.dk_slack.proofs.Tables.{free, sound-put, table-put}
 use Rattle.dk_slack.proofs.table.SlackTable.put.Goals as goal
 

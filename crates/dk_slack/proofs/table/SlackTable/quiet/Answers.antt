@@ -1,6 +1,4 @@
-use Rattle.std.proofs.Common.{◌∙◌, ap, sym}
-use Rattle.dk_slack.specs.Slack.{Slack}
-use Rattle.dk_slack.specs.Wishes.{first_node}
+use Rattle.dk_slack.proofs.Names.{◌∙◌, ap, sym, Slack, first_node}
 use Rattle.dk_slack.proofs.Fronts.{nobody}
 use Rattle.dk_slack.proofs.table.SlackTable.quiet.Goals as goal
 

@@ -1,8 +1,4 @@
-use Rattle.std.proofs.Common.{◌≡◌, ◌≤◌, ◌∙◌, ◌*◌, ℕ, List, [], ap, sym, refl, length, replicate, arith}
-use Rattle.std.proofs.lemmas.List.{length-replicate}
-use Rattle.dk_config.specs.declared.TheConstants.{MAX_COST, MAX_LEVELS, MAX_THREADS}
-use Rattle.dk_config.specs.Configuration.{Configuration}
-use Rattle.dk_slack.specs.Slack.{Slack, at_start}
+use Rattle.dk_slack.proofs.Names.{◌≡◌, ◌≤◌, ◌∙◌, ◌*◌, ℕ, List, [], ap, sym, refl, length, replicate, arith, length-replicate, MAX_COST, MAX_LEVELS, MAX_THREADS, Configuration, Slack, at_start}
 use Rattle.dk_slack.proofs.Running.{unclaimed-none}
 use Rattle.dk_slack.proofs.Tables.{sound-start, table-start}
 use Rattle.dk_slack.proofs.table.SlackTable.reserve.Goals as goal

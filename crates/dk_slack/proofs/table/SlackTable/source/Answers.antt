@@ -1,7 +1,4 @@
-use Rattle.std.proofs.Common.{◌∙◌, ap}
-use Rattle.dk_slack.specs.Slack.{Slack}
-use Rattle.dk_slack.specs.Unclaimed.{source}
-use Rattle.dk_slack.specs.Counters.{unclaimed_by}
+use Rattle.dk_slack.proofs.Names.{◌∙◌, ap, Slack, source, unclaimed_by}
 use Rattle.dk_slack.proofs.Lasting.{lasts-now}
 use Rattle.dk_slack.proofs.table.SlackTable.source.Goals as goal
 

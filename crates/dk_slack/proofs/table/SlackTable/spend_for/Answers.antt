@@ -1,6 +1,4 @@
-use Rattle.std.proofs.Common.{◌≡◌, ◌<◌, ◌-◌, ◌∙◌, ℕ, List, length, ap, arith}
-use Rattle.dk_slack.specs.declared.wanted.Wanted.{Wanted}
-use Rattle.dk_slack.specs.Kept.{row_of}
+use Rattle.dk_slack.proofs.Names.{◌≡◌, ◌<◌, ◌-◌, ◌∙◌, ℕ, List, length, ap, arith, Wanted, row_of}
 use Rattle.dk_slack.proofs.Tables.{amount-read, low, sound-lowered, table-lowered}
 use Rattle.dk_slack.proofs.table.SlackTable.spend_for.Goals as goal
 

@@ -1,5 +1,4 @@
-use Rattle.std.proofs.Common.{◌∙◌, sym, ap}
-use Rattle.dk_slack.specs.Kept.{row_of}
+use Rattle.dk_slack.proofs.Names.{◌∙◌, sym, ap, row_of}
 use Rattle.dk_slack.proofs.Tables.{amount-read, no_wish-read}
 use Rattle.dk_slack.proofs.table.SlackTable.want.Goals as goal
 

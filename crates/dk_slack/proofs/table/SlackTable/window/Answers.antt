@@ -1,6 +1,4 @@
-use Rattle.std.proofs.Common.{◌≡◌, ◌<◌, ◌%◌, ◌^◌, ◌∙◌, ℕ, List, length, set, ap, arith, length-set}
-use Rattle.dk_slack.specs.Slack.{Slack}
-use Rattle.dk_slack.specs.Counters.{AreCounters, unclaimed_by, run_of_slower}
+use Rattle.dk_slack.proofs.Names.{◌≡◌, ◌<◌, ◌%◌, ◌^◌, ◌∙◌, ℕ, List, length, set, ap, arith, length-set, Slack, AreCounters, unclaimed_by, run_of_slower}
 use Rattle.dk_slack.proofs.Running.{length-unclaimed, marked, put}
 use Rattle.dk_slack.proofs.table.SlackTable.window.Goals as goal
 

@@ -1,5 +1,4 @@
-use Rattle.std.proofs.Common.{List, ◌∙◌, ap, sym}
-use Rattle.dk_threads.specs.declared.row.ThreadRow.{ThreadRow}
+use Rattle.dk_threads.proofs.Names.{List, ◌∙◌, ap, sym, ThreadRow}
 use Rattle.dk_threads.proofs.Due.{none-ends}
 use Rattle.dk_threads.proofs.family.Family.end_due.Goals as goal
 

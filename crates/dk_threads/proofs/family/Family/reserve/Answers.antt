@@ -1,13 +1,6 @@
-use Rattle.std.proofs.Common.{◌≡◌, ◌<◌, ◌∙◌, ap, refl, subst, sym, ℕ, List, [], length, Option, None, Some}
-use Rattle.std.specs.Prelude.{slice_get}
-use Rattle.std.specs.Option.{option_map_or}
-use Rattle.std.proofs.lemmas.Option.{slice_get_read}
-use Rattle.dk_config.specs.Configuration.{Configuration}
+use Rattle.dk_threads.proofs.Names.{◌≡◌, ◌<◌, ◌∙◌, ap, refl, subst, sym, ℕ, List, [], length, Option, slice_get, option_map_or, slice_get_read, Configuration, Family, State, ThreadRow, first_family}
+use Rattle.std.proofs.Common.{None, Some}
 use Rattle.dk_config.specs.declared.rows.ProcessRow.{ProcessRow}
-use Rattle.dk_threads.specs.declared.family.Family.{Family}
-use Rattle.dk_threads.specs.declared.row.State.{State}
-use Rattle.dk_threads.specs.declared.row.ThreadRow.{ThreadRow}
-use Rattle.dk_threads.specs.Table.{first_family}
 use Rattle.dk_threads.proofs.family.Family.reserve.Goals as goal
 
 abbrev made : ℕ → ℕ → ℕ → List ThreadRow → Family

@@ -1,7 +1,4 @@
-use Rattle.std.proofs.Common.{◌≡◌, drop}
-use Rattle.std.specs.List.{list_any}
-use Rattle.dk_threads.specs.Rows.{ends_at}
-use Rattle.dk_threads.specs.Stored.{rows_at}
+use Rattle.dk_threads.proofs.Names.{◌≡◌, drop, list_any, ends_at, rows_at}
 use Rattle.dk_threads.proofs.rows.Rows.ends_at.Given as goal
 
 abbrev pub invariant-loop-key : goal.invariant-loop-key

@@ -1,7 +1,4 @@
-use Rattle.std.proofs.Common.{◌≡◌, drop}
-use Rattle.std.specs.Prelude.{find}
-use Rattle.dk_threads.specs.Rows.{is_row_of}
-use Rattle.dk_threads.specs.Stored.{rows_at}
+use Rattle.dk_threads.proofs.Names.{◌≡◌, drop, find, is_row_of, rows_at}
 use Rattle.dk_threads.proofs.rows.Rows.find.Given as goal
 
 abbrev pub invariant-loop-key : goal.invariant-loop-key

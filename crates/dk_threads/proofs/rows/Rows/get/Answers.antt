@@ -1,7 +1,4 @@
-use Rattle.std.proofs.Common.{◌≡◌, ◌<◌, ◌≤◌, ◌∙◌, List, ℕ, length, get_or, ap, sym, subst}
-use Rattle.std.specs.Prelude.{slice_get}
-use Rattle.slab.specs.Slab.{get}
-use Rattle.dk_threads.specs.declared.row.ThreadRow.{ThreadRow}
+use Rattle.dk_threads.proofs.Names.{◌≡◌, ◌<◌, ◌≤◌, ◌∙◌, List, ℕ, length, get_or, ap, sym, subst, slice_get, get, ThreadRow}
 use Rattle.dk_threads.proofs.Stored.{row_at, no_row_at}
 use Rattle.dk_threads.proofs.rows.Rows.get.Goals as goal
 

@@ -1,10 +1,4 @@
-use Rattle.std.proofs.Common.{◌≡◌, ◌<◌, ◌∙◌, ℕ, List, Option, length, get_or, Bool, true, false, ap, sym, arith}
-use Rattle.std.specs.List.{list_any}
-use Rattle.std.specs.Option.{option_map_or}
-use Rattle.std.proofs.lemmas.Bool.Decides.{nat_tests}
-use Rattle.slab.specs.Slab.{get}
-use Rattle.dk_threads.specs.declared.row.ThreadRow.{ThreadRow}
-use Rattle.dk_threads.specs.Rows.{has_slot}
+use Rattle.dk_threads.proofs.Names.{◌≡◌, ◌<◌, ◌∙◌, ℕ, List, Option, length, get_or, Bool, true, false, ap, sym, arith, list_any, option_map_or, nat_tests, get, ThreadRow, has_slot}
 use Rattle.dk_threads.proofs.Stored.{any-found, any-passed}
 use Rattle.dk_threads.proofs.rows.Rows.is_taken.Goals.{in-Some+else-row-slot, in_default}
 use Rattle.dk_threads.proofs.rows.Rows.is_taken.Goals as goal

@@ -1,6 +1,4 @@
-use Rattle.std.proofs.Common.{◌≡◌, drop}
-use Rattle.dk_threads.specs.Rows.{is_taken}
-use Rattle.dk_threads.specs.Stored.{rows_at}
+use Rattle.dk_threads.proofs.Names.{◌≡◌, drop, is_taken, rows_at}
 use Rattle.dk_threads.proofs.rows.Rows.is_taken.Given as goal
 
 abbrev pub invariant-loop-key : goal.invariant-loop-key

@@ -1,5 +1,4 @@
-use Rattle.std.proofs.Common.{◌≡◌, ◌∙◌, length, ap, sym, arith}
-use Rattle.dk_threads.specs.Stored.{rows_at}
+use Rattle.dk_threads.proofs.Names.{◌≡◌, ◌∙◌, length, ap, sym, arith, rows_at}
 use Rattle.dk_threads.proofs.Stored.{length-rows_at}
 use Rattle.dk_threads.proofs.rows.Rows.len.Goals as goal
 

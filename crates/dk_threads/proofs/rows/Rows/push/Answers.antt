@@ -1,6 +1,4 @@
-use Rattle.std.proofs.Common.{◌≡◌, ◌<◌, length, arith, length-append, sym, ap, refl, ◌∷◌, []}
-use Rattle.dk_config.specs.declared.TheConstants.{MAX_CHILDREN}
-use Rattle.dk_threads.specs.Stored.{rows_at}
+use Rattle.dk_threads.proofs.Names.{◌≡◌, ◌<◌, length, arith, length-append, sym, ap, refl, ◌∷◌, [], MAX_CHILDREN, rows_at}
 use Rattle.dk_threads.proofs.Stored.{not_among, rows_stay, length-rows_at, rows_at-push, AreKeys-more}
 use Rattle.dk_threads.proofs.rows.Rows.push.Goals as goal
 

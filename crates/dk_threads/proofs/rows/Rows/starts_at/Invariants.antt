@@ -1,7 +1,4 @@
-use Rattle.std.proofs.Common.{◌≡◌, drop}
-use Rattle.std.specs.List.{list_any}
-use Rattle.dk_threads.specs.Rows.{starts_at}
-use Rattle.dk_threads.specs.Stored.{rows_at}
+use Rattle.dk_threads.proofs.Names.{◌≡◌, drop, list_any, starts_at, rows_at}
 use Rattle.dk_threads.proofs.rows.Rows.starts_at.Given as goal
 
 abbrev pub invariant-loop-key : goal.invariant-loop-key

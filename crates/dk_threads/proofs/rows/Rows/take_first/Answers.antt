@@ -1,6 +1,4 @@
-use Rattle.std.proofs.Common.{◌≡◌, ◌<◌, ◌∙◌, ◌∷◌, length, sym, ap, arith}
-use Rattle.dk_config.specs.declared.TheConstants.{MAX_CHILDREN}
-use Rattle.dk_threads.specs.Stored.{rows_at, IsStored}
+use Rattle.dk_threads.proofs.Names.{◌≡◌, ◌<◌, ◌∙◌, ◌∷◌, length, sym, ap, arith, MAX_CHILDREN, rows_at, IsStored}
 use Rattle.dk_threads.proofs.Stored.{length-rows_at, first_out}
 use Rattle.dk_threads.proofs.rows.Rows.take_first.Goals as goal
 

@@ -1,9 +1,5 @@
-use Rattle.std.proofs.Common.{◌≡◌, ◌<◌, ◌+◌, ◌∙◌, ℕ, ap, sym, subst, ◌≤◌, arith}
-use Rattle.std.specs.Prelude.{Some, slice_get}
-use Rattle.dk_config.specs.declared.TheConstants.{MAX_CHILDREN}
-use Rattle.dk_threads.specs.Table.{Table, IsFamily, changed_at, begun}
+use Rattle.dk_threads.proofs.Names.{◌≡◌, ◌<◌, ◌+◌, ◌∙◌, ℕ, ap, sym, subst, ◌≤◌, arith, Some, slice_get, MAX_CHILDREN, Table, IsFamily, changed_at, begun, ThreadId}
 use Rattle.dk_threads.proofs.Families.{family_at, within-stands, room-at, few-at, serials-at, IsFamily-begun, AreFamilies-set, changed-set}
-use Rattle.dk_trace.specs.declared.ThreadId.{ThreadId}
 use Rattle.dk_threads.proofs.threads.Threads.begin.Goals as goal
 
 pub begin-requires-clause-room : goal.begin-requires-clause-room

@@ -1,5 +1,4 @@
-use Rattle.std.proofs.Common.{sym, subst}
-use Rattle.dk_threads.specs.Table.{AreFamilies, family_ended}
+use Rattle.dk_threads.proofs.Names.{sym, subst, AreFamilies, family_ended}
 use Rattle.dk_threads.proofs.Families.{AreFamilies-map, IsFamily-ended}
 use Rattle.dk_threads.proofs.threads.Threads.end_due.Goals as goal
 

@@ -1,6 +1,4 @@
-use Rattle.std.proofs.Common.{◌≡◌, ℕ, arith, length, ap, sym, subst}
-use Rattle.dk_config.specs.Configuration.{Configuration}
-use Rattle.dk_threads.specs.Table.{AreFamilies}
+use Rattle.dk_threads.proofs.Names.{◌≡◌, ℕ, arith, length, ap, sym, subst, Configuration, AreFamilies}
 use Rattle.dk_threads.proofs.Families.{AreFamilies-first}
 use Rattle.dk_threads.proofs.threads.Threads.reserve.Goals as goal
 

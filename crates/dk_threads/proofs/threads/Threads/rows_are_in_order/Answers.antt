@@ -1,5 +1,4 @@
-use Rattle.std.proofs.Common.{subst}
-use Rattle.dk_threads.specs.Table.{Table, AreFamilies}
+use Rattle.dk_threads.proofs.Names.{subst, Table, AreFamilies}
 use Rattle.dk_threads.proofs.threads.Threads.rows_are_in_order.Goals as goal
 
 pub returns : goal.returns

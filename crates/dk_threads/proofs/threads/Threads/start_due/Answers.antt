@@ -1,5 +1,4 @@
-use Rattle.std.proofs.Common.{sym, subst}
-use Rattle.dk_threads.specs.Table.{AreFamilies, family_started}
+use Rattle.dk_threads.proofs.Names.{sym, subst, AreFamilies, family_started}
 use Rattle.dk_threads.proofs.Families.{AreFamilies-map, IsFamily-started}
 use Rattle.dk_threads.proofs.threads.Threads.start_due.Goals as goal
 

@@ -1,7 +1,4 @@
-use Rattle.std.proofs.Common.{◌≡◌, ◌<◌, ◌∙◌, ℕ, length, ap, sym, subst}
-use Rattle.std.specs.Prelude.{All}
-use Rattle.dk_threads.specs.declared.row.ThreadRow.{ThreadRow}
-use Rattle.dk_threads.specs.Table.{Table, IsFamily, changed_at, all_stopped}
+use Rattle.dk_threads.proofs.Names.{◌≡◌, ◌<◌, ◌∙◌, ℕ, length, ap, sym, subst, All, ThreadRow, Table, IsFamily, changed_at, all_stopped}
 use Rattle.dk_threads.proofs.Families.{family_at, within-stands, levels-of, IsFamily-all_stopped, AreFamilies-set, changed-set}
 use Rattle.dk_threads.proofs.threads.Threads.stop_process.Goals as goal
 
