@@ -47,7 +47,15 @@ fn least_start<L: Ledger>(
     };
     let programs = pass.programs.as_slice();
     lead(&mut search, &mut late, programs, cycle.length, steps);
-    match first_start(&mut search, &mut early, &mut late, programs, processes, cycle, steps) {
+    match first_start(
+        &mut search,
+        &mut early,
+        &mut late,
+        programs,
+        processes,
+        cycle,
+        steps,
+    ) {
         Some(start) => Ok(start),
         // It never comes so: each process has a program.
         None => Err(NoMemory),
