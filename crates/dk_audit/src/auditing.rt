@@ -1,5 +1,5 @@
 //! The audit of a ledger.
-ghost use Rattle.std.specs.Prelude.{◌≡◌, ◌<◌, [], length, IfOk};
+ghost use Rattle.std.specs.Prelude.{◌≡◌, ◌<◌, length, IfOk};
 ghost use Rattle.dk_config.specs.Checked.{IsAccepted, IsChecked, IsWithinLimits};
 ghost use Rattle.dk_trace.specs.Guarantees.{Received, Bounded, Granted};
 ghost use Rattle.dk_bound.specs.ByWhen.{AllByWhen, ByWhen};

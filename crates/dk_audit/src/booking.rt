@@ -5,7 +5,6 @@ ghost use Rattle.dk_trace.specs.Audit.{MayHave, work_of};
 ghost use Rattle.dk_trace.specs.Entries.{thread_of};
 ghost use Rattle.dk_audit.specs.Booking.{IsBookedIf, IsEventOpen, IsOpen};
 
-use crate::rules::thread_of;
 use dk_bound::choice_law;
 use dk_dispatch::Dispatcher;
 use dk_steps::Steps;
@@ -33,7 +32,7 @@ fn owner_of(entry: Entry, event: Event) -> ThreadId
     ensures { thread_of entry.label ≡ Some result }
 {
     let _event = event;
-    match thread_of(entry.label) {
+    match entry.label.thread() {
         Some(id) => id,
         None => unreachable!(),
     }

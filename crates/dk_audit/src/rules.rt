@@ -1,7 +1,6 @@
 //! What the rules ask of an entry before its event is booked.
 ghost use Rattle.std.specs.Prelude.{◌≡◌, ◌↔◌, IsTrue, List, Option};
 ghost use Rattle.dk_trace.specs.declared.Event.{Event as TickEvent};
-ghost use Rattle.dk_trace.specs.Entries.{thread_of};
 ghost use Rattle.dk_trace.specs.Holds.{Hold, ends_hold, held_by};
 ghost use Rattle.dk_trace.specs.Audit.{HasChosenLabel, MayHave, work_of};
 ghost use Rattle.dk_mutex.specs.Recount.{last_locked};
@@ -17,19 +16,6 @@ pub fn is_chosen(choice: Choice, label: Label) -> bool
     ensures { IsTrue result ↔ HasChosenLabel choice label }
 {
     label == choice.label(Work::Run) || label == choice.label(Work::Call)
-}
-
-/// The thread that has the tick.
-pub fn thread_of(label: Label) -> Option<ThreadId>
-    ensures { result ≡ thread_of label }
-{
-    match label {
-        Label::In(thread) | Label::Run(thread) | Label::Call(thread) | Label::Out(thread) => {
-            Some(thread)
-        }
-        Label::Slack { thread, .. } => Some(thread),
-        Label::Kernel(_) | Label::Idle => None,
-    }
 }
 
 /// What the thread does in the tick; In where it executes nothing.
@@ -98,7 +84,7 @@ pub fn obeys(tables: &Dispatcher, entry: Entry) -> bool
     if !may_have(work_of(entry.label), entry.event) {
         return false;
     }
-    match thread_of(entry.label) {
+    match entry.label.thread() {
         Some(id) => keeps_hold(tables, id, entry.event),
         None => true,
     }

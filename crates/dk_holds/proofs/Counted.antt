@@ -40,14 +40,7 @@ after_other m (Some (Event.Lock k)) holds is locks unlocks =
     let other = locks k refl in
     ap (λ b. b || is_held m (given_back k holds)) other ∙ back_other m k holds other ∙ is
 after_other m (Some (Event.Unlock k)) holds is locks unlocks = back_other m k holds (unlocks k refl) ∙ is
-after_other m (Some Event.Wait) holds is locks unlocks = is
-after_other m (Some Event.Exit) holds is locks unlocks = is
-after_other m (Some (Event.Fault kind)) holds is locks unlocks = is
-after_other m (Some (Event.Create serial level quota)) holds is locks unlocks = is
-after_other m (Some (Event.Delete serial)) holds is locks unlocks = is
-after_other m (Some (Event.Slack amount)) holds is locks unlocks = is
-after_other m (Some (Event.Put value)) holds is locks unlocks = is
-after_other m (Some (Event.Refused refusal)) holds is locks unlocks = is
+after_other m (Some event) holds is locks unlocks = is
 
 -- a thread that goes on holding the mutex
 keeps : (m : ℕ) (x : ThreadId) (e : Entry) (past : List Entry) → ends m x e ≡ false → is_held m (held_by x past) ≡ true → is_held m (held_by x (e ∷ past)) ≡ true
@@ -72,17 +65,8 @@ keeps m x e past on is = go (is_of x e) refl
         (λ k event. sym (ap (λ o. has_event (is_unlock_of m) (record { label = e.label; event = o })) event) ∙ no_unlock)
 
 lock_event : (m : ℕ) (event : Option Event) → option_map_or (is_lock_of m) event false ≡ true → (k : ℕ) × (event ≡ Some (Event.Lock k)) × ((k == m) ≡ true)
-lock_event m None is = absurd (cc)
 lock_event m (Some (Event.Lock k)) is = (k, refl, is)
-lock_event m (Some (Event.Unlock k)) is = absurd (cc)
-lock_event m (Some Event.Wait) is = absurd (cc)
-lock_event m (Some Event.Exit) is = absurd (cc)
-lock_event m (Some (Event.Fault kind)) is = absurd (cc)
-lock_event m (Some (Event.Create serial level quota)) is = absurd (cc)
-lock_event m (Some (Event.Delete serial)) is = absurd (cc)
-lock_event m (Some (Event.Slack amount)) is = absurd (cc)
-lock_event m (Some (Event.Put value)) is = absurd (cc)
-lock_event m (Some (Event.Refused refusal)) is = absurd (cc)
+lock_event m event is = absurd (cc)
 
 lock_stops_none : (x : ThreadId) (label : Label) (k : ℕ) → stops x (record { label = label; event = Some (Event.Lock k) }) ≡ false
 lock_stops_none x label k = simp and_false refl

@@ -1,18 +1,19 @@
 -- The legend of the code is that of the definitions, and names what is drawn.
-use Rattle.std.proofs.Common.{ℕ, ◌≡◌, ◌++◌, [], List, refl, codes, inl, inr, ◌⊎◌}
+use Rattle.std.proofs.Common.{ℕ, ◌≡◌, ◌++◌, List, refl, sym, inl, inr, ◌⊎◌}
 use Rattle.std.specs.Fmt.{digits}
-use Rattle.std.specs.Prelude.{decimal}
 use Rattle.dk_trace.specs.declared.Event.{Event}
 use Rattle.dk_trace.specs.declared.Label.{Label}
 use Rattle.dk_trace.specs.declared.Source.{Source}
 use Rattle.dk_trace.specs.declared.Work.{Work}
 use Rattle.dk_trace.specs.Members.{Has}
-use Rattle.dk_trace.specs.Refusals.{number}
-use Rattle.dk_ledger.specs.LineText.{event_text, fault_text}
+use Rattle.dk_trace.specs.Says.{arguments_of, word_of}
+use Rattle.dk_ledger.specs.LineText.{argument_words, event_text}
+use Rattle.dk_entry_words.specs.Parted.{behind}
+use Rattle.dk_entry_words.proofs.ReadBack.{event_blanks}
 use Rattle.dk_picture.specs.declared.style.TheConstants.{LEGEND}
 use Rattle.dk_picture.specs.Bars.{class_of}
 use Rattle.dk_picture.specs.Elements.{rect_head}
-use Rattle.dk_picture.specs.Legends.{event_word, legend_rows, meaning_of, meanings, named_classes}
+use Rattle.dk_picture.specs.Legends.{legend_rows, meaning_of, meanings, named_classes}
 
 pub legend_is : LEGEND.now ≡ legend_rows
 unfolding digits rect_head legend_rows
@@ -44,14 +45,5 @@ marks_named (Event.Put value) = inr (inr (inr (inr (inr (inr (inr (inl refl)))))
 marks_named (Event.Refused refusal) = inr (inr (inr (inr (inr (inr (inr (inr (inl refl))))))))
 marks_named (Event.Fault kind) = inr (inr (inr (inr (inr (inr (inr (inr (inr (inl refl)))))))))
 
-pub words_begin : (e : Event) → (rest : List ℕ) × (event_text e ≡ event_word e ++ rest)
-words_begin Event.Wait = ([], refl)
-words_begin Event.Exit = ([], refl)
-words_begin (Event.Fault kind) = (codes " " ++ fault_text kind, refl)
-words_begin (Event.Create serial level quota) = (codes " " ++ decimal serial ++ codes " " ++ decimal level ++ codes " " ++ decimal quota, refl)
-words_begin (Event.Delete serial) = (codes " " ++ decimal serial, refl)
-words_begin (Event.Lock m) = (codes " " ++ decimal m, refl)
-words_begin (Event.Unlock m) = (codes " " ++ decimal m, refl)
-words_begin (Event.Slack amount) = (codes " " ++ decimal amount, refl)
-words_begin (Event.Put value) = (codes " " ++ decimal value, refl)
-words_begin (Event.Refused refusal) = (codes " " ++ decimal (number refusal), refl)
+pub words_begin : (e : Event) → (rest : List ℕ) × (event_text e ≡ word_of e ++ rest)
+words_begin e = (behind 32 (argument_words (arguments_of e)), sym (event_blanks e))

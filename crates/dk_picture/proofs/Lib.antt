@@ -6,6 +6,7 @@ pub mod Few
 pub mod Framed
 pub mod Groups
 pub mod InRows
+pub mod LabelParts
 pub mod Legends
 pub mod Pixels
 pub mod Plain

@@ -1,31 +1,29 @@
 -- The words that a picture has from a ledger are of letters, digits, dots, stars, underscores and blanks.
-use Rattle.std.proofs.Common.{ℕ, zero, suc, ◌≡◌, ◌∙◌, ◌+◌, ◌-◌, ◌<◌, ◌++◌, [], ◌∷◌, List, length, ap, refl, arith, codes}
-use Rattle.std.specs.Fmt.{digit_glyph, digits, digits_onto}
-use Rattle.std.specs.Prelude.{Bool, true, false, ◌&&◌, ◌==◌, ◌/◌, ◌%◌, nat_lt, if◌then◌else◌, decimal, Option, Some, None}
+use Rattle.std.proofs.Common.{ℕ, ◌≡◌, ◌+◌, ◌-◌, ◌++◌, [], ◌∷◌, List, length, refl, subst, arith, codes}
+use Rattle.std.specs.Fmt.{digits}
+use Rattle.std.specs.Prelude.{true, decimal, Option, Some, None}
 use Rattle.std.specs.List.{AllByRecursion, list_all}
 use Rattle.std.specs.Option.{option_map_or}
 use Rattle.std.proofs.lemmas.Bool.Decides.{nat_tests}
-use Rattle.dk_config.specs.Rules.{is_word}
-use Rattle.dk_isa.specs.declared.FaultKind.{FaultKind}
+use Rattle.dk_config.specs.Rules.{is_name, is_word}
 use Rattle.dk_trace.specs.declared.ThreadId.{ThreadId}
-use Rattle.dk_trace.specs.declared.Source.{Source}
-use Rattle.dk_trace.specs.declared.Work.{Work}
 use Rattle.dk_trace.specs.declared.Label.{Label}
 use Rattle.dk_trace.specs.declared.Event.{Event}
 use Rattle.dk_trace.specs.declared.Entry.{Entry}
 use Rattle.dk_trace.specs.Entries.{thread_of}
-use Rattle.dk_trace.specs.Refusals.{number}
 use Rattle.dk_ledger.specs.declared.header.ProcessLine.{ProcessLine}
 use Rattle.dk_ledger.specs.declared.line.LedgerLine.{LedgerLine}
 use Rattle.dk_ledger.specs.Heading.{Heading, name_of}
-use Rattle.dk_ledger.specs.LineText.{event_part, event_text, fault_text, label_text, line_body, source_text, thread_text, work_text}
+use Rattle.dk_ledger.specs.LineText.{event_text, line_body, thread_text}
+use Rattle.dk_ledger.specs.Words.{event_words, is_spelled, line_words}
 use Rattle.dk_ledger.specs.Readable.{IsProcessLine, IsReadable, IsReadableHeading}
 use Rattle.dk_ledger.proofs.EntryLists.{all_both}
 use Rattle.dk_ledger.proofs.NameLemmas.{both_right}
-use Rattle.dk_ledger.proofs.Split.{all_append}
+use Rattle.dk_ledger.proofs.Spelled.{all_append, event_spelled, line_spelled, number_spelled, process_spelled, thread_spelled}
+use Rattle.dk_entry_words.proofs.ReadBack.{event_blanks, line_blanks, printable}
+use Rattle.dk_entry_words.proofs.Spelled.{parted_all, word_all}
 use Rattle.dk_ledger.proofs.WordBytes.{all_more}
 use Rattle.dk_groups.specs.Groups.{groups}
-use Rattle.dk_groups.proofs.Names.{name_words}
 use Rattle.dk_hold_spans.specs.declared.hold.Hold.{Hold}
 use Rattle.dk_hold_spans.specs.HoldLists.{holds_in}
 use Rattle.dk_picture.specs.declared.rows.Row.{Row}
@@ -43,68 +41,19 @@ both = all_append is_plain
 word_plain : (b : ℕ) → is_word b ≡ true → is_plain b ≡ true
 word_plain b h = grind (arith, nat_tests)
 
--- ---- the digits of any number
+-- ---- the words of a line
 
-glyph_plain : (b : Bool) (d : ℕ) → d < 10 → is_plain (if b then 48 + d else 87 + d) ≡ true
-glyph_plain true d small = grind (arith, nat_tests)
-glyph_plain false d small = grind (arith, nat_tests)
-
-either_plain : (b : Bool) (s t : List ℕ) → IsPlain s → IsPlain t → IsPlain (if b then s else t)
-either_plain true s t ps pt = ps
-either_plain false s t ps pt = pt
-
-onto_plain : (k n : ℕ) (acc : List ℕ) → IsPlain acc → IsPlain (digits_onto k 10 false n acc)
-onto_plain zero n acc h = h
-onto_plain (suc k) n acc h =
-    let d = digit_glyph false (n % 10) in
-    let more : IsPlain (d ∷ acc) = ap (λ x. x && list_all is_plain acc) (glyph_plain (nat_lt (n % 10) 10) (n % 10) (omega arith)) ∙ h in
-    either_plain (n / 10 == 0) (d ∷ acc) (digits_onto k 10 false (n / 10) (d ∷ acc)) more (onto_plain k (n / 10) (d ∷ acc) more)
+spelled_plain : (b : ℕ) → is_spelled b ≡ true → is_plain b ≡ true
+spelled_plain b h = grind (arith, nat_tests)
 
 number_plain : (n : ℕ) → IsPlain (decimal n)
-unfolding digits
-number_plain n = onto_plain 64 n [] refl
+number_plain n = word_all is_plain spelled_plain (decimal n) (number_spelled n)
 
 counted_plain : (s : List ℕ) (n : ℕ) → IsPlain s → IsPlain (s ++ decimal n)
 counted_plain s n plain = both s (decimal n) plain (number_plain n)
 
--- ---- the words of a line
-
-fault_plain : (kind : FaultKind) → IsPlain (fault_text kind)
-fault_plain FaultKind.Fetch = refl
-fault_plain FaultKind.Decode = refl
-fault_plain FaultKind.Memory = refl
-fault_plain FaultKind.Divide = refl
-fault_plain FaultKind.Call = refl
-fault_plain FaultKind.Hold = refl
-
-work_plain : (work : Work) → IsPlain (work_text work)
-work_plain Work.In = refl
-work_plain Work.Run = refl
-work_plain Work.Call = refl
-
-source_plain : (source : Source) → IsPlain (source_text source)
-source_plain Source.Timeline = refl
-source_plain (Source.Reclaimed j) = counted_plain (codes "reclaimed ") j refl
-
 event_plain : (event : Event) → IsPlain (event_text event)
-event_plain Event.Wait = refl
-event_plain Event.Exit = refl
-event_plain (Event.Fault kind) = both (codes "fault ") (fault_text kind) refl (fault_plain kind)
-event_plain (Event.Create serial level quota) =
-    let one = codes "create " ++ decimal serial in
-    let two = one ++ codes " " ++ decimal level in
-    counted_plain (two ++ codes " ") quota
-    (both two (codes " ") (counted_plain (one ++ codes " ") level (both one (codes " ") (counted_plain (codes "create ") serial refl) refl)) refl)
-event_plain (Event.Delete serial) = counted_plain (codes "delete ") serial refl
-event_plain (Event.Lock m) = counted_plain (codes "lock ") m refl
-event_plain (Event.Unlock m) = counted_plain (codes "unlock ") m refl
-event_plain (Event.Slack amount) = counted_plain (codes "slack ") amount refl
-event_plain (Event.Put value) = counted_plain (codes "put ") value refl
-event_plain (Event.Refused refusal) = counted_plain (codes "refused ") (number refusal) refl
-
-part_plain : (event : Option Event) → IsPlain (event_part event)
-part_plain None = refl
-part_plain (Some event) = both (codes " ") (event_text event) refl (event_plain event)
+event_plain event = subst IsPlain (event_blanks event) (parted_all is_plain spelled_plain 32 refl (event_words (Some event)) (event_spelled (Some event)))
 
 processes_plain : (levels : ℕ) (ps : List ProcessLine) → AllByRecursion (IsProcessLine levels) ps → AllByRecursion (λ p. IsPlain p.name) ps
 processes_plain levels [] all = tt
@@ -112,35 +61,17 @@ processes_plain levels (p ∷ ps) all =
     (all_more is_word is_plain word_plain p.name (both_right _ (list_all is_word p.name) all.0.name), processes_plain levels ps all.1)
 
 module _ (h : Heading) (is : IsReadableHeading h) where
+  names : list_all (λ p. is_name p.name) h.processes ≡ true
+  names = (printable h is).names
+
   name_plain : (p : ℕ) → IsPlain (name_of h p)
-  name_plain p = all_more is_word is_plain word_plain (name_of h p) (name_words h is p)
+  name_plain p = word_all is_plain spelled_plain (name_of h p) (process_spelled h names p)
 
   thread_plain : (x : ThreadId) → IsPlain (thread_text h x)
-  thread_plain x = counted_plain (name_of h x.process ++ codes ".") x.serial (both (name_of h x.process) (codes ".") (name_plain x.process) refl)
-
-  of_thread : (s : List ℕ) (x : ThreadId) → IsPlain s → IsPlain (s ++ thread_text h x)
-  of_thread s x plain = both s (thread_text h x) plain (thread_plain x)
-
-  label_plain : (label : Label) → IsPlain (label_text h label)
-  label_plain (Label.Kernel j) = counted_plain (codes "kernel ") j refl
-  label_plain (Label.In x) = of_thread (codes "in ") x refl
-  label_plain (Label.Run x) = of_thread (codes "run ") x refl
-  label_plain (Label.Call x) = of_thread (codes "call ") x refl
-  label_plain (Label.Out x) = of_thread (codes "out ") x refl
-  label_plain (Label.Slack x source work) =
-      let one = codes "slack " ++ source_text source in
-      let two = one ++ codes " " ++ work_text work in
-      of_thread (two ++ codes " ") x
-      (both two (codes " ") (both (one ++ codes " ") (work_text work) (both one (codes " ") (both (codes "slack ") (source_text source) refl (source_plain source)) refl) (work_plain work)) refl)
-  label_plain Label.Idle = refl
+  thread_plain x = word_all is_plain spelled_plain (thread_text h x) (thread_spelled h names x)
 
   line_plain : (g : LedgerLine) → IsPlain (line_body h g)
-  line_plain g =
-      let one = decimal g.start ++ codes " " ++ decimal g.count in
-      both (one ++ codes " " ++ label_text h g.label) (event_part g.event)
-      (both (one ++ codes " ") (label_text h g.label)
-      (both one (codes " ") (counted_plain (decimal g.start ++ codes " ") g.count (both (decimal g.start) (codes " ") (number_plain g.start) refl)) refl)
-      (label_plain g.label)) (part_plain g.event)
+  line_plain g = subst IsPlain (line_blanks h g) (parted_all is_plain spelled_plain 32 refl (line_words h g) (line_spelled h names g))
 
   -- ---- the names and titles of a picture
 

@@ -2,6 +2,7 @@
 use Rattle.std.specs.Prelude.{ℕ, ◌+◌, ◌*◌, ◌++◌, ◌∷◌, [], List, codes, decimal, false, flat_map, length, map}
 use Rattle.dk_isa.specs.declared.FaultKind.{FaultKind}
 use Rattle.dk_trace.specs.declared.Event.{Event}
+use Rattle.dk_trace.specs.Says.{word_of}
 use Rattle.dk_trace.specs.declared.Label.{Label}
 use Rattle.dk_trace.specs.declared.Refusal.{Refusal}
 use Rattle.dk_trace.specs.declared.Source.{Source}
@@ -58,19 +59,6 @@ abbrev pub hold_sample : List ℕ
 hold_sample = rect_head hold_class (record { x = 622; y = 26; width = 12; height = hold_height })
     ++ codes "/>" ++ words_text 640 36 (codes "mutex held")
 
--- the word of an event, with which its title begins
-abbrev pub event_word : Event → List ℕ
-event_word Event.Wait = codes "wait"
-event_word Event.Exit = codes "exit"
-event_word (Event.Fault kind) = codes "fault"
-event_word (Event.Create serial level quota) = codes "create"
-event_word (Event.Delete serial) = codes "delete"
-event_word (Event.Lock m) = codes "lock"
-event_word (Event.Unlock m) = codes "unlock"
-event_word (Event.Slack amount) = codes "slack"
-event_word (Event.Put value) = codes "put"
-event_word (Event.Refused refusal) = codes "refused"
-
 -- an event that is marked in this way, and the middle of its mark
 pub record Shape : Type 0 where
   pub x : ℕ
@@ -91,7 +79,7 @@ shape_end _ = codes "'/>"
 
 abbrev pub shape_text : Shape → List ℕ
 shape_text s = codes "<path class='" ++ mark_class s.event ++ codes "' d='M" ++ decimal s.x ++ codes " 52"
-    ++ outline s.event ++ shape_end s.event ++ words_text (s.x + 8) 56 (event_word s.event)
+    ++ outline s.event ++ shape_end s.event ++ words_text (s.x + 8) 56 (word_of s.event)
 
 -- what a main used of its budget
 abbrev pub share_sample : List ℕ
@@ -117,7 +105,7 @@ pub record Meaning : Type 0 where
   pub word : List ℕ
 
 abbrev pub meaning_of : Event → Meaning
-meaning_of e = record { class = mark_class e; outline = outline e; word = event_word e }
+meaning_of e = record { class = mark_class e; outline = outline e; word = word_of e }
 
 abbrev pub meanings : List Meaning
 meanings = map (λ s. meaning_of s.event) shapes

@@ -4,13 +4,14 @@ ghost use Rattle.dk_trace.specs.declared.Event.{Event};
 ghost use Rattle.dk_trace.specs.declared.Label.{Label};
 ghost use Rattle.dk_trace.specs.declared.Label.TheVariants.{Idle};
 ghost use Rattle.dk_trace.specs.Members.{Has};
+ghost use Rattle.dk_trace.specs.Says.{word_of};
 ghost use Rattle.dk_ledger.specs.Heading.{Heading};
 ghost use Rattle.dk_ledger.specs.LineText.{event_text};
 ghost use Rattle.dk_ledger.specs.Readable.{IsReadable};
 ghost use Rattle.dk_groups.specs.Groups.{groups};
 ghost use Rattle.dk_picture.specs.Bars.{class_of, shift_of};
 ghost use Rattle.dk_picture.specs.HoldBars.{hold_class};
-ghost use Rattle.dk_picture.specs.Legends.{event_word, meaning_of, meanings, named_classes};
+ghost use Rattle.dk_picture.specs.Legends.{meaning_of, meanings, named_classes};
 ghost use Rattle.dk_picture.specs.Marks.{mark_class};
 ghost use Rattle.dk_picture.specs.Numbers.{max_groups};
 ghost use Rattle.dk_picture.specs.Pictures.{IsGreatestEnd, IsTooMany};
@@ -54,7 +55,7 @@ pub fn each_class_has_one_fill()
 pub fn the_legend_names_all()
     ensures bars { (label : Label) → (label ≡ Idle) ⊎ Has named_classes (class_of label) }
     ensures marks { (event : Event) → Has meanings (meaning_of event) }
-    ensures words { (event : Event) → (rest : List ℕ) × (event_text event ≡ event_word event ++ rest) }
+    ensures words { (event : Event) → (rest : List ℕ) × (event_text event ≡ word_of event ++ rest) }
 {}
 
 /// No word that the picture of a ledger that can be read has from it, as a name or a title, has a byte with which markup

@@ -10,7 +10,6 @@ use crate::hold_bars::mutex_row;
 use crate::lines::thread_words;
 use crate::rows::{Row, Rows};
 use crate::span::Span;
-use crate::threads::thread_of;
 use dk_hold_spans::Hold;
 use dk_ledger::{Header, LedgerLine};
 use dk_trace::{Label, ThreadId};
@@ -95,7 +94,7 @@ fn shared_label(
 {
     match row {
         Some(Row::Children(_)) => {
-            let thread = thread_of(group.label);
+            let thread = group.label.thread();
             serial_label(alloc, frame, span, place, group, thread)
         }
         _ => Ok(String::new(alloc)),

@@ -1,11 +1,15 @@
 //! Words of a ledger's lines.
 ghost use Rattle.std.specs.Prelude.{◌≡◌, ◌++◌, IfOk, codes, decimal, string_bytes};
+ghost use Rattle.dk_trace.specs.Entries.{thread_of};
 ghost use Rattle.dk_ledger.specs.Heading.{name_of};
-ghost use Rattle.dk_ledger.specs.LineText.{create_text, event_part, event_text, label_text, line_body, slack_text, source_text, thread_text};
+ghost use Rattle.dk_ledger.specs.LineText.{event_part, event_text, label_text, line_body, thread_text};
+ghost use Rattle.dk_entry_words.specs.Parted.{parted};
+ghost use Rattle.dk_entry_words.specs.Works.{work_words};
+ghost use Rattle.dk_picture.specs.Lines.{thread_part};
 
-use dk_groups::{fault_word, work_word};
+use dk_entry_words::{Separator, work_words};
 use dk_ledger::{Header, LedgerLine};
-use dk_trace::{Event, Label, Source, ThreadId, Work};
+use dk_trace::{Event, Label, ThreadId};
 use std::alloc::{AllocError, Global};
 
 /// The name on the process's line, and nothing where there is none.
@@ -34,117 +38,57 @@ fn named_thread(alloc: Global, name: &str, serial: u32) -> Result<String, AllocE
     format!(in alloc; "{name}.{serial}")
 }
 
-fn source_words(alloc: Global, source: Source) -> Result<String, AllocError>
-    ensures { IfOk result (λ s. string_bytes s ≡ source_text source) }
+/// A blank and the thread of the label, where it has one.
+fn thread_part_words(alloc: Global, header: &Header, label: Label) -> Result<String, AllocError>
+    ensures { IfOk result (λ s. string_bytes s ≡ thread_part header.now (thread_of label)) }
 {
-    match source {
-        Source::Timeline => String::from_str(alloc, "timeline"),
-        Source::Reclaimed(level) => format!(in alloc; "reclaimed {level}"),
+    match label.thread() {
+        Some(thread) => {
+            let words = thread_words(alloc, header, thread)?;
+            behind_blank(alloc, words.as_str())
+        }
+        None => Ok(String::new(alloc)),
     }
 }
 
-fn two_words(alloc: Global, first: &str, second: &str) -> Result<String, AllocError>
-    ensures { IfOk result (λ s. string_bytes s ≡ first.now ++ (codes " " ++ second.now)) }
+fn behind_blank(alloc: Global, words: &str) -> Result<String, AllocError>
+    ensures { IfOk result (λ s. string_bytes s ≡ codes " " ++ words.now) }
 {
-    format!(in alloc; "{first} {second}")
+    format!(in alloc; " {words}")
 }
 
-fn slack_parts(alloc: Global, source: &str, work: &str, thread: &str) -> Result<String, AllocError>
+fn two_texts(alloc: Global, first: &str, second: &str) -> Result<String, AllocError>
+    ensures { IfOk result (λ s. string_bytes s ≡ first.now ++ second.now) }
+{
+    format!(in alloc; "{first}{second}")
+}
+
+/// What a tick of the label is for, and its thread.
+fn label_parts(alloc: Global, header: &Header, label: Label) -> Result<String, AllocError>
     ensures { IfOk result (λ s. string_bytes s
-        ≡ codes "slack " ++ (source.now ++ (codes " " ++ (work.now ++ (codes " " ++ thread.now))))) }
+        ≡ parted 32 (work_words label) ++ thread_part header.now (thread_of label)) }
 {
-    format!(in alloc; "slack {source} {work} {thread}")
-}
-
-fn slack_words(alloc: Global, source: &str, work: &str, thread: &str) -> Result<String, AllocError>
-    ensures { IfOk result (λ s. string_bytes s
-        ≡ codes "slack " ++ source.now ++ codes " " ++ work.now ++ codes " " ++ thread.now) }
-{
-    slack_parts(alloc, source, work, thread)
-}
-
-fn work_of_words(
-    alloc: Global,
-    work: &str,
-    header: &Header,
-    thread: ThreadId,
-) -> Result<String, AllocError>
-    ensures { IfOk result (λ s. string_bytes s ≡ work.now ++ (codes " " ++ thread_text header.now thread)) }
-{
-    let thread = thread_words(alloc, header, thread)?;
-    two_words(alloc, work, thread.as_str())
-}
-
-fn slack_label(
-    alloc: Global,
-    header: &Header,
-    thread: ThreadId,
-    source: Source,
-    work: Work,
-) -> Result<String, AllocError>
-    ensures { IfOk result (λ s. string_bytes s ≡ slack_text header.now thread source work) }
-{
-    let source = source_words(alloc, source)?;
-    let thread = thread_words(alloc, header, thread)?;
-    slack_words(alloc, source.as_str(), work_word(work), thread.as_str())
+    let thread = thread_part_words(alloc, header, label)?;
+    two_texts(
+        alloc,
+        work_words(label, Separator::Blank).as_str(),
+        thread.as_str(),
+    )
 }
 
 fn label_words(alloc: Global, header: &Header, label: Label) -> Result<String, AllocError>
     ensures { IfOk result (λ s. string_bytes s ≡ label_text header.now label) }
 {
-    match label {
-        Label::Kernel(level) => format!(in alloc; "kernel {level}"),
-        Label::In(thread) => work_of_words(alloc, "in", header, thread),
-        Label::Run(thread) => work_of_words(alloc, "run", header, thread),
-        Label::Call(thread) => work_of_words(alloc, "call", header, thread),
-        Label::Out(thread) => work_of_words(alloc, "out", header, thread),
-        Label::Slack {
-            thread,
-            source,
-            work,
-        } => slack_label(alloc, header, thread, source, work),
-        Label::Idle => String::from_str(alloc, "idle"),
-    }
-}
-
-fn create_parts(alloc: Global, serial: u32, level: u8, quota: u32) -> Result<String, AllocError>
-    ensures { IfOk result (λ s. string_bytes s
-        ≡ codes "create " ++ (decimal serial ++ (codes " " ++ (decimal level ++ (codes " " ++ decimal quota))))) }
-{
-    format!(in alloc; "create {serial} {level} {quota}")
-}
-
-fn create_words(alloc: Global, serial: u32, level: u8, quota: u32) -> Result<String, AllocError>
-    ensures { IfOk result (λ s. string_bytes s ≡ create_text serial level quota) }
-{
-    create_parts(alloc, serial, level, quota)
-}
-
-fn counted_words(alloc: Global, word: &str, number: u32) -> Result<String, AllocError>
-    ensures { IfOk result (λ s. string_bytes s ≡ word.now ++ (codes " " ++ decimal number)) }
-{
-    format!(in alloc; "{word} {number}")
+    label_parts(alloc, header, label)
 }
 
 pub(crate) fn event_words(alloc: Global, event: Event) -> Result<String, AllocError>
     ensures { IfOk result (λ s. string_bytes s ≡ event_text event) }
 {
-    match event {
-        Event::Wait => String::from_str(alloc, "wait"),
-        Event::Exit => String::from_str(alloc, "exit"),
-        Event::Fault(kind) => two_words(alloc, "fault", fault_word(kind)),
-        Event::Create {
-            serial,
-            level,
-            quota,
-        } => create_words(alloc, serial, level, quota),
-        Event::Delete(serial) => counted_words(alloc, "delete", serial),
-        Event::Lock(mutex) => counted_words(alloc, "lock", mutex as u32),
-        Event::Unlock(mutex) => counted_words(alloc, "unlock", mutex as u32),
-        Event::Slack(amount) => counted_words(alloc, "slack", amount),
-        Event::Put(value) => counted_words(alloc, "put", value),
-        Event::Refused(refusal) => counted_words(alloc, "refused", refusal.number() as u32),
-    }
+    String::from_str(
+        alloc,
+        dk_entry_words::event_words(event, Separator::Blank).as_str(),
+    )
 }
 
 /// A blank and the event, where there is one.
@@ -154,7 +98,7 @@ fn event_part_words(alloc: Global, event: Option<Event>) -> Result<String, Alloc
     match event {
         Some(event) => {
             let words = event_words(alloc, event)?;
-            two_words(alloc, "", words.as_str())
+            behind_blank(alloc, words.as_str())
         }
         None => Ok(String::new(alloc)),
     }

@@ -5,7 +5,6 @@ ghost use Rattle.dk_groups.specs.Groups.{groups};
 ghost use Rattle.dk_groups.specs.Cutting.{HasGiven, IsCutting};
 ghost use Rattle.dk_picture.specs.Makings.{has_made, is_line_before, makes_child, making_of, makings, makings_in};
 
-use crate::threads::thread_of;
 use dk_config::NoMemory;
 use dk_groups::GroupReader;
 use dk_ledger::LedgerLine;
@@ -58,7 +57,7 @@ pub(crate) fn read_makings(
 fn is_line_before(thread: ThreadId, tick: u64, group: &LedgerLine) -> bool
     ensures { result ≡ is_line_before thread tick group.now }
 {
-    match thread_of(group.label) {
+    match group.label.thread() {
         Some(owner) => { thread.is_same(owner) && group.start as u64 + group.count as u64 <= tick }
         None => false,
     }

@@ -7,7 +7,6 @@ use crate::frame::Frame;
 use crate::lines::{event_words, thread_words};
 use crate::rows::Rows;
 use crate::span::Span;
-use crate::threads::thread_of;
 use dk_ledger::{Header, LedgerLine};
 use dk_trace::{Event, Label};
 use std::alloc::{AllocError, Global};
@@ -75,7 +74,7 @@ fn titled(alloc: Global, tick: u64, thread: &str, event: &str) -> Result<String,
 fn owner_words(alloc: Global, header: &Header, label: Label) -> Result<String, AllocError>
     ensures { IfOk result (λ s. string_bytes s ≡ owner_words header.now label) }
 {
-    match thread_of(label) {
+    match label.thread() {
         Some(thread) => thread_words(alloc, header, thread),
         None => Ok(String::new(alloc)),
     }

@@ -1,7 +1,6 @@
 //! The children of a process that have groups.
 ghost use Rattle.std.specs.Prelude.{◌≡◌, ◌==◌, IfOk, OnOk};
 ghost use Rattle.std.specs.List.{list_any};
-ghost use Rattle.dk_trace.specs.Entries.{thread_of};
 ghost use Rattle.dk_picture.specs.Rows.{child_of, children, with_child};
 
 use dk_config::NoMemory;
@@ -9,25 +8,11 @@ use dk_ledger::LedgerLine;
 use dk_trace::{Label, ThreadId};
 use std::alloc::Global;
 
-/// The thread that had the ticks of the label.
-pub(crate) fn thread_of(label: Label) -> Option<ThreadId>
-    ensures { result ≡ thread_of label }
-{
-    match label {
-        Label::In(thread)
-        | Label::Run(thread)
-        | Label::Call(thread)
-        | Label::Out(thread)
-        | Label::Slack { thread, .. } => Some(thread),
-        Label::Kernel(_) | Label::Idle => None,
-    }
-}
-
 /// The serial of a child of the process that had the group.
 fn child_of(process: u8, label: Label) -> Option<u32>
     ensures { result ≡ child_of process label }
 {
-    match thread_of(label) {
+    match label.thread() {
         Some(thread) => {
             if thread.process == process && thread.serial != 0 {
                 Some(thread.serial)

@@ -32,6 +32,7 @@ use Rattle.dk_trace_events.specs.HoldSlices.{ended_holds, hold_slice, hold_text,
 use Rattle.dk_trace_events.specs.LevelWindows.{level_texts}
 use Rattle.dk_trace_events.specs.Names.{child_name, made_by, made_name, process_texts}
 use Rattle.dk_trace_events.specs.Traces.{end_text, groups_text, head_text, objects_text, tail_text, trace_text}
+use Rattle.dk_entry_words.proofs.ReadBack.{printable}
 use Rattle.dk_trace_events.proofs.Safe.{is_safe, line_safe}
 
 -- what every object with a line or a name begins with
@@ -125,7 +126,7 @@ module _ (h : Heading) (is : IsReadableHeading h) where
       sym (append_assoc (group_objects h before g) (texts g gs) r) ∙ e ∙ append_assoc (group_objects h before k) (texts k ks) s in
       let bodies = append_cancel_left (codes "{\"args\":{\"line\":\"") (line_body h g ++ behind_line h before g more) (line_body h k ++ behind_line h before k rest)
       (sym (opened h before g more) ∙ whole ∙ opened h before k rest) in
-      let line = (until is_safe (line_body h g) (line_body h k) 34 34 _ _ (line_safe h is g pg.0) (line_safe h is k pk.0) refl refl bodies).0 in
+      let line = (until is_safe (line_body h g) (line_body h k) 34 34 _ _ (line_safe h (printable h is) g) (line_safe h (printable h is) k) refl refl bodies).0 in
       let same : g ≡ k = one_line h is.few_levels (names_fit (length h.levels) h.processes is.processes) is.own_names g k pg.0 pk.0 line in
       let later = append_cancel_left (group_objects h before k) (texts k gs ++ r) rest
       (ap (λ x. group_objects h before x ++ (texts x gs ++ r)) (sym same) ∙ whole) in

@@ -2,11 +2,12 @@
 -- an object on a line of its own.
 use Rattle.std.specs.Prelude.{ℕ, ◌+◌, ◌-◌, ◌++◌, [], List, codes, decimal, Option, Some, None}
 use Rattle.dk_trace.specs.declared.Event.{Event}
+use Rattle.dk_trace.specs.Says.{word_of}
 use Rattle.dk_ledger.specs.declared.line.LedgerLine.{LedgerLine}
 use Rattle.dk_ledger.specs.Heading.{Heading}
 use Rattle.dk_ledger.specs.LineText.{event_text, line_body}
 use Rattle.dk_trace_events.specs.declared.tracks.Track.{Track}
-use Rattle.dk_trace_events.specs.Words.{category, event_kind, track_of, word_text}
+use Rattle.dk_trace_events.specs.Words.{category, track_of, word_text}
 use Rattle.dk_trace_events.specs.SlackPoints.{slack_point}
 
 abbrev pub place_text : Track → List ℕ
@@ -26,7 +27,7 @@ slice_text h g = codes "{\"args\":{\"line\":\"" ++ (line_body h g ++ slice_rest 
 -- an event is in the last tick of its slice
 abbrev pub instant_text : LedgerLine → Event → List ℕ
 instant_text g e =
-    codes "{\"cat\":\"" ++ event_kind e ++ codes "\",\"name\":\"" ++ event_text e ++ codes "\",\"ph\":\"i\",\"s\":\"t\""
+    codes "{\"cat\":\"" ++ word_of e ++ codes "\",\"name\":\"" ++ event_text e ++ codes "\",\"ph\":\"i\",\"s\":\"t\""
     ++ place_text (track_of g.label) ++ codes ",\"ts\":" ++ decimal (g.start + (g.count - 1)) ++ codes "},\n"
 
 abbrev pub event_lines : LedgerLine → Option Event → List ℕ

@@ -12,7 +12,7 @@ use crate::tracks::{push_place, thread_track};
 use crate::words::push_thread;
 use dk_ledger::{Header, LedgerLine, ProcessLine};
 use dk_outside::{Sink, SinkError};
-use dk_trace::{Event, Label, ThreadId};
+use dk_trace::{Event, ThreadId};
 
 fn push_process_name(text: &mut Line, process: u8, line: &ProcessLine)
     requires name { is_name line.now.name ≡ true }
@@ -116,15 +116,8 @@ fn child_track(header: &Header, thread: ThreadId) -> Line
 fn made_by(line: LedgerLine) -> Option<ThreadId>
     ensures { result ≡ made_by line }
 {
-    match (line.label, line.event) {
-        (
-            Label::In(thread)
-            | Label::Run(thread)
-            | Label::Call(thread)
-            | Label::Out(thread)
-            | Label::Slack { thread, .. },
-            Some(Event::Create { serial, .. }),
-        ) => Some(ThreadId {
+    match (line.label.thread(), line.event) {
+        (Some(thread), Some(Event::Create { serial, .. })) => Some(ThreadId {
             process: thread.process,
             serial,
         }),

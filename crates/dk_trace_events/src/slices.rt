@@ -16,7 +16,7 @@ ghost use Rattle.dk_trace_events.specs.Traces.{groups_text, objects_text};
 use crate::line::Line;
 use crate::slack::{SlackUsed, write_point, write_start};
 use crate::tracks::{push_place, track_of};
-use crate::words::{category, event_kind, push_event, push_line, push_word};
+use crate::words::{category, push_event, push_line, push_work};
 use dk_groups::{GroupReader, WriteFault};
 use dk_ledger::{Header, LedgerLine};
 use dk_outside::{Sink, SinkError};
@@ -34,7 +34,7 @@ fn push_rest(text: &mut Line, group: LedgerLine)
     text.word("\",\"dur\":");
     text.number(group.count as u64);
     text.word(",\"name\":\"");
-    push_word(text, group.label);
+    push_work(text, group.label);
     text.word("\",\"ph\":\"X\"");
     push_place(text, track_of(group.label));
     text.word(",\"ts\":");
@@ -61,7 +61,7 @@ fn instant_of(group: LedgerLine, event: Event) -> Line
 {
     let mut text = Line::new();
     text.word("{\"cat\":\"");
-    text.word(event_kind(event));
+    text.word(event.word());
     text.word("\",\"name\":\"");
     push_event(&mut text, event);
     text.word("\",\"ph\":\"i\",\"s\":\"t\"");

@@ -5,6 +5,7 @@ use Rattle.json.specs.Json.{number, string}
 use Rattle.serde_json.specs.Data as values
 use Rattle.dk_trace.specs.declared.ThreadId.{ThreadId}
 use Rattle.dk_trace.specs.declared.Event.{Event}
+use Rattle.dk_trace.specs.Says.{word_of}
 use Rattle.dk_trace.specs.Ranges.{HasEvent}
 use Rattle.dk_ledger.specs.declared.line.LedgerLine.{LedgerLine}
 use Rattle.dk_ledger.specs.declared.header.ProcessLine.{ProcessLine}
@@ -12,7 +13,7 @@ use Rattle.dk_ledger.specs.Heading.{Heading}
 use Rattle.dk_ledger.specs.LineText.{event_text, line_body, thread_text}
 use Rattle.dk_ledger.specs.Readable.{IsReadableHeading, IsProcessLine, size_in}
 use Rattle.dk_ledger.proofs.EntryLists.{IsReadableLine}
-use Rattle.dk_trace_events.specs.Words.{category, event_kind, thread_track, track_of, word_text}
+use Rattle.dk_trace_events.specs.Words.{category, thread_track, track_of, word_text}
 use Rattle.dk_trace_events.specs.Slices as slices
 use Rattle.dk_trace_events.specs.SlackPoints.{point_text, slack_in}
 use Rattle.dk_trace_events.specs.Names as names
@@ -20,13 +21,14 @@ use Rattle.dk_trace_events.specs.HoldSlices as holds
 use Rattle.dk_trace_events.specs.HoldSlices.{mutex_track}
 use Rattle.dk_trace_events.specs.LevelWindows as windows
 use Rattle.dk_trace_events.specs.LevelWindows.{level_track}
-use Rattle.dk_trace_events.proofs.Safe.{Safe, both, event_safe, line_safe}
+use Rattle.dk_entry_words.proofs.ReadBack.{printable}
+use Rattle.dk_trace_events.proofs.Safe.{Safe, both, decimal_safe, event_safe, kind_safe, label_word_safe, line_safe, thread_safe}
 use Rattle.dk_trace_json.specs.Events.{argument, process_event}
 use Rattle.dk_trace_json.specs.Values.{group_slice, hold_slice, instants, process_name, process_order, slack_value, thread_name, track_name, track_order, window_slice}
 use Rattle.dk_trace_json.proofs.Pieces.{bytes, place, behind_apart, taken_apart}
 use Rattle.dk_trace_json.proofs.Reading.{Adds, Ends, IsCount, adds_none, adds_one, counted, digit, ends_with}
 use Rattle.dk_trace_json.proofs.Shapes.{IsPlace, count_args, counter_is, counter_json, instant_is, instant_json, one_member, placed, process_is, process_json, slack_args, slice_is, slice_json, text_args, thread_is, thread_json}
-use Rattle.dk_trace_json.proofs.Words.{category_safe, decimal_safe, kind_safe, label_place, label_word_safe, process_safe, thread_name_safe}
+use Rattle.dk_trace_json.proofs.Words.{category_safe, label_place, process_safe}
 
 -- ---- metadata
 
@@ -152,7 +154,7 @@ module _ (h : Heading) (is : IsReadableHeading h) where
       let args = count_args (codes "mutex") (decimal m) m refl (counted m (omega (arith, few))) in
       let at = placed (mutex_track m).pid (mutex_track m).tid (omega arith) (omega (arith, few)) in
       adds_one (slice_json (one_member (codes "mutex") (number (decimal m))) (codes "hold") (last - first) (thread_text h x) (mutex_track m).pid (mutex_track m).tid first) _ (holds.hold_slice h m x first last)
-      (slice_is _ _ args (codes "hold") (last - first) (thread_text h x) (mutex_track m).pid (mutex_track m).tid first refl (thread_name_safe h is x) at (omega (arith, ends)) begins)
+      (slice_is _ _ args (codes "hold") (last - first) (thread_text h x) (mutex_track m).pid (mutex_track m).tid first refl (thread_safe h (printable h is) x) at (omega (arith, ends)) begins)
       (taken_apart (codes "{\"args\":{\"mutex\":") (bytes (decimal m) ∷ bytes (codes "},\"cat\":\"hold\",\"dur\":") ∷ bytes (decimal (last - first)) ∷ bytes (codes ",\"name\":\"") ∷ bytes (thread_text h x)
       ∷ bytes (codes "\",\"ph\":\"X\"") ∷ place (mutex_track m).pid (mutex_track m).tid ∷ bytes (codes ",\"ts\":") ∷ bytes (decimal first) ∷ bytes (codes "},\n") ∷ []))
 
@@ -162,7 +164,7 @@ module _ (h : Heading) (is : IsReadableHeading h) where
     pub group_sliced : Adds (slices.slice_text h g) (group_slice h g ∷ [])
     group_sliced =
         let short = fits.short in
-        let args = text_args (codes "line") (line_body h g) refl (line_safe h is g fits) in
+        let args = text_args (codes "line") (line_body h g) refl (line_safe h (printable h is) g) in
         adds_one (slice_json (one_member (codes "line") (string (line_body h g))) (category g.label) g.count (word_text g.label) (track_of g.label).pid (track_of g.label).tid g.start) (group_slice h g) (slices.slice_text h g)
         (slice_is _ _ args (category g.label) g.count (word_text g.label) (track_of g.label).pid (track_of g.label).tid g.start (category_safe g.label) (label_word_safe g.label) (label_place h is g.label fits.label)
         (omega (arith, short)) (omega (arith, short)))
@@ -174,7 +176,7 @@ module _ (h : Heading) (is : IsReadableHeading h) where
     event_shown (Some e) own =
         let short = fits.short in
         let tick = g.start + (g.count - 1) in
-        adds_one (instant_json (event_kind e) (event_text e) (track_of g.label).pid (track_of g.label).tid tick) _ (slices.instant_text g e)
-        (instant_is (event_kind e) (event_text e) (track_of g.label).pid (track_of g.label).tid tick (kind_safe e) (event_safe h is e own) (label_place h is g.label fits.label) (omega (arith, short)))
-        (taken_apart (codes "{\"cat\":\"") (bytes (event_kind e) ∷ bytes (codes "\",\"name\":\"") ∷ bytes (event_text e) ∷ bytes (codes "\",\"ph\":\"i\",\"s\":\"t\"") ∷ place (track_of g.label).pid (track_of g.label).tid
+        adds_one (instant_json (word_of e) (event_text e) (track_of g.label).pid (track_of g.label).tid tick) _ (slices.instant_text g e)
+        (instant_is (word_of e) (event_text e) (track_of g.label).pid (track_of g.label).tid tick (kind_safe e) (event_safe e) (label_place h is g.label fits.label) (omega (arith, short)))
+        (taken_apart (codes "{\"cat\":\"") (bytes (word_of e) ∷ bytes (codes "\",\"name\":\"") ∷ bytes (event_text e) ∷ bytes (codes "\",\"ph\":\"i\",\"s\":\"t\"") ∷ place (track_of g.label).pid (track_of g.label).tid
         ∷ bytes (codes ",\"ts\":") ∷ bytes (decimal tick) ∷ bytes (codes "},\n") ∷ []))

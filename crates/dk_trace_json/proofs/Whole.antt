@@ -35,11 +35,12 @@ use Rattle.dk_trace_events.specs.HoldSlices as holds
 use Rattle.dk_trace_events.specs.LevelWindows as windows
 use Rattle.dk_trace_events.specs.Behind.{line_text, past_of}
 use Rattle.dk_trace_events.specs.Traces.{trace_text}
-use Rattle.dk_trace_events.proofs.Safe.{both}
+use Rattle.dk_entry_words.proofs.ReadBack.{printable}
+use Rattle.dk_trace_events.proofs.Safe.{both, thread_safe}
 use Rattle.dk_trace_json.specs.Values.{child_values, group_values, head_values, hold_slice, hold_values, levels_values, line_values, mutex_names, of_mutexes, processes_values, shown_window, slack_value, slack_values, start_values, trace_value, values_behind, window_slice, windows_of}
 use Rattle.dk_trace_json.proofs.Reading.{Adds, adds_both, adds_each, adds_none, all_read, digit}
 use Rattle.dk_trace_json.proofs.Objects.{event_shown, group_sliced, hold_sliced, last_read, level_named, level_ordered, mutex_named, names_process, names_track, orders_process, process_labelled, process_named, process_ordered, slack_pointed, thread_named, window_sliced}
-use Rattle.dk_trace_json.proofs.Words.{child_known, event_known, process_safe, thread_known, thread_name_safe, thread_place, thread_small}
+use Rattle.dk_trace_json.proofs.Words.{child_known, event_known, process_safe, thread_known, thread_place, thread_small}
 
 -- ---- the head
 
@@ -164,7 +165,7 @@ module _ (h : Heading) (is : IsReadableHeading h) where
 
   child_adds : (o : Option ThreadId) → IfSome o (HasThread (size_in h)) → Adds (child_name h o) (child_values h o)
   child_adds None known = adds_none
-  child_adds (Some x) known = thread_named _ x (thread_name_safe h is x) (thread_place h is x known)
+  child_adds (Some x) known = thread_named _ x (thread_safe h (printable h is) x) (thread_place h is x known)
 
   line_adds : (from : ℕ) (before : List LedgerLine) (l : LedgerLine) → IsReadableLine h l → Adds (line_text h from before l) (line_values h from before l)
   line_adds from before l fits =

@@ -8,6 +8,7 @@ use Rattle.dk_certify.specs.declared.table.TableRow.{TableRow}
 use Rattle.dk_trace.specs.declared.ThreadId.{ThreadId}
 use Rattle.dk_trace.specs.declared.Event.{Event}
 use Rattle.dk_trace.specs.declared.Entry.{Entry}
+use Rattle.dk_trace.specs.Says.{word_of}
 use Rattle.dk_ledger.specs.declared.line.LedgerLine.{LedgerLine}
 use Rattle.dk_ledger.specs.declared.header.ProcessLine.{ProcessLine}
 use Rattle.dk_ledger.specs.Heading.{Heading}
@@ -15,7 +16,7 @@ use Rattle.dk_ledger.specs.LineText.{event_text, line_body, thread_text}
 use Rattle.dk_groups.specs.Groups.{groups}
 use Rattle.dk_holds.specs.declared.holding.Holding.{Holding}
 use Rattle.dk_holds.specs.Holds.{ended, holding, last_entry}
-use Rattle.dk_trace_events.specs.Words.{category, event_kind, thread_track, track_of, word_text}
+use Rattle.dk_trace_events.specs.Words.{category, thread_track, track_of, word_text}
 use Rattle.dk_trace_events.specs.SlackPoints.{is_as_before, slack_in}
 use Rattle.dk_trace_events.specs.Names.{made_by}
 use Rattle.dk_trace_events.specs.HoldSlices.{mutex_track}
@@ -74,7 +75,7 @@ group_slice h g = slice_event (argument (codes "line") (string (line_body h g)))
 -- an event is in the last tick of its group
 abbrev pub instants : LedgerLine → Option Event → List Data
 instants g None = []
-instants g (Some e) = instant_event (event_kind e) (event_text e) (track_of g.label).pid (track_of g.label).tid (g.start + (g.count - 1)) ∷ []
+instants g (Some e) = instant_event (word_of e) (event_text e) (track_of g.label).pid (track_of g.label).tid (g.start + (g.count - 1)) ∷ []
 
 -- the counter of the slack of these groups, from a tick on
 abbrev pub slack_value : ℕ → List LedgerLine → Data

@@ -49,31 +49,19 @@ ends_none x e = simp and_false refl
 
 -- neither a lock nor an unlock of it, nor an end of anybody
 others : (m n : ℕ) (label : Label) (event : Event) (held : Option Holding) → is_told (Occasion.Behind event) m ≡ false → behind m n (entry label event) held ≡ held
-others m n label Event.Wait None is = refl
-others m n label Event.Wait (Some h) is = kept h (ends m h.thread (entry label Event.Wait)) (ends_none h.thread (entry label Event.Wait))
 others m n label Event.Exit held is = absurd (let no : true ≡ false = is in cc)
 others m n label (Event.Fault kind) held is = absurd (let no : true ≡ false = is in cc)
-others m n label (Event.Create serial level quota) None is = refl
-others m n label (Event.Create serial level quota) (Some h) is =
-    let e = entry label (Event.Create serial level quota) in
-    kept h (ends m h.thread e) (ends_none h.thread e)
 others m n label (Event.Delete serial) held is = absurd (let no : true ≡ false = is in cc)
 others m n label (Event.Lock k) None is = ap (λ b. option_or (begun_as n b (thread_of label)) None) is
 others m n label (Event.Lock k) (Some h) is =
     let e = entry label (Event.Lock k) in
     ap (λ b. option_or (begun_as n b (thread_of label)) (if ends m h.thread e then None else Some h)) is
     ∙ kept h (ends m h.thread e) (ap (ends_as h.thread e false) is ∙ ends_none h.thread e)
-others m n label (Event.Unlock k) None is = refl
 others m n label (Event.Unlock k) (Some h) is =
     let e = entry label (Event.Unlock k) in
     kept h (ends m h.thread e) (ap (λ b. ends_as h.thread e b false) is ∙ ends_none h.thread e)
-others m n label (Event.Slack amount) None is = refl
-others m n label (Event.Slack amount) (Some h) is = kept h (ends m h.thread (entry label (Event.Slack amount))) (ends_none h.thread (entry label (Event.Slack amount)))
-others m n label (Event.Put value) None is = refl
-others m n label (Event.Put value) (Some h) is = kept h (ends m h.thread (entry label (Event.Put value))) (ends_none h.thread (entry label (Event.Put value)))
-others m n label (Event.Refused refusal) None is = refl
-others m n label (Event.Refused refusal) (Some h) is =
-    kept h (ends m h.thread (entry label (Event.Refused refusal))) (ends_none h.thread (entry label (Event.Refused refusal)))
+others m n label event None is = refl
+others m n label event (Some h) is = kept h (ends m h.thread (entry label event)) (ends_none h.thread (entry label event))
 
 unmoved : (m n : ℕ) (label : Label) (event : Option Event) (held : Option Holding) → is_moved m event ≡ false → behind m n (record { label = label; event = event }) held ≡ held
 unmoved m n label None held is = behind_quiet m n label held

@@ -5,4 +5,4 @@ use Rattle.dk_audit.proofs.booking.owner_of.Goals as goal
 
 pub unreachable-requires : goal.unreachable-requires
 unreachable-requires c =
-    no-event c.args.entry.label c.args.event (sym c.thread_of.ensures ∙ c.in-None.is) (subst (MayHave (work_of c.args.entry.label)) c.requires.ends c.requires.may)
+    no-event c.args.entry.label c.args.event (sym c.thread.ensures ∙ c.in-None.is) (subst (MayHave (work_of c.args.entry.label)) c.requires.ends c.requires.may)

@@ -1,4 +1,4 @@
-use Rattle.std.proofs.Common.{List, ◌≡◌, ◌+◌, ◌≤◌, [], length}
+use Rattle.std.proofs.Common.{List, ◌≡◌, ◌+◌, [], length}
 use Rattle.std.specs.Option.{option_map_or}
 use Rattle.dk_ledger.specs.declared.line.LedgerLine.{LedgerLine}
 use Rattle.dk_ledger.specs.Readable.{Journal, IsReadable}

@@ -1,4 +1,4 @@
-use Rattle.std.proofs.Common.{◌≡◌, ◌++◌, refl, rules, subst}
+use Rattle.std.proofs.Common.{◌≡◌, ◌++◌, refl, subst}
 use Rattle.dk_ledger.specs.Heading.{Heading}
 use Rattle.dk_ledger.proofs.NextItem.{if_ok}
 use Rattle.dk_groups.specs.Groups.{groups}

@@ -1,4 +1,4 @@
-use Rattle.std.proofs.Common.{◌++◌, [], refl, rules, arith}
+use Rattle.std.proofs.Common.{◌++◌, [], refl}
 use Rattle.dk_groups.proofs.Going.{cut_short, then_puts}
 use Rattle.dk_groups.proofs.Texts.{nothing_put}
 use Rattle.dk_trace_events.specs.HoldSlices.{open_holds}

@@ -1,4 +1,4 @@
-use Rattle.std.proofs.Common.{◌≡◌, ◌++◌, refl, rules, subst, sym}
+use Rattle.std.proofs.Common.{◌≡◌, ◌++◌, refl, subst, sym}
 use Rattle.dk_ledger.specs.Heading.{Heading}
 use Rattle.dk_groups.specs.Groups.{groups}
 use Rattle.dk_groups.specs.Writing.{Puts}

@@ -1,4 +1,4 @@
-use Rattle.std.proofs.Common.{◌≡◌, ◌++◌, [], ap, sym, refl, rules, arith}
+use Rattle.std.proofs.Common.{◌≡◌, ◌++◌, [], ap, sym, refl, rules}
 use Rattle.dk_groups.proofs.Going.{cut_short, then_puts}
 use Rattle.dk_groups.proofs.Texts.{nothing_put}
 use Rattle.dk_trace_events.specs.LevelWindows.{level_texts}
