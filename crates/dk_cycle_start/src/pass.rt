@@ -24,42 +24,74 @@ pub struct SecondPass {
     pub programs: Vec<Code>,
 }
 
-/// The least tick at which the run stands again as much later as the cycle is long.
+fn booted(alloc: Global, loaded: Loaded) -> Result<Kernel, NoMemory>
+    requires { IsLoaded loaded }
+    ensures { IfOk result (λ kernel. kernel ≡ begun loaded) }
+{
+    match Kernel::boot(alloc, loaded) {
+        Ok(kernel) => Ok(kernel),
+        Err(_) => Err(NoMemory),
+    }
+}
+
+/// The least tick at which the run stands again as much later as the cycle is long, by two kernels before their first tick.
+fn walked<L: Ledger>(
+    search: &mut StartSearch,
+    early: &mut Kernel,
+    late: &mut Kernel,
+    programs: &[Code],
+    processes: u8,
+    cycle: Cycle,
+    steps: &mut Steps<L>,
+) -> Result<u32, NoMemory>
+    requires all { processes ≡ length early.old.config.processes }
+    requires begun { early.old.ticks ≡ 0 }
+    requires same { late.old ≡ early.old }
+    requires room { cycle.start + cycle.length ≤ MAX_TICKS }
+    requires programs { programs.now ≡ early.old.programs }
+    requires is { IsSearch early.old search.old }
+    requires cycle { IsCycleOf early.old cycle }
+    ensures { IfOk result (IsFirst early.old cycle) }
+{
+    lead(search, late, programs, cycle.length, steps);
+    match first_start(search, early, late, programs, processes, cycle, steps) {
+        Some(start) => Ok(start),
+        // It never comes so: each process has a program.
+        None => Err(NoMemory),
+    }
+}
+
+/// The same, before the kernels are booted.
 fn least_start<L: Ledger>(
     alloc: Global,
     pass: SecondPass,
-    mut search: StartSearch,
+    search: &mut StartSearch,
     cycle: Cycle,
     steps: &mut Steps<L>,
 ) -> Result<u32, NoMemory>
     requires pass { IsPass pass }
     requires room { cycle.start + cycle.length ≤ MAX_TICKS }
-    requires is { IsSearch (begun pass.early) search }
+    requires is { IsSearch (begun pass.early) search.old }
     requires cycle { IsCycleOf (begun pass.early) cycle }
     ensures { IfOk result (IsFirst (begun pass.early) cycle) }
 {
     let processes = pass.early.config.processes.len() as u8;
-    let Ok(mut early) = Kernel::boot(alloc, pass.early) else {
-        return Err(NoMemory);
-    };
-    let Ok(mut late) = Kernel::boot(alloc, pass.late) else {
-        return Err(NoMemory);
-    };
-    let programs = pass.programs.as_slice();
-    lead(&mut search, &mut late, programs, cycle.length, steps);
-    match first_start(
-        &mut search,
+    let SecondPass {
+        early,
+        late,
+        programs,
+    } = pass;
+    let mut early = booted(alloc, early)?;
+    let mut late = booted(alloc, late)?;
+    walked(
+        search,
         &mut early,
         &mut late,
-        programs,
+        programs.as_slice(),
         processes,
         cycle,
         steps,
-    ) {
-        Some(start) => Ok(start),
-        // It never comes so: each process has a program.
-        None => Err(NoMemory),
-    }
+    )
 }
 
 impl SecondPass {
@@ -95,7 +127,8 @@ impl SecondPass {
         let Some(cycle) = search.cycle else {
             return Ok(());
         };
-        let start = least_start(alloc, self, StartSearch::new(search), cycle, steps)?;
+        let mut starts = StartSearch::new(search);
+        let start = least_start(alloc, self, &mut starts, cycle, steps)?;
         search.start_at(start);
         Ok(())
     }

@@ -1,8 +1,7 @@
 -- Rows that ask of all ticks are told met and missed only where that is so.
-use Rattle.std.proofs.Common.{ℕ, ◌≡◌, ◌<◌, ◌∙◌, List, Option, Some, None, true, false, ap, sym, refl, arith}
-use Rattle.std.specs.Prelude.{Bool, nat_lt, if◌then◌else◌, slice_get, IfSome}
+use Rattle.std.proofs.Common.{ℕ, ◌≡◌, ◌<◌, ◌∙◌, List, Option, Some, None, true, ap, sym, refl}
+use Rattle.std.specs.Prelude.{slice_get, IfSome}
 use Rattle.std.specs.Option.{option_map_or}
-use Rattle.std.proofs.lemmas.Bool.Decides.{nat_tests}
 use Rattle.dk_config.specs.Configuration.{Configuration}
 use Rattle.dk_loader.specs.Workload.{Workload}
 use Rattle.dk_cycle.specs.declared.Cycle.{Cycle}
@@ -11,6 +10,7 @@ use Rattle.dk_cycle.specs.declared.keeping.Keeping.TheVariants as kind
 use Rattle.dk_cycle.specs.declared.waiting.Waits.{Waits}
 use Rattle.dk_cycle.specs.declared.waiting.Waits.TheVariants as waits
 use Rattle.dk_cycle.specs.Repeating.{RepeatsForEver}
+use Rattle.dk_cycle.specs.Told.{IsRunCycle}
 use Rattle.dk_cycle.specs.Waiting.{IsWaits}
 use Rattle.dk_needs.specs.declared.needs.Need.{Need}
 use Rattle.dk_needs.specs.declared.needs.What.{What}
@@ -26,7 +26,7 @@ use Rattle.dk_repeat_search.specs.declared.always.Always.{Always}
 use Rattle.dk_needs_always.specs.declared.asking.Asked.{Asked}
 use Rattle.dk_needs_always.specs.Asking.{asked_by, asked_for, asked_of}
 use Rattle.dk_needs_always.specs.Sound.{AsksRepeats, AsksWaits, IsSound, WaitsInEach, WaitsNotFrom, told}
-use Rattle.dk_needs_always.specs.Telling.{answer_for, cycle_told, repeating_by, repeating_of, waiting_of, waiting_unless, waits_answer}
+use Rattle.dk_needs_always.specs.Telling.{answer_for, repeating_by, repeating_of, waiting_of, waiting_unless, waits_answer}
 
 -- ---- what the rows ask
 
@@ -102,21 +102,12 @@ AsTold w t =
     (start : ℕ) × (every : ℕ) × (t ≡ Answer.Repeats (Repeating.Every start every)) × (0 < every)
     × RepeatsForEver w.config w.programs start every
 
-some-length : (n : ℕ) → nat_lt 0 n ≡ true → 0 < n
-some-length n is = grind (arith, nat_tests)
-
-cycle-met : (w : Workload) (y : Cycle) (b : Bool) (t : Answer) → nat_lt 0 y.length ≡ b → RepeatsForEver w.config w.programs y.start y.length
-    → t ≡ Answer.Repeats (if b then (Repeating.Every y.start y.length) else (cycle_told None))
-    → repeating_verdict (if b then (Repeating.Every y.start y.length) else (cycle_told None)) ≡ Verdict.Met → AsTold w t
-cycle-met w y true t is repeats same met = (y.start, y.length, same, some-length y.length is, repeats)
-cycle-met w y false t is repeats same met = absurd (let bad : Verdict.Open ≡ Verdict.Met = met in cc)
-
 repeats-met : (w : Workload) (reader : Option ℕ) (cycle : Option Cycle) (t : Answer)
-    → IfSome cycle (λ y. RepeatsForEver w.config w.programs y.start y.length) → t ≡ Answer.Repeats (repeating_by reader cycle)
+    → IfSome cycle (IsRunCycle w.config w.programs) → t ≡ Answer.Repeats (repeating_by reader cycle)
     → repeating_verdict (repeating_by reader cycle) ≡ Verdict.Met → AsTold w t
 repeats-met w (Some p) cycle t is same met = absurd (let bad : Verdict.Open ≡ Verdict.Met = met in cc)
 repeats-met w None None t is same met = absurd (let bad : Verdict.Open ≡ Verdict.Met = met in cc)
-repeats-met w None (Some y) t is same met = cycle-met w y (nat_lt 0 y.length) t refl is same met
+repeats-met w None (Some y) t is same met = (y.start, y.length, same, is.stands.later, is.repeats)
 
 pub sound : (w : Workload) (a : Always) → IsAlways w a → IsSound w a
 sound w a is =

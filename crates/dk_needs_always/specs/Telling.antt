@@ -1,5 +1,5 @@
 -- What is told of a row by what is so for ever.
-use Rattle.std.specs.Prelude.{ℕ, nat_lt, if◌then◌else◌, List, Option, Some, None, slice_get}
+use Rattle.std.specs.Prelude.{ℕ, List, Option, Some, None, slice_get}
 use Rattle.std.specs.Option.{option_map_or}
 use Rattle.dk_cycle.specs.declared.Cycle.{Cycle}
 use Rattle.dk_cycle.specs.declared.keeping.Keeping.{Keeping}
@@ -33,10 +33,10 @@ waiting_of (waits.Unknown keeping) = waiting_unless keeping
 abbrev pub waits_answer : List Waits → ℕ → Answer → Answer
 waits_answer ws p before = option_map_or (λ w. Answer.Waits (waiting_of w)) (slice_get ws p) before
 
--- a cycle of no ticks says nothing
+-- the cycle, where one was found
 abbrev pub cycle_told : Option Cycle → Repeating
 cycle_told None = Repeating.NotWithin ALWAYS_TICKS
-cycle_told (Some y) = if nat_lt 0 y.length then (Repeating.Every y.start y.length) else (Repeating.NotWithin ALWAYS_TICKS)
+cycle_told (Some y) = Repeating.Every y.start y.length
 
 abbrev pub repeating_by : Option ℕ → Option Cycle → Repeating
 repeating_by (Some p) cycle = Repeating.ReadsTick p

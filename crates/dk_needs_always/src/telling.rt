@@ -43,16 +43,16 @@ fn waits_answer(waits: &[Waits], process: u32, before: Answer) -> Answer
     }
 }
 
-/// Whether there is a cycle: one of no ticks says nothing.
+/// The cycle, where one was found.
 fn cycle_told(cycle: Option<Cycle>) -> Repeating
     ensures { result ≡ cycle_told cycle }
 {
     match cycle {
-        Some(cycle) if cycle.length > 0 => Repeating::Every {
+        Some(cycle) => Repeating::Every {
             start: cycle.start,
             length: cycle.length,
         },
-        _ => Repeating::NotWithin(ALWAYS_TICKS),
+        None => Repeating::NotWithin(ALWAYS_TICKS),
     }
 }
 
