@@ -1,0 +1,31 @@
+//! Text that a browser shows as it is.
+ghost use Rattle.std.specs.Prelude.{◌≡◌, ◌++◌, flat_map, OnOk};
+ghost use Rattle.dk_html.specs.Escaping.{escaped, escaped_byte};
+
+use std::alloc::AllocError;
+
+fn add_byte(out: &mut Vec<u8>, byte: u8) -> Result<(), AllocError>
+    ensures { OnOk result (out.new.items ≡ out.old.items ++ escaped_byte byte) }
+{
+    if byte == b'&' {
+        out.extend_from_slice(b"&amp;")
+    } else if byte == b'<' {
+        out.extend_from_slice(b"&lt;")
+    } else if byte == b'>' {
+        out.extend_from_slice(b"&gt;")
+    } else if byte == b'"' {
+        out.extend_from_slice(b"&quot;")
+    } else {
+        out.extend_from_slice(&[byte])
+    }
+}
+
+/// Adds the text, with `&`, `<`, `>` and the double quote by their names, so that a browser shows it and reads no tag in it.
+pub fn add_escaped(out: &mut Vec<u8>, text: &[u8]) -> Result<(), AllocError>
+    ensures { OnOk result (out.new.items ≡ out.old.items ++ escaped text.now) }
+{
+    for byte in text {
+        add_byte(out, *byte)?;
+    }
+    Ok(())
+}
