@@ -6,7 +6,7 @@ use Rattle.dk_html.specs.Escaping.{escaped, escaped_byte}
 
 -- the byte of a name, by the letter behind its `&`
 abbrev named : ℕ → ℕ
-named b = if b == 97 then 38 else (if b == 108 then 60 else (if b == 103 then 62 else 34))
+named b = if b == 97 then 38 else (if b == 108 then 60 else (if b == 103 then 62 else (if b == 35 then 13 else 34)))
 
 -- the byte that is shown first
 abbrev first_read : List ℕ → ℕ

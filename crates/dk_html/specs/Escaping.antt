@@ -7,7 +7,8 @@ escaped_byte b =
     if b == 38 then codes "&amp;" else (
     if b == 60 then codes "&lt;" else (
     if b == 62 then codes "&gt;" else (
-    if b == 34 then codes "&quot;" else (b ∷ []))))
+    if b == 34 then codes "&quot;" else (
+    if b == 13 then codes "&#13;" else (b ∷ [])))))
 
 abbrev pub escaped : List ℕ → List ℕ
 escaped text = flat_map escaped_byte text

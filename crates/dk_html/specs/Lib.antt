@@ -3,3 +3,4 @@ pub mod Outputs
 pub mod Checksums
 pub mod Pieces
 pub mod Tables
+pub mod Parts

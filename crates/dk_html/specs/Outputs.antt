@@ -2,8 +2,8 @@
 use Rattle.std.specs.Prelude.{ℕ, List, ◌++◌, codes}
 use Rattle.dk_html.specs.Escaping.{escaped}
 
--- the words, which open what the command writes
-unfoldable pub output : List ℕ → List ℕ → List ℕ
-output command text =
-    codes "<details><summary><code>" ++ (escaped command
-    ++ (codes "</code></summary><pre tabindex=\"0\">" ++ (escaped text ++ codes "</pre></details>\n")))
+-- the words of a command and the names of its files, which open what it writes
+unfoldable pub output : List ℕ → List ℕ → List ℕ → List ℕ
+output command name text =
+    codes "<details><summary><code>" ++ (command ++ (escaped name
+    ++ (codes "</code></summary><pre tabindex=\"0\">\n" ++ (escaped text ++ codes "</pre></details>\n"))))

@@ -29,7 +29,7 @@ fn file_end(alloc: Global, size: usize, digest: &str) -> Result<String, AllocErr
 
 /// Adds the row of a file: what it is, in words that need no escaping, its name as given, its length in bytes, and the
 /// SHA-256 of its bytes.
-pub fn add_file(
+pub(crate) fn add_file(
     alloc: Global,
     out: &mut Vec<u8>,
     what: &str,

@@ -6,13 +6,19 @@ use crate::escaping::add_escaped;
 use crate::pieces::add_words;
 use std::alloc::AllocError;
 
-/// Adds the words of a command, which open what it writes, word for word.
-pub fn add_output(out: &mut Vec<u8>, command: &[u8], text: &[u8]) -> Result<(), AllocError>
-    ensures { OnOk result (out.new.items ≡ out.old.items ++ output command.now text.now) }
+/// Adds the words of a command and the names of its files, which open what it writes, word for word.
+pub(crate) fn add_output(
+    out: &mut Vec<u8>,
+    command: &str,
+    name: &[u8],
+    text: &[u8],
+) -> Result<(), AllocError>
+    ensures { OnOk result (out.new.items ≡ out.old.items ++ output command.now name.now text.now) }
 {
     add_words(out, "<details><summary><code>")?;
-    add_escaped(out, command)?;
-    add_words(out, "</code></summary><pre tabindex=\"0\">")?;
+    add_words(out, command)?;
+    add_escaped(out, name)?;
+    add_words(out, "</code></summary><pre tabindex=\"0\">\n")?;
     add_escaped(out, text)?;
     add_words(out, "</pre></details>\n")?;
     Ok(())

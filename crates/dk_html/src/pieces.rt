@@ -4,14 +4,14 @@ ghost use Rattle.std.specs.Prelude.{◌≡◌, ◌++◌, OnOk, string_bytes};
 use std::alloc::AllocError;
 
 /// Adds words of the page.
-pub fn add_words(out: &mut Vec<u8>, words: &str) -> Result<(), AllocError>
+pub(crate) fn add_words(out: &mut Vec<u8>, words: &str) -> Result<(), AllocError>
     ensures { OnOk result (out.new.items ≡ out.old.items ++ words.now) }
 {
     out.extend_from_slice(words.as_bytes())
 }
 
 /// Adds a piece that was made for it.
-pub fn add_string(out: &mut Vec<u8>, piece: String) -> Result<(), AllocError>
+pub(crate) fn add_string(out: &mut Vec<u8>, piece: String) -> Result<(), AllocError>
     ensures { OnOk result (out.new.items ≡ out.old.items ++ string_bytes piece) }
 {
     out.extend_from_slice(piece.as_str().as_bytes())

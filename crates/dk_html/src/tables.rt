@@ -105,7 +105,7 @@ fn behind_first<'a>(lines: &'a [&'a [u8]]) -> &'a [&'a [u8]]
 /// Adds a row for each line of a table of comma-separated values, but the first, which has the names of the columns. A row
 /// has a cell for each field, and its fields once more as properties, `--c0`, `--c1` and so on, from which a style sheet draws
 /// its bar.
-pub fn add_rows(alloc: Global, out: &mut Vec<u8>, text: &[u8]) -> Result<(), AllocError>
+pub(crate) fn add_rows(alloc: Global, out: &mut Vec<u8>, text: &[u8]) -> Result<(), AllocError>
     ensures { OnOk result (out.new.items ≡ out.old.items ++ rows text.now) }
 {
     let lines = pieces_of(alloc, text, b'\n')?;
