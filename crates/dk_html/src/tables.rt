@@ -14,7 +14,12 @@ fn property_start(alloc: Global, column: usize) -> Result<String, AllocError>
     format!(in alloc; "--c{column}:")
 }
 
-fn add_property(alloc: Global, out: &mut Vec<u8>, column: usize, field: &[u8]) -> Result<(), AllocError>
+fn add_property(
+    alloc: Global,
+    out: &mut Vec<u8>,
+    column: usize,
+    field: &[u8],
+) -> Result<(), AllocError>
     ensures { OnOk result (out.new.items ≡ out.old.items ++ property column field.now) }
 {
     add_string(out, property_start(alloc, column)?)?;

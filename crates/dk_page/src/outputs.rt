@@ -1,31 +1,26 @@
 //! What the commands write, word for word, and the end of the page.
 ghost use Rattle.std.specs.Prelude.{◌≡◌, ◌++◌, IfOk, OnOk};
-ghost use Rattle.dk_page.specs.Pages.{bottom_text, ending, outputs, when_output};
+ghost use Rattle.dk_page.specs.Pages.{bottom_text, ending, outputs, when_output, when_shown};
 
 use crate::template::{ENDING, OUTPUTS};
 use crate::told::{Additions, Certification, Told};
 use dk_html::{Part, add_parts};
 use std::alloc::{AllocError, Global};
 
-fn add_when(
+fn add_when<'x>(
     alloc: Global,
     out: &mut Vec<u8>,
-    name: &[u8],
-    certification: &Certification,
+    name: &'x [u8],
+    text: &'x [u8],
 ) -> Result<(), AllocError>
-    ensures { OnOk result (out.new.items ≡ out.old.items ++ when_output name.now certification.now) }
+    ensures { OnOk result (out.new.items ≡ out.old.items ++ when_shown name.now text.now) }
 {
-    match certification {
-        Certification::Certified { when, .. } => {
-            let part = Part::Output {
-                command: "deosk-show when ",
-                name,
-                text: when.as_bytes(),
-            };
-            add_parts(alloc, out, &[part])
-        }
-        Certification::Failing { .. } => add_parts(alloc, out, &[]),
-    }
+    let parts = [Part::Output {
+        command: "deosk-show when ",
+        name,
+        text,
+    }];
+    add_parts(alloc, out, &parts)
 }
 
 fn when_output(
@@ -36,36 +31,41 @@ fn when_output(
     ensures { IfOk result (λ v. v.items ≡ when_output name.now certification.now) }
 {
     let mut out = Vec::new(alloc);
-    add_when(alloc, &mut out, name, certification)?;
+    if let Certification::Certified { when, .. } = certification {
+        add_when(alloc, &mut out, name, when.as_slice())?;
+    }
     Ok(out)
 }
 
-fn add_outputs(
+fn add_outputs<'x>(
     alloc: Global,
     out: &mut Vec<u8>,
-    name: &[u8],
-    told: &Told,
-    when: &[u8],
+    name: &'x [u8],
+    certificate: &'x [u8],
+    when: &'x [u8],
+    margins: &'x [u8],
+    warnings: &'x [u8],
 ) -> Result<(), AllocError>
-    ensures { OnOk result (out.new.items ≡ out.old.items ++ outputs name.now told.now when.now) }
+    ensures { OnOk result (out.new.items
+        ≡ out.old.items ++ outputs name.now certificate.now when.now margins.now warnings.now) }
 {
     let parts = [
         Part::Words(OUTPUTS),
         Part::Output {
             command: "deosk-show certify ",
             name,
-            text: told.certificate.as_bytes(),
+            text: certificate,
         },
         Part::Made(when),
         Part::Output {
             command: "deosk-show margins ",
             name,
-            text: told.margins.as_bytes(),
+            text: margins,
         },
         Part::Output {
             command: "deosk-show warnings ",
             name,
-            text: told.warnings.as_bytes(),
+            text: warnings,
         },
     ];
     add_parts(alloc, out, &parts)
@@ -74,7 +74,8 @@ fn add_outputs(
 fn add_ending(alloc: Global, out: &mut Vec<u8>, added: &[u8]) -> Result<(), AllocError>
     ensures { OnOk result (out.new.items ≡ out.old.items ++ ending added.now) }
 {
-    add_parts(alloc, out, &[Part::Made(added), Part::Words(ENDING)])
+    let parts = [Part::Made(added), Part::Words(ENDING)];
+    add_parts(alloc, out, &parts)
 }
 
 /// Adds the outputs, those of a ledger behind them, and the end.
@@ -88,7 +89,15 @@ pub(crate) fn add_bottom(
     ensures { OnOk result (out.new.items ≡ out.old.items ++ bottom_text name.now told.now added.now) }
 {
     let when = when_output(alloc, name, &told.certification)?;
-    add_outputs(alloc, out, name, told, when.as_slice())?;
+    add_outputs(
+        alloc,
+        out,
+        name,
+        told.certificate.as_slice(),
+        when.as_slice(),
+        told.margins.as_slice(),
+        told.warnings.as_slice(),
+    )?;
     add_ending(alloc, out, added.outputs.as_slice())?;
     Ok(())
 }

@@ -65,14 +65,14 @@ td.fill{width:24%;min-width:9rem}
 #certification tr:not([data-kind=level]) .bar,#by-when tr:not([data-kind=process]) .bar,#room tr:is([data-kind=growth],[data-kind=switch]) .bar{display:none}
 #certification tr[data-kind=level] td{font-weight:600;border-top:1px solid var(--strong)}
 #certification tr{--whole:max(var(--c6),var(--c7) + var(--c8))}
-#certification i:nth-child(1){background:var(--blue);width:calc(var(--c7)/var(--whole)*100%)}
-#certification i:nth-child(2){background:repeating-linear-gradient(45deg,var(--amber) 0 5px,var(--warn-soft) 5px 9px);left:calc(var(--c7)/var(--whole)*100%);width:calc(var(--c8)/var(--whole)*100%)}
-#certification i:nth-child(3){width:3px;background:var(--alert);left:calc(var(--c6)/var(--whole)*100% - 3px)}
-#by-when i:nth-child(1){background:repeating-linear-gradient(135deg,var(--blue-soft) 0 4px,transparent 4px 8px);width:calc(var(--c5)/var(--c3)*100%)}
-#by-when i:nth-child(2){background:var(--blue);left:calc((var(--c5) - 1)/var(--c3)*100%);width:calc((var(--c6) - var(--c5) + 1)/var(--c3)*100%)}
-#room i:nth-child(1){background:var(--blue);width:calc(var(--c5)/var(--c7)*100%)}
-#run i:nth-child(1){background:var(--blue-soft);width:calc(var(--c10)/var(--c13)*100%)}
-#run i:nth-child(2){background:var(--blue);width:calc(var(--c9)/var(--c13)*100%)}
+#certification .bar i:nth-child(1){background:var(--blue);width:calc(var(--c7)/var(--whole)*100%)}
+#certification .bar i:nth-child(2){background:repeating-linear-gradient(45deg,var(--amber) 0 5px,var(--warn-soft) 5px 9px);left:calc(var(--c7)/var(--whole)*100%);width:calc(var(--c8)/var(--whole)*100%)}
+#certification .bar i:nth-child(3){width:3px;background:var(--alert);left:calc(var(--c6)/var(--whole)*100% - 3px)}
+#by-when .bar i:nth-child(1){background:repeating-linear-gradient(135deg,var(--blue-soft) 0 4px,transparent 4px 8px);width:calc(var(--c5)/var(--c3)*100%)}
+#by-when .bar i:nth-child(2){background:var(--blue);left:calc((var(--c5) - 1)/var(--c3)*100%);width:calc((var(--c6) - var(--c5) + 1)/var(--c3)*100%)}
+#room .bar i:nth-child(1){background:var(--blue);width:calc(var(--c5)/var(--c7)*100%)}
+#run .bar i:nth-child(1){background:var(--blue-soft);width:calc(var(--c10)/var(--c13)*100%)}
+#run .bar i:nth-child(2){background:var(--blue);width:calc(var(--c9)/var(--c13)*100%)}
 #certification :is(td,th):nth-child(n+4):nth-child(-n+11),#by-when :is(td,th):nth-child(n+3):nth-child(-n+8),#room :is(td,th):nth-child(n+5):nth-child(-n+10),#run :is(td,th):nth-child(n+3):nth-child(-n+20),#inputs :is(td,th):nth-child(3){text-align:right}
 #run :is(td,th):is(:nth-child(8),:nth-child(9),:nth-child(16),:nth-child(18),:nth-child(19),:nth-child(20)){display:none}
 .legend{display:flex;flex-wrap:wrap;gap:.2rem 1rem;margin:.5rem 0 0;padding:0;list-style:none;font-size:.8rem;color:var(--soft)}
@@ -120,11 +120,13 @@ pub(crate) const TILES: &str = "</h1></header>
 ";
 
 /// The tile of a certified configuration.
-pub(crate) const CERTIFIED_TILE: &str = "<li class=\"tile good\"><span class=\"what\">Certification</span><b>certified</b><span>holds for every run</span></li>
+pub(crate) const CERTIFIED_TILE: &str =
+    "<li class=\"tile good\"><span class=\"what\">Certification</span><b>certified</b><span>holds for every run</span></li>
 ";
 
 /// The tile of a document that isn't that of a configuration.
-pub(crate) const FAULTS_TILE: &str = "<li class=\"tile bad\"><span class=\"what\">Document</span><b>refused</b><span>it isn’t that of a configuration</span></li>
+pub(crate) const FAULTS_TILE: &str =
+    "<li class=\"tile bad\"><span class=\"what\">Document</span><b>refused</b><span>it isn’t that of a configuration</span></li>
 ";
 
 /// What stands between the tiles and the rows of the files.
@@ -143,14 +145,16 @@ pub(crate) const TABLE_END: &str = "</tbody></table></div>
 ";
 
 /// What stands before the document of a configuration.
-pub(crate) const DOCUMENT: &str = "<section id=\"configuration\" aria-labelledby=\"configuration-title\">
+pub(crate) const DOCUMENT: &str =
+    "<section id=\"configuration\" aria-labelledby=\"configuration-title\">
 <div class=\"head\"><h2 id=\"configuration-title\">Configuration</h2><span class=\"scope given\">input</span></div>
 <p class=\"why\">The document, word for word. All times are ticks.</p>
 <pre tabindex=\"0\">
 ";
 
 /// What stands before the rows of a certified configuration.
-pub(crate) const CERTIFIED: &str = "<section id=\"certification\" aria-labelledby=\"certification-title\">
+pub(crate) const CERTIFIED: &str =
+    "<section id=\"certification\" aria-labelledby=\"certification-title\">
 <div class=\"head\"><h2 id=\"certification-title\">Certification</h2><span class=\"scope every\">holds for every run</span></div>
 <p class=\"why\">Certified: at no level do the demand of a window and the longest blocking exceed the period. So each thread gets its whole budget in each of its windows in which it neither waits nor is stopped, in every run, whatever the programs do. All numbers are ticks.</p>
 <div class=\"scroll\"><table><caption class=\"hidden\">Certification, level by level</caption>
@@ -159,7 +163,8 @@ pub(crate) const CERTIFIED: &str = "<section id=\"certification\" aria-labelledb
 ";
 
 /// What stands before the rows of a configuration that isn't certified.
-pub(crate) const UNCERTIFIED: &str = "<section id=\"certification\" aria-labelledby=\"certification-title\">
+pub(crate) const UNCERTIFIED: &str =
+    "<section id=\"certification\" aria-labelledby=\"certification-title\">
 <div class=\"head\"><h2 id=\"certification-title\">Certification</h2><span class=\"scope layout\">of the configuration</span></div>
 <p class=\"why\"><strong class=\"tight\">Not certified.</strong> At some level the demand of a window and the longest blocking exceed the period, so nothing is said of any run. All numbers are ticks.</p>
 <div class=\"scroll\"><table><caption class=\"hidden\">Certification, level by level</caption>

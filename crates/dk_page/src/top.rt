@@ -1,6 +1,6 @@
 //! The title, the verdicts and the files.
 ghost use Rattle.std.specs.Prelude.{◌≡◌, ◌++◌, OnOk};
-ghost use Rattle.dk_page.specs.Pages.{certification_tile, inputs, title, tone, top_text, warnings_tile};
+ghost use Rattle.dk_page.specs.Pages.{certification_tile, failing_tile, inputs, title, tone, top_text, warnings_tile};
 
 use crate::template::{CERTIFIED_TILE, HEAD, INPUTS, STYLE, TABLE_END, TILES};
 use crate::told::{Additions, Certification, Told};
@@ -12,6 +12,13 @@ pub(crate) fn add_made(out: &mut Vec<u8>, bytes: &[u8]) -> Result<(), AllocError
     ensures { OnOk result (out.new.items ≡ out.old.items ++ bytes.now) }
 {
     out.extend_from_slice(bytes)
+}
+
+/// Adds words of the page.
+pub(crate) fn add_words(out: &mut Vec<u8>, words: &str) -> Result<(), AllocError>
+    ensures { OnOk result (out.new.items ≡ out.old.items ++ words.now) }
+{
+    out.extend_from_slice(words.as_bytes())
 }
 
 pub(crate) fn add_title(alloc: Global, out: &mut Vec<u8>, name: &[u8]) -> Result<(), AllocError>
@@ -34,7 +41,7 @@ fn add_failing(
     needs: u64,
     window: u32,
 ) -> Result<(), AllocError>
-    ensures { OnOk result (out.new.items ≡ out.old.items ++ certification_tile (Certification.Failing level needs window)) }
+    ensures { OnOk result (out.new.items ≡ out.old.items ++ failing_tile level needs window) }
 {
     let parts = [
         Part::Words(
@@ -58,7 +65,7 @@ fn add_certification_tile(
     ensures { OnOk result (out.new.items ≡ out.old.items ++ certification_tile certification.now) }
 {
     match certification {
-        Certification::Certified { .. } => add_parts(alloc, out, &[Part::Words(CERTIFIED_TILE)]),
+        Certification::Certified { .. } => add_words(out, CERTIFIED_TILE),
         Certification::Failing {
             level,
             needs,
@@ -73,12 +80,17 @@ fn tone(count: usize) -> &'static str
     if count == 0 { "good" } else { "look" }
 }
 
-fn add_warnings_tile(alloc: Global, out: &mut Vec<u8>, count: usize) -> Result<(), AllocError>
-    ensures { OnOk result (out.new.items ≡ out.old.items ++ warnings_tile count) }
+fn add_warnings_tile(
+    alloc: Global,
+    out: &mut Vec<u8>,
+    tone: &str,
+    count: usize,
+) -> Result<(), AllocError>
+    ensures { OnOk result (out.new.items ≡ out.old.items ++ warnings_tile tone.now count) }
 {
     let parts = [
         Part::Words("<li class=\"tile "),
-        Part::Words(tone(count)),
+        Part::Words(tone),
         Part::Words("\"><span class=\"what\">Warnings</span><b>"),
         Part::Number(count as u64),
         Part::Words("</b><span>what is allowed and cannot be meant</span></li>\n"),
@@ -86,12 +98,12 @@ fn add_warnings_tile(alloc: Global, out: &mut Vec<u8>, count: usize) -> Result<(
     add_parts(alloc, out, &parts)
 }
 
-fn add_inputs(
+fn add_inputs<'x>(
     alloc: Global,
     out: &mut Vec<u8>,
-    name: &[u8],
-    document: &[u8],
-    files: &[u8],
+    name: &'x [u8],
+    document: &'x [u8],
+    files: &'x [u8],
 ) -> Result<(), AllocError>
     ensures { OnOk result (out.new.items ≡ out.old.items ++ inputs name.now document.now files.now) }
 {
@@ -121,7 +133,7 @@ pub(crate) fn add_top(
 {
     add_title(alloc, out, name)?;
     add_certification_tile(alloc, out, &told.certification)?;
-    add_warnings_tile(alloc, out, told.count)?;
+    add_warnings_tile(alloc, out, tone(told.count), told.count)?;
     add_made(out, added.tile.as_slice())?;
     add_inputs(alloc, out, name, document, added.file.as_slice())?;
     Ok(())

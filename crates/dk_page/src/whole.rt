@@ -1,6 +1,6 @@
 //! The whole page.
 ghost use Rattle.std.specs.Prelude.{◌≡◌, ◌++◌, IfOk, OnOk};
-ghost use Rattle.dk_page.specs.Pages.{faults_text, page_text};
+ghost use Rattle.dk_page.specs.Pages.{faults_text, faulty, page_text};
 
 use crate::findings::add_findings;
 use crate::outputs::add_bottom;
@@ -42,16 +42,15 @@ pub fn page(
     Ok(out)
 }
 
-fn add_faults(
+fn add_faults<'x>(
     alloc: Global,
     out: &mut Vec<u8>,
-    name: &[u8],
-    document: &[u8],
-    faults: &[u8],
+    name: &'x [u8],
+    document: &'x [u8],
+    faults: &'x [u8],
 ) -> Result<(), AllocError>
-    ensures { OnOk result (out.new.items ≡ out.old.items ++ faults_text name.now document.now faults.now) }
+    ensures { OnOk result (out.new.items ≡ out.old.items ++ faulty name.now document.now faults.now) }
 {
-    add_title(alloc, out, name)?;
     let parts = [
         Part::Words(FAULTS_TILE),
         Part::Words(INPUTS),
@@ -86,6 +85,7 @@ pub fn faults_page(
     ensures { IfOk result (λ v. v.items ≡ faults_text name.now document.now faults.now) }
 {
     let mut out = Vec::new(alloc);
+    add_title(alloc, &mut out, name.as_bytes())?;
     add_faults(alloc, &mut out, name.as_bytes(), document, faults)?;
     Ok(out)
 }
