@@ -8,7 +8,7 @@ ghost use Rattle.dk_page_prog.specs.Answers.{IsAnswered, IsOfDocument, IsOfFile,
 use crate::status::Status;
 use dk_config::MAX_CONFIG_BYTES;
 use dk_outside::{Depot, DepotError};
-use dk_review::{Ending, review};
+use dk_review::{Ending, review_of};
 use std::alloc::Global;
 
 /// What is written, and the status of the call once it is.
@@ -43,7 +43,7 @@ fn of_document(alloc: Global, name: &str, document: &[u8]) -> Result<Answer, Dep
     ensures is { IfOk result (IsOfDocument name.now document.now) }
     ensures memory { IsErrOf result DepotError.Failed → ⊥ }
 {
-    match review(alloc, name, document) {
+    match review_of(alloc, name, document) {
         Ok(review) => Ok(Answer {
             bytes: review.bytes,
             status: ended_of(review.ending),

@@ -4,4 +4,4 @@
 mod reviewing;
 mod telling;
 
-pub use reviewing::{Ending, Review, review};
+pub use reviewing::{Ending, Review, review_of};
