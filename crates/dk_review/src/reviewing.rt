@@ -70,6 +70,7 @@ fn of_faults(alloc: Global, name: &str, document: &[u8]) -> Result<Review, NoMem
 
 /// The page of a document of at most 65,536 bytes, whose file has this name: of the configuration that it is, certified or
 /// not, or of its faults. `Err` is want of memory.
+#[tactic(auto, using(crate::proofs::Verdicts::of_config, crate::proofs::Verdicts::of_none))]
 pub fn review_of(alloc: Global, name: &str, document: &[u8]) -> Result<Review, NoMemory>
     requires { length document.now ≤ MAX_CONFIG_BYTES }
     ensures { IfOk result (IsReview name.now document.now) }

@@ -13,6 +13,7 @@ ghost use Rattle.dk_review.specs.Reviews.{IsCertification, IsTold};
 use dk_certify::{Verdict, certify};
 use dk_certify_report::{certificate, certificate_csv};
 use dk_config::{Config, NoMemory};
+use dk_config_report::Page;
 use dk_margin_report::{margins, margins_csv};
 use dk_page::{Certification, Told};
 use dk_warning_report::warnings as warnings_page;
@@ -28,13 +29,20 @@ fn count_warnings(alloc: Global, config: &Config) -> Result<usize, NoMemory>
     Ok(warnings(alloc, config)?.len())
 }
 
+fn bytes_of(alloc: Global, page: &Page) -> Result<Vec<u8>, NoMemory>
+    ensures { IfOk result (λ v. v.items ≡ page.now) }
+{
+    Ok(page.as_bytes().to_vec(alloc)?)
+}
+
 fn when_text(alloc: Global, config: &Config) -> Result<Vec<u8>, NoMemory>
     requires checked { IsChecked config.now }
     requires limits { IsWithinLimits config.now }
     ensures { IfOk result (λ v. IsWhen Form.Line config.now v.items) }
 {
     let page = when(alloc, config)?;
-    Ok(page.as_bytes().to_vec(alloc)?)
+    let bytes = bytes_of(alloc, &page)?;
+    Ok(bytes)
 }
 
 fn when_table(alloc: Global, config: &Config) -> Result<Vec<u8>, NoMemory>
@@ -43,7 +51,61 @@ fn when_table(alloc: Global, config: &Config) -> Result<Vec<u8>, NoMemory>
     ensures { IfOk result (λ v. IsWhen Form.Record config.now v.items) }
 {
     let page = when_csv(alloc, config)?;
-    Ok(page.as_bytes().to_vec(alloc)?)
+    let bytes = bytes_of(alloc, &page)?;
+    Ok(bytes)
+}
+
+fn certificate_bytes(alloc: Global, config: &Config) -> Result<Vec<u8>, NoMemory>
+    requires checked { IsChecked config.now }
+    requires limits { IsWithinLimits config.now }
+    ensures { IfOk result (λ v. v.items ≡ certificate_text config.now) }
+{
+    let page = certificate(alloc, config)?;
+    let bytes = bytes_of(alloc, &page)?;
+    Ok(bytes)
+}
+
+fn certificate_table(alloc: Global, config: &Config) -> Result<Vec<u8>, NoMemory>
+    requires unbroken { BreaksNoRule config.now }
+    requires checked { IsChecked config.now }
+    requires limits { IsWithinLimits config.now }
+    ensures { IfOk result (λ v. v.items ≡ certificate_csv config.now) }
+{
+    let page = certificate_csv(alloc, config)?;
+    let bytes = bytes_of(alloc, &page)?;
+    Ok(bytes)
+}
+
+fn margins_bytes(alloc: Global, config: &Config) -> Result<Vec<u8>, NoMemory>
+    requires unbroken { BreaksNoRule config.now }
+    requires checked { IsChecked config.now }
+    requires limits { IsWithinLimits config.now }
+    ensures { IfOk result (λ v. AreMargins Form.Line config.now v.items) }
+{
+    let page = margins(alloc, config)?;
+    let bytes = bytes_of(alloc, &page)?;
+    Ok(bytes)
+}
+
+fn margins_table(alloc: Global, config: &Config) -> Result<Vec<u8>, NoMemory>
+    requires unbroken { BreaksNoRule config.now }
+    requires checked { IsChecked config.now }
+    requires limits { IsWithinLimits config.now }
+    ensures { IfOk result (λ v. AreMargins Form.Record config.now v.items) }
+{
+    let page = margins_csv(alloc, config)?;
+    let bytes = bytes_of(alloc, &page)?;
+    Ok(bytes)
+}
+
+fn warnings_bytes(alloc: Global, config: &Config) -> Result<Vec<u8>, NoMemory>
+    requires checked { IsChecked config.now }
+    requires limits { IsWithinLimits config.now }
+    ensures { IfOk result (λ v. v.items ≡ warnings_text config.now) }
+{
+    let page = warnings_page(alloc, config)?;
+    let bytes = bytes_of(alloc, &page)?;
+    Ok(bytes)
 }
 
 fn certification(alloc: Global, config: &Config) -> Result<Certification, NoMemory>
@@ -52,10 +114,11 @@ fn certification(alloc: Global, config: &Config) -> Result<Certification, NoMemo
     ensures { IfOk result (IsCertification config.now (verdict_of config.now)) }
 {
     match certify(config) {
-        Verdict::Accepted(_) => Ok(Certification::Certified {
-            when: when_text(alloc, config)?,
-            table: when_table(alloc, config)?,
-        }),
+        Verdict::Accepted(_) => {
+            let when = when_text(alloc, config)?;
+            let table = when_table(alloc, config)?;
+            Ok(Certification::Certified { when, table })
+        }
         Verdict::Fails {
             level,
             needs,
@@ -75,18 +138,20 @@ pub(crate) fn told_of(alloc: Global, config: &Config) -> Result<Told, NoMemory>
     requires limits { IsWithinLimits config.now }
     ensures { IfOk result (IsTold config.now) }
 {
-    let text = certificate(alloc, config)?;
-    let table = certificate_csv(alloc, config)?;
-    let reach = margins(alloc, config)?;
-    let reach_table = margins_csv(alloc, config)?;
-    let found = warnings_page(alloc, config)?;
+    let certificate = certificate_bytes(alloc, config)?;
+    let certificate_table = certificate_table(alloc, config)?;
+    let certification = certification(alloc, config)?;
+    let margins = margins_bytes(alloc, config)?;
+    let margins_table = margins_table(alloc, config)?;
+    let warnings = warnings_bytes(alloc, config)?;
+    let count = count_warnings(alloc, config)?;
     Ok(Told {
-        certificate: text.as_bytes().to_vec(alloc)?,
-        certificate_table: table.as_bytes().to_vec(alloc)?,
-        certification: certification(alloc, config)?,
-        margins: reach.as_bytes().to_vec(alloc)?,
-        margins_table: reach_table.as_bytes().to_vec(alloc)?,
-        warnings: found.as_bytes().to_vec(alloc)?,
-        count: count_warnings(alloc, config)?,
+        certificate,
+        certificate_table,
+        certification,
+        margins,
+        margins_table,
+        warnings,
+        count,
     })
 }
