@@ -1,5 +1,5 @@
 -- The first level that has used its spare up.
-use Rattle.dk_slack.proofs.Names.{◌≡◌, ℕ, suc, ◌+◌, ◌-◌, ◌<◌, ◌≤◌, inl, inr, Bool, true, false, cond, ltb, List, length, refl, sym, arith, add-one, slice_index, option_map_or, cases_Bool, le-ltb, lt-ltb, ltb-true, ltb-false, numbers, first_of, Source, overdrawn_at}
+use Rattle.dk_slack.proofs.Names.{◌≡◌, ℕ, suc, ◌+◌, ◌-◌, ◌<◌, ◌≤◌, Bool, cond, ltb, List, length, refl, arith, add-one, slice_index, option_map_or, le-ltb, lt-ltb, ltb-true, ltb-false, numbers, first_of, Source, overdrawn_at, nat_tests}
 
 -- where slack comes from by the levels from one on
 abbrev pub source_from : List ℕ → List ℕ → ℕ → Source
@@ -20,11 +20,7 @@ module _ (unclaimed spares : List ℕ) (level : ℕ) where
   pub source-here : level < length spares
       → cond (ltb (slice_index unclaimed level) (slice_index spares level)) (source_from unclaimed spares (level + 1)) (Source.Reclaimed level)
       ≡ source_from unclaimed spares level
-  source-here h =
-      elim (cases_Bool (ltb (slice_index unclaimed level) (slice_index spares level))) [
-        | inl under ↦ rw under (sym (source-miss h (ltb-true (slice_index unclaimed level) (slice_index spares level) under)))
-        | inr over ↦ rw over (sym (source-hit h (ltb-false (slice_index unclaimed level) (slice_index spares level) over)))
-      ]
+  source-here h = grind (arith, nat_tests, source-miss, ltb-true, source-hit, ltb-false)
 
   pub source-end : length spares ≤ level → source_from unclaimed spares level ≡ Source.Timeline
   source-end past = let none : length spares - level ≡ 0 = omega arith in rw none refl
@@ -38,5 +34,4 @@ named-none levels = rw (le-ltb levels levels (omega arith)) refl
 
 pub named-first : (fits : Bool) (slower level levels : ℕ) → level < levels
     → source_named (cond fits slower level) levels ≡ cond fits (source_named slower levels) (Source.Reclaimed level)
-named-first true slower level levels h = refl
-named-first false slower level levels h = rw (lt-ltb level levels h) refl
+named-first fits slower level levels h = grind (arith, nat_tests, lt-ltb)

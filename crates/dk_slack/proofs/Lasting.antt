@@ -1,5 +1,5 @@
 -- For how long slack comes from where it does now.
-use Rattle.dk_slack.proofs.Names.{◌≡◌, ◌+◌, ◌-◌, ◌<◌, ◌≤◌, ◌∙◌, ℕ, List, [], ◌∷◌, length, get_or, refl, ap, sym, arith, None, Option, Some, get_or-map, Source, counted_for, source, Lasts}
+use Rattle.dk_slack.proofs.Names.{◌≡◌, ◌+◌, ◌-◌, ◌<◌, ◌≤◌, ◌∙◌, ℕ, List, [], ◌∷◌, length, get_or, refl, ap, sym, arith, None, Option, Some, get_or-map, Source, counted_for, source, Lasts, nat_tests}
 use Rattle.dk_slack.specs.declared.unclaimed.Lasting.{Lasting}
 use Rattle.dk_slack.proofs.Counts.{source_from, source-hit, source-miss}
 use Rattle.dk_slack.proofs.Running.{all-counted}
@@ -38,12 +38,8 @@ counted-nobody n booked us is = rw is refl
 module _ (us spares : List ℕ) (level k : ℕ) (known : level < length us) (inside : level < length spares) where
   -- a level that has none of its spare left has none later
   pub lasts-hit : get_or spares level 0 ≤ get_or us level 0 → source_from (counted_for k None us) spares level ≡ Source.Reclaimed level
-  lasts-hit over =
-      let read : get_or (counted_for k None us) level 0 ≡ get_or us level 0 + k = get_or-map (λ n. n + k) us level 0 0 known in
-      source-hit (counted_for k None us) spares level inside (omega (arith, read, over))
+  lasts-hit over = grind (arith, nat_tests, get_or-map, source-hit)
 
   -- and one that still has some is passed over
   pub lasts-miss : get_or us level 0 + k < get_or spares level 0 → source_from (counted_for k None us) spares level ≡ source_from (counted_for k None us) spares (level + 1)
-  lasts-miss under =
-      let read : get_or (counted_for k None us) level 0 ≡ get_or us level 0 + k = get_or-map (λ n. n + k) us level 0 0 known in
-      source-miss (counted_for k None us) spares level inside (omega (arith, read, under))
+  lasts-miss under = grind (arith, nat_tests, get_or-map, source-miss)

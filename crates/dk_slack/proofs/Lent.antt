@@ -9,19 +9,11 @@ module _ (node n : ℕ) where
   less w = record { node = w.node; amount = w.amount - n; entering = w.entering - n }
 
   kept : (w : Wish) → (lowered_for node n w).node ≡ w.node
-  kept w = elim (cases_Bool (is_of node w)) [
-    | inl own ↦ rw own refl
-    | inr other ↦ rw other refl
-  ]
+  kept w = grind (arith, nat_tests)
 
   find-lowered : (ws : List Wish) → find (is_of node) (map (lowered_for node n) ws) ≡ option_map less (find (is_of node) ws)
   find-lowered [] = refl
-  find-lowered (w ∷ ws) =
-      let same : is_of node (lowered_for node n w) ≡ is_of node w = ap (λ (k : ℕ). node == k) (kept w) in
-      elim (cases_Bool (is_of node w)) [
-        | inl own ↦ rw (same, own) refl
-        | inr other ↦ rw (same, other) (find-lowered ws)
-      ]
+  find-lowered (w ∷ ws) = grind (arith, nat_tests, kept, find-lowered ws)
 
   wish-lowered : (wishes : List (List Wish)) → wish_of node (spent_for node n wishes) ≡ option_map less (wish_of node wishes)
   wish-lowered [] = refl
@@ -68,14 +60,7 @@ map-itself f same (x ∷ xs) = rw (same x, map-itself f same xs) refl
 
 -- one tick more
 one-lower : (node n : ℕ) (w : Wish) → lowered node (lowered_for node n w) ≡ lowered_for node (suc n) w
-one-lower node n w =
-    let same : is_of node (lowered_for node n w) ≡ is_of node w = ap (λ (k : ℕ). node == k) (kept node n w) in
-    let amount : w.amount - n - 1 ≡ w.amount - suc n = omega arith in
-    let entering : w.entering - n - 1 ≡ w.entering - suc n = omega arith in
-    elim (cases_Bool (is_of node w)) [
-      | inl own ↦ rw (same, own, amount, entering) refl
-      | inr other ↦ rw (same, other) refl
-    ]
+one-lower node n w = grind (arith, nat_tests, kept)
 
 pub spent-more : (node n : ℕ) (wishes : List (List Wish)) → suc n < want node wishes → spent node (spent_for node n wishes) ≡ spent_for node (suc n) wishes
 spent-more node n wishes more =

@@ -1,5 +1,5 @@
 -- Which nodes are queued after a change of the queues and of a row.
-use Rattle.dk_slack.proofs.Names.{◌≡◌, ◌≢◌, ℕ, zero, suc, ◌+◌, ◌<◌, Bool, true, false, cond, not, ◌&&◌, ◌||◌, eqb, List, [], ◌∷◌, length, set, refl, sym, ap, ◌∙◌, inl, inr, arith, get_or-set_same, get_or-set_other, nat_lt, Some, is_some, list_any, position_from, eq-eqb, lt-ltb, eqb-true, eqb_tells, holds, holder, pushed, without, unlinked, Wanted, row_of, is_queued, AreTied}
+use Rattle.dk_slack.proofs.Names.{◌≡◌, ◌≢◌, ℕ, zero, suc, ◌+◌, ◌<◌, Bool, true, false, cond, not, ◌&&◌, ◌||◌, eqb, List, [], ◌∷◌, length, set, refl, sym, ap, ◌∙◌, inl, inr, arith, get_or-set_same, get_or-set_other, Some, is_some, list_any, position_from, eq-eqb, lt-ltb, eqb-true, eqb_tells, holds, holder, pushed, without, unlinked, Wanted, row_of, is_queued, AreTied, nat_tests}
 use Rattle.std.proofs.lemmas.List.Folds.{list_any-append}
 use Rattle.std.proofs.lemmas.Map.Views.{any-filter_same}
 
@@ -15,27 +15,20 @@ holds_without : (x y : ℕ) (q : List ℕ) → holds y (without x q) ≡ (not (e
 holds_without x y q = any-filter_same (λ z. eqb y z) (λ z. not (eqb x z)) (not (eqb x y)) (λ z hit. ap (λ (w : ℕ). not (eqb x w)) (sym (eqb-true y z hit))) q
 
 and_or : (b c d : Bool) → ((b && c) || (b && d)) ≡ (b && (c || d))
-and_or true c d = refl
-and_or false c d = refl
+and_or b c d = grind (arith, nat_tests)
 
 queued_unlinked : (x y : ℕ) (lists : List (List ℕ)) → is_queued (unlinked lists x) y ≡ (not (eqb x y) && is_queued lists y)
-queued_unlinked x y [] = elim (not (eqb x y)) as (λ t. false ≡ (t && false)) [ true ↦ refl | false ↦ refl ]
-queued_unlinked x y (q ∷ lists) =
-    rw (holds_without x y q, queued_unlinked x y lists) (and_or (not (eqb x y)) (holds y q) (is_queued lists y))
+queued_unlinked x y [] = grind (arith, nat_tests, holds_without, and_or)
+queued_unlinked x y (q ∷ lists) = grind (arith, nat_tests, holds_without, and_or, queued_unlinked x y lists)
 
 pub unlinked-itself : (x : ℕ) (lists : List (List ℕ)) → is_queued (unlinked lists x) x ≡ false
 unlinked-itself x lists = queued_unlinked x x lists ∙ rw (eq-eqb x x refl) refl
 
 or_swap : (a b c : Bool) → ((a || (b || false)) || c) ≡ ((a || c) || b)
-or_swap true b c = refl
-or_swap false true true = refl
-or_swap false true false = refl
-or_swap false false true = refl
-or_swap false false false = refl
+or_swap a b c = grind (arith, nat_tests)
 
 or_assoc : (a b c : Bool) → (a || (b || c)) ≡ ((a || b) || c)
-or_assoc true b c = refl
-or_assoc false b c = refl
+or_assoc a b c = grind (arith, nat_tests)
 
 queued_pushed : (k x y : ℕ) (lists : List (List ℕ)) → k < length lists → is_queued (pushed lists k x) y ≡ (is_queued lists y || eqb y x)
 queued_pushed k x y [] h = absurd (omega arith)
@@ -51,26 +44,13 @@ module _ (rows : List Wanted) (lists : List (List ℕ)) (x : ℕ) (low : x < len
 
   -- the node asks for nothing any more
   pub tied-removed : (r : Wanted) → r.amount ≡ 0 → AreTied rows lists → AreTied (set rows x r) (unlinked lists x)
-  tied-removed r none tied y = elim (eqb_tells x y) [
-    | inl hit ↦
-        let gone : (not (eqb x y) && is_queued lists y) ≡ false = rw hit.0 refl in
-        let asks : nat_lt 0 (row_of (set rows x r) y).amount ≡ false = rw (sym hit.1, row-same r, none) refl in
-        queued_unlinked x y lists ∙ gone ∙ sym asks
-    | inr miss ↦
-        let there : (not (eqb x y) && is_queued lists y) ≡ is_queued lists y = rw miss.0 refl in
-        queued_unlinked x y lists ∙ there ∙ tied y ∙ sym (ap (λ (w : Wanted). nat_lt 0 w.amount) (row-other r y (λ e. miss.1 (sym e))))
-  ]
+  tied-removed r none tied y = grind (arith, nat_tests, eqb_tells, row-same, queued_unlinked, row-other)
 
   -- the node, which asked for nothing, asks for something
   pub tied-put : (k : ℕ) (r : Wanted) → k < length lists → 0 < r.amount → AreTied rows lists → AreTied (set rows x r) (pushed lists k x)
   tied-put k r inside some tied y = elim (eqb_tells y x) [
-    | inl hit ↦
-        let here : (is_queued lists y || eqb y x) ≡ true = rw hit.0 (at_end (is_queued lists y)) in
-        let asks : nat_lt 0 (row_of (set rows x r) y).amount ≡ true = rw (hit.1, row-same r) (lt-ltb 0 r.amount some) in
-        queued_pushed k x y lists inside ∙ here ∙ sym asks
-    | inr miss ↦
-        let there : (is_queued lists y || eqb y x) ≡ is_queued lists y = rw miss.0 (no_end (is_queued lists y)) in
-        queued_pushed k x y lists inside ∙ there ∙ tied y ∙ sym (ap (λ (w : Wanted). nat_lt 0 w.amount) (row-other r y miss.1))
+    | inl hit ↦ grind (arith, nat_tests, row-same, lt-ltb, queued_pushed)
+    | inr miss ↦ grind (arith, nat_tests, queued_pushed, row-other)
   ]
     where
       at_end : (a : Bool) → (a || true) ≡ true
@@ -83,13 +63,7 @@ module _ (rows : List Wanted) (lists : List (List ℕ)) (x : ℕ) (low : x < len
 
   -- the node asks for something as before
   pub tied-lowered : (r : Wanted) → 0 < (row_of rows x).amount → 0 < r.amount → AreTied rows lists → AreTied (set rows x r) lists
-  tied-lowered r before some tied y = elim (eqb_tells y x) [
-    | inl hit ↦
-        let asked : nat_lt 0 (row_of rows y).amount ≡ true = rw hit.1 (lt-ltb 0 (row_of rows x).amount before) in
-        let asks : nat_lt 0 (row_of (set rows x r) y).amount ≡ true = rw (hit.1, row-same r) (lt-ltb 0 r.amount some) in
-        tied y ∙ asked ∙ sym asks
-    | inr miss ↦ tied y ∙ sym (ap (λ (w : Wanted). nat_lt 0 w.amount) (row-other r y miss.1))
-  ]
+  tied-lowered r before some tied y = grind (arith, nat_tests, eqb_tells, lt-ltb, row-same, row-other)
 
 -- a node that asks for something has a row
 pub asks_low : (rows : List Wanted) (x : ℕ) → 0 < (row_of rows x).amount → x < length rows

@@ -1,5 +1,5 @@
 -- Counters that run on, and what they have run since the marks.
-use Rattle.dk_slack.proofs.Names.{◌≡◌, ◌<◌, ◌≤◌, ◌+◌, ◌%◌, ◌^◌, ◌∙◌, ℕ, zero, suc, List, [], ◌∷◌, ◌++◌, All, length, get_or, map, set, take, drop, replicate, refl, ap, subst, arith, Option, Some, None, sum, refill, take_all, sum_by-cons, sum_by-set, raised, counted_for, since, run_of_slower, unclaimed_by}
+use Rattle.dk_slack.proofs.Names.{◌≡◌, ◌<◌, ◌≤◌, ◌+◌, ◌%◌, ◌^◌, ◌∙◌, ℕ, zero, suc, List, [], ◌∷◌, ◌++◌, All, length, get_or, map, set, take, drop, replicate, refl, ap, arith, Option, Some, None, sum, refill, take_all, sum_by-cons, sum_by-set, raised, counted_for, since, run_of_slower, unclaimed_by, nat_tests}
 use Rattle.std.proofs.Math.ListN.{length-set}
 use Rattle.dk_config.proofs.Refills.{refill-whole}
 
@@ -68,25 +68,18 @@ all-counted k (suc level) (u ∷ us) past = ap (λ ns. (u + k) ∷ ns) (all-coun
 pub level-counts : (k : ℕ) (booked : Option ℕ) (nobodys level : ℕ) (counters marks : List ℕ) → booked ≡ Some level → level < length counters
     → HaveRoom k (raised booked (unclaimed_by nobodys counters marks))
     → unclaimed_by nobodys (set counters level ((get_or counters level 0 + k) % 2 ^ 32)) marks ≡ counted_for k booked (unclaimed_by nobodys counters marks)
-level-counts k booked nobodys level counters marks is inside room =
-    rw is (level-counted k nobodys level counters marks inside (rw is at room))
+level-counts k booked nobodys level counters marks is inside room = grind (arith, nat_tests, level-counted)
 
 pub nobody-counts : (k : ℕ) (booked : Option ℕ) (nobodys : ℕ) (counters marks : List ℕ) → booked ≡ None
     → HaveRoom k (raised booked (unclaimed_by nobodys counters marks))
     → unclaimed_by ((nobodys + k) % 2 ^ 32) counters marks ≡ counted_for k booked (unclaimed_by nobodys counters marks)
-nobody-counts k booked nobodys counters marks is room =
-    rw is (nobodys-counted k nobodys ((nobodys + k) % 2 ^ 32) counters marks refl (rw is at room))
+nobody-counts k booked nobodys counters marks is room = grind (arith, nat_tests, nobodys-counted)
 
 pub stranger-counts : (k : ℕ) (booked : Option ℕ) (nobodys level : ℕ) (counters marks : List ℕ) → booked ≡ Some level
     → length counters ≤ level → length counters ≡ length marks
     → HaveRoom k (raised booked (unclaimed_by nobodys counters marks))
     → unclaimed_by ((nobodys + k) % 2 ^ 32) counters marks ≡ counted_for k booked (unclaimed_by nobodys counters marks)
-stranger-counts k booked nobodys level counters marks is past same room =
-    let us = unclaimed_by nobodys counters marks in
-    let beyond : length us ≤ level = omega (arith, length-unclaimed nobodys counters marks same) in
-    let all : HaveRoom k us = subst (HaveRoom k) (take_all level us beyond) (rw is at room) in
-    rw is
-    (nobodys-counted k nobodys ((nobodys + k) % 2 ^ 32) counters marks refl all ∙ all-counted k level us beyond)
+stranger-counts k booked nobodys level counters marks is past same room = grind (arith, nat_tests, length-unclaimed, take_all, nobodys-counted, all-counted)
 
 -- a window of the level begins
 pub marked : (nobodys level v : ℕ) (counters marks : List ℕ) → v ≡ run_of_slower level nobodys counters % 2 ^ 32
@@ -95,9 +88,8 @@ pub marked : (nobodys level v : ℕ) (counters marks : List ℕ) → v ≡ run_o
 marked nobodys level v [] marks is inside = absurd (omega arith)
 marked nobodys zero v (n ∷ counters) [] is inside = refl
 marked nobodys (suc level) v (n ∷ counters) [] is inside = refl
-marked nobodys zero v (n ∷ counters) (mark ∷ marks) is inside = rw (since-now v (nobodys + sum counters) (omega arith)) refl
-marked nobodys (suc level) v (n ∷ counters) (mark ∷ marks) is inside =
-    ap (λ us. since mark (nobodys + sum counters) ∷ us) (marked nobodys level v counters marks is (omega arith))
+marked nobodys zero v (n ∷ counters) (mark ∷ marks) is inside = grind (arith, nat_tests, since-now)
+marked nobodys (suc level) v (n ∷ counters) (mark ∷ marks) is inside = grind (arith, nat_tests, since-now, marked nobodys level v counters marks)
 
 -- what is unclaimed of the level
 pub unclaimed-at : (nobodys level : ℕ) (counters marks : List ℕ) → level < length counters → length counters ≡ length marks
@@ -105,8 +97,7 @@ pub unclaimed-at : (nobodys level : ℕ) (counters marks : List ℕ) → level <
 unclaimed-at nobodys level [] marks inside same = absurd (omega arith)
 unclaimed-at nobodys level (n ∷ counters) [] inside same = absurd (omega arith)
 unclaimed-at nobodys zero (n ∷ counters) (mark ∷ marks) inside same = refl
-unclaimed-at nobodys (suc level) (n ∷ counters) (mark ∷ marks) inside same =
-    unclaimed-at nobodys level counters marks (omega arith) (omega arith)
+unclaimed-at nobodys (suc level) (n ∷ counters) (mark ∷ marks) inside same = grind (arith, nat_tests, unclaimed-at nobodys level counters marks)
 
 -- at the start
 nothing-run : (n : ℕ) → sum (replicate n 0) ≡ 0

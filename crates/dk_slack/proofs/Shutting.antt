@@ -69,13 +69,8 @@ module _ (c : Configuration) (e : Entry) (past : List Entry) (shut : Thread → 
           let level' : eqb x.level k ≡ true = ap (λ (z : Thread). eqb z.level k) is ∙ level in
           let some' : nat_lt 0 (want c now (e ∷ past) (after x)) ≡ true = ap (λ z. nat_lt 0 (want c now (e ∷ past) z)) is ∙ some in
           elim (cases_Bool (shut x)) [
-            | inl on ↦
-                let zero-want = shuts.ends x has on in
-                let off : nat_lt 0 (want c now (e ∷ past) (after x)) ≡ false = ap (nat_lt 0) zero-want in
-                absurd (cc)
-            | inr off ↦
-                let some'' : nat_lt 0 (want c now before x) ≡ true = sym (ap (nat_lt 0) (want-kept x has off)) ∙ some' in
-                (x, has-filter (λ z. eqb z.level k && nat_lt 0 (want c now before z)) (threads c before) x has (rw (level', some'') refl), off, is)
+            | inl on ↦ grind (arith, nat_tests)
+            | inr off ↦ grind (arith, nat_tests, want-kept, has-filter)
           ]
 
   age-kept : (x : Thread) → Has (threads c before) x → shut x ≡ false → (request c now (e ∷ past) (after x)).age ≡ (request c now before x).age
@@ -122,9 +117,7 @@ module _ (c : Configuration) (e : Entry) (past : List Entry) (shut : Thread → 
           let tell = tells x k'.0 k'.1 in
           elim (cases_Bool (shut x)) [
             | inl on ↦ let g : gone (counted_wish node_of c now before x) ≡ true = tell ∙ on in rw (g, on) rest
-            | inr off ↦
-                let g : gone (counted_wish node_of c now before x) ≡ false = tell ∙ off in
-                rw (g, off, rest) (ap (λ w. w ∷ map (counted_wish node_of' c now (e ∷ past)) (left xs)) (one x k'.0 k'.1 off))
+            | inr off ↦ grind (arith, nat_tests)
           ]
 
       go : (xs : List Thread) → ((x : Thread) → Contains xs x ↔ Contains (asking c now before k) x) → AreOldestFirst c now before xs

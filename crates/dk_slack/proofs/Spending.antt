@@ -46,8 +46,7 @@ asking-is c now past k y has =
     record { there = parts.0; level = tests.0; some = some-of (past_want c now past y) tests.1 }
 
 pub is-asking : (c : Configuration) (now : ℕ) (past : List Entry) (k : ℕ) (y : Thread) → IsAsking c now past k y → Contains (asking c now past k) y
-is-asking c now past k y h =
-    to-filter (λ x. (x.level == k) && nat_lt 0 (past_want c now past x)) (threads c past) y h.there (rw (h.level, lt-ltb 0 (past_want c now past y) h.some) refl)
+is-asking c now past k y h = grind (arith, nat_tests, to-filter, lt-ltb)
 
 -- what a request says after a tick of slack of its thread, or of another one
 less : (b s : Bool) (r : Request) → (cond b no_request (aged s r)).amount - (cond b no_request (aged s r)).spent ≡ ((cond b no_request r).amount - (cond b no_request r).spent) - cond s 1 0
@@ -132,12 +131,7 @@ module _ (c : Configuration) (past : List Entry) (me : ThreadId) (source : Sourc
               let none : past_want c now (entry ∷ past) x ≡ 0 = want-less x ∙ rw (own.2 e, e) refl in
               let gone : keeps x ≡ false = rw none refl in
               rw (mine, gone) rest
-          | false ↦ λ e.
-              let other : is_of (node_of me) (before x) ≡ false = sym own.1 ∙ e in
-              let all : past_want c now (entry ∷ past) x ≡ past_want c now past x = want-less x ∙ rw e (omega arith) in
-              let kept : keeps x ≡ true = rw all (lt-ltb 0 (past_want c now past x) own.0) in
-              let same : after x ≡ before x = lowered-one x own.0 own.1 ∙ rw other refl in
-              rw (other, kept, same, rest) refl
+          | false ↦ grind (arith, nat_tests, want-less, lt-ltb, lowered-one)
         ] refl
 
     -- a tick of more
@@ -147,10 +141,7 @@ module _ (c : Configuration) (past : List Entry) (me : ThreadId) (source : Sourc
     all-lowered (x ∷ xs) each =
         let own = each x (0, omega arith, refl) in
         let rest = all-lowered xs (λ y has. each y (later x xs y has)) in
-        let left : 0 < past_want c now (entry ∷ past) x = elim (is_same x.id me) as (λ s. is_same x.id me ≡ s → 0 < past_want c now (entry ∷ past) x) [
-          | true ↦ λ e. omega (arith, own.2 e, want-less x ∙ ap (λ (b : Bool). past_want c now past x - cond b 1 0) e)
-          | false ↦ λ e. omega (arith, own.0, want-less x ∙ ap (λ (b : Bool). past_want c now past x - cond b 1 0) e)
-        ] refl in
+        let left : 0 < past_want c now (entry ∷ past) x = grind (arith, nat_tests, want-less) in
         let kept : keeps x ≡ true = lt-ltb 0 (past_want c now (entry ∷ past) x) left in
         rw (kept, lowered-one x own.0 own.1, rest) refl
 

@@ -1,5 +1,5 @@
 -- The fields of a table, and what contracts see of it, after each change.
-use Rattle.dk_slack.proofs.Names.{◌≡◌, ℕ, zero, suc, ◌-◌, ◌*◌, ◌<◌, ◌≤◌, true, false, ◌&&◌, List, [], ◌∷◌, map, length, set, replicate, IsSome, IsNone, refl, sym, ap, ◌∙◌, arith, length-set, nat_lt, None, le-ltb, lt-ltb, length-map, length-replicate, MAX_COST, MAX_LEVELS, Queues, holder, pushed, unlinked, without, Wanted, wish_of, want, is_entering, dropped, put_last, lowered_for, Slack, row_of, wish_at, wishes_in, is_queued, IsSound}
+use Rattle.dk_slack.proofs.Names.{◌≡◌, ℕ, zero, suc, ◌-◌, ◌*◌, ◌<◌, ◌≤◌, false, ◌&&◌, List, [], ◌∷◌, map, length, set, replicate, IsSome, IsNone, refl, sym, ap, ◌∙◌, arith, length-set, nat_lt, None, le-ltb, lt-ltb, length-map, length-replicate, MAX_COST, MAX_LEVELS, Queues, holder, pushed, unlinked, without, Wanted, wish_of, want, is_entering, dropped, put_last, lowered_for, Slack, row_of, wish_at, wishes_in, is_queued, IsSound, nat_tests}
 use Rattle.dk_slack.proofs.Queued.{holder-queued, tied-removed, tied-put, tied-lowered}
 use Rattle.dk_slack.proofs.Wished.{wishes-removed, wishes-put, wishes-lowered, want-in, no_wish-in, entering-in, free-in, low-in, queued-in}
 
@@ -28,16 +28,10 @@ module _ (q : Queues) (rows : List Wanted) (w : ℕ) (us zs : List ℕ) (t : Sla
     no_wish-read none = no_wish (sym (ap (λ (v : Wanted). v.amount) read) ∙ none)
 
     pub entering-read : 0 < r.amount → nat_lt 0 r.entering ≡ is_entering x t.wishes
-    entering-read some =
-        let asks : nat_lt 0 (row_of rows x).amount ≡ true = lt-ltb 0 (row_of rows x).amount (omega (arith, ap (λ (v : Wanted). v.amount) read)) in
-        let both : is_entering x t.wishes ≡ nat_lt 0 (row_of rows x).entering = entering-is ∙ rw asks refl in
-        ap (λ (v : Wanted). nat_lt 0 v.entering) read ∙ sym both
+    entering-read some = grind (arith, nat_tests, lt-ltb, entering-is)
 
     pub nothing-read : r.amount ≤ 0 → nat_lt 0 r.amount ≡ is_entering x t.wishes
-    nothing-read none =
-        let asks : nat_lt 0 (row_of rows x).amount ≡ false = le-ltb 0 (row_of rows x).amount (omega (arith, ap (λ (v : Wanted). v.amount) read)) in
-        let both : is_entering x t.wishes ≡ false = entering-is ∙ rw asks refl in
-        ap (λ (v : Wanted). nat_lt 0 v.amount) read ∙ asks ∙ sym both
+    nothing-read none = grind (arith, nat_tests, le-ltb, entering-is)
 
   pub queued : 0 < want x t.wishes → IsSome (holder q.lists x)
   queued some = holder-queued q.lists x ∙ queued-in rows x q.lists sound.tied (omega (arith, wants))
@@ -120,13 +114,7 @@ no_wishes rows (suc k) = ap (λ ws. [] ∷ ws) (no_wishes rows k)
 
 module _ (q : Queues) (rows : List Wanted) (n k w : ℕ) (zs : List ℕ) (nodes : q.nodes ≡ n) (lists : q.lists ≡ replicate k []) (empty : rows ≡ replicate n (record { amount = 0; entering = 0 })) where
   pub sound-start : length zs ≡ k → k ≤ MAX_LEVELS → w ≤ MAX_COST → IsSound q rows w zs
-  sound-start levels few ticks = record {
-    nodes = nodes ∙ sym (ap length empty ∙ length-replicate n (record { amount = 0; entering = 0 }));
-    levels = ap length lists ∙ length-replicate k [] ∙ sym levels;
-    few_levels = omega (arith, levels, few);
-    few_ticks = ticks;
-    tied = λ x. ap (λ ls. is_queued ls x) lists ∙ none_queued k x ∙ sym (ap (λ (v : Wanted). nat_lt 0 v.amount) (ap (λ rs. row_of rs x) empty ∙ none_asks n x));
-  }
+  sound-start levels few ticks = grind (arith, nat_tests, length-replicate, none_queued, none_asks)
 
   pub table-start : (us : List ℕ) → table_of q rows w us zs ≡ record { nodes = n; switch = w; wishes = replicate k []; unclaimed = us; spares = zs }
   table-start us = rw (nodes, lists, no_wishes rows k) refl

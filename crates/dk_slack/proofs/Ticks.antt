@@ -1,5 +1,5 @@
 -- The wishes of a level at the next tick, and once a tick is past in which nothing happened and nobody had slack.
-use Rattle.dk_slack.proofs.Names.{◌≡◌, ℕ, suc, ◌+◌, ◌-◌, ◌*◌, ◌<◌, ◌≤◌, Bool, true, false, ◌&&◌, ◌||◌, cond, List, [], ◌∷◌, map, take, length, refl, sym, ap, subst, ◌∙◌, inl, inr, arith, nat_le, nat_lt, ◌==◌, filter, flat_map, Contains, ◌↔◌, Option, None, option_map_or, list_any, eqb-true, and_parts, eqb_tells, append-nil, and-false, Configuration, below, period, window_start, ThreadId, Label, Entry, Event, does, is_wait, is_same, is_slack_of, borrower, window, Thread, after_entry, family, threads, is_closed, Request, aged, no_request, last_request, request, Wish, AreCounted, AreOldestFirst, asking, counted_wish, nat_tests}
+use Rattle.dk_slack.proofs.Names.{◌≡◌, ℕ, suc, ◌+◌, ◌-◌, ◌*◌, ◌<◌, ◌≤◌, Bool, true, false, ◌&&◌, ◌||◌, cond, List, [], ◌∷◌, map, take, length, refl, sym, ap, subst, ◌∙◌, arith, nat_le, nat_lt, ◌==◌, filter, flat_map, Contains, ◌↔◌, Option, None, option_map_or, list_any, eqb-true, and_parts, eqb_tells, append-nil, and-false, Configuration, below, period, window_start, ThreadId, Label, Entry, Event, does, is_wait, is_same, is_slack_of, borrower, window, Thread, after_entry, family, threads, is_closed, Request, aged, no_request, last_request, request, Wish, AreCounted, AreOldestFirst, asking, counted_wish, nat_tests}
 use Rattle.std.specs.Prelude.{All}
 use Rattle.std.proofs.lemmas.List.Concat.{flat_map-cons}
 use Rattle.dk_trace.specs.Entries.{is_of}
@@ -102,8 +102,7 @@ wishes-end node_of c past k begins = ([], λ x. subst (λ (ys : List Thread). Co
     nobody : (xs : List Thread) → filter (λ x. (x.level == k) && nat_lt 0 (want c (length past) past x)) xs ≡ []
     nobody [] = refl
     nobody (x ∷ xs) =
-        let fails : ((x.level == k) && nat_lt 0 (want c (length past) past x)) ≡ false =
-        elim (eqb_tells x.level k) [ inl hit ↦ rw (nothing x hit.1) (and-false (x.level == k)) | inr miss ↦ rw miss.0 refl ] in
+        let fails : ((x.level == k) && nat_lt 0 (want c (length past) past x)) ≡ false = grind (arith, nat_tests, eqb_tells, and-false) in
         rw fails (nobody xs)
 
 -- an entry without an event stops nobody and makes nobody

@@ -1,5 +1,5 @@
 -- The wishes of the queued nodes, after a change of the queues and of a row, and what a look for one finds.
-use Rattle.dk_slack.proofs.Names.{◌≡◌, ℕ, zero, suc, ◌-◌, ◌<◌, Bool, true, false, cond, not, ◌&&◌, ◌||◌, eqb, List, [], ◌∷◌, ◌++◌, map, length, get_or, set, refl, sym, ap, ◌∙◌, inl, inr, arith, get_or-set_same, get_or-set_other, nat_lt, filter, find, Option, Some, None, option_or, option_map_or, lt-ltb, or_parts, eqb_tells, map-append, map-set, get_or-map, queue_at, holds, pushed, without, unlinked, Wanted, Wish, is_of, wish_of, want, is_entering, dropped, put_last, lowered_for, row_of, wish_at, wishes_in, is_queued, AreTied}
+use Rattle.dk_slack.proofs.Names.{◌≡◌, ℕ, zero, suc, ◌-◌, ◌<◌, Bool, true, false, cond, not, ◌&&◌, ◌||◌, eqb, List, [], ◌∷◌, ◌++◌, map, length, get_or, set, refl, sym, ap, ◌∙◌, inl, inr, arith, get_or-set_same, get_or-set_other, nat_lt, filter, find, Option, Some, None, option_or, option_map_or, lt-ltb, or_parts, eqb_tells, map-append, map-set, get_or-map, queue_at, holds, pushed, without, unlinked, Wanted, Wish, is_of, wish_of, want, is_entering, dropped, put_last, lowered_for, row_of, wish_at, wishes_in, is_queued, AreTied, nat_tests}
 use Rattle.dk_slack.proofs.Queued.{asks_low, unlinked-itself}
 
 module _ (rows : List Wanted) (x : ℕ) where
@@ -15,15 +15,11 @@ module _ (rows : List Wanted) (x : ℕ) where
 
   pub wishes-same : (r : Wanted) (lists : List (List ℕ)) → is_queued lists x ≡ false → wishes_in (set rows x r) lists ≡ wishes_in rows lists
   wishes-same r [] none = refl
-  wishes-same r (q ∷ lists) none =
-      let both = or_parts (holds x q) (is_queued lists x) none in
-      rw (queue-same r q both.0, wishes-same r lists both.1) refl
+  wishes-same r (q ∷ lists) none = grind (arith, nat_tests, or_parts, queue-same, wishes-same r lists)
 
   queue-without : (q : List ℕ) → map (wish_at rows) (without x q) ≡ filter (λ w. not (is_of x w)) (map (wish_at rows) q)
   queue-without [] = refl
-  queue-without (y ∷ q) =
-      elim (eqb x y) as (λ t. map (wish_at rows) (cond (not t) (y ∷ without x q) (without x q)) ≡ cond (not t) (wish_at rows y ∷ filter (λ w. not (is_of x w)) (map (wish_at rows) q)) (filter (λ w. not (is_of x w)) (map (wish_at rows) q)))
-      [ true ↦ queue-without q | false ↦ ap (λ ws. wish_at rows y ∷ ws) (queue-without q) ]
+  queue-without (y ∷ q) = grind (arith, nat_tests, queue-without q)
 
   wishes-unlinked : (lists : List (List ℕ)) → wishes_in rows (unlinked lists x) ≡ dropped x (wishes_in rows lists)
   wishes-unlinked [] = refl
@@ -63,14 +59,10 @@ module _ (rows : List Wanted) (x : ℕ) where
 
   find-in : (q : List ℕ) → find (is_of x) (map (wish_at rows) q) ≡ cond (holds x q) (Some (wish_at rows x)) None
   find-in [] = refl
-  find-in (y ∷ q) = elim (eqb_tells x y) [
-    | inl hit ↦ rw hit.0 (ap (λ (n : ℕ). Some (wish_at rows n)) (sym hit.1))
-    | inr miss ↦ rw miss.0 (find-in q)
-  ]
+  find-in (y ∷ q) = grind (arith, nat_tests, eqb_tells, find-in q)
 
   either : (a b : Bool) (w : Wish) → option_or (cond a (Some w) None) (cond b (Some w) None) ≡ cond (a || b) (Some w) None
-  either true b w = refl
-  either false b w = refl
+  either a b w = grind (arith, nat_tests)
 
   pub wish-in : (lists : List (List ℕ)) → wish_of x (wishes_in rows lists) ≡ cond (is_queued lists x) (Some (wish_at rows x)) None
   wish-in [] = refl
@@ -111,10 +103,7 @@ module _ (rows : List Wanted) (x : ℕ) where
 -- the wishes alone
 find-dropped : (x : ℕ) (ws : List Wish) → find (is_of x) (filter (λ w. not (is_of x w)) ws) ≡ None
 find-dropped x [] = refl
-find-dropped x (w ∷ ws) = elim (eqb_tells x w.node) [
-  | inl hit ↦ rw hit.0 (find-dropped x ws)
-  | inr miss ↦ rw miss.0 (rw miss.0 (find-dropped x ws))
-]
+find-dropped x (w ∷ ws) = grind (arith, nat_tests, eqb_tells, find-dropped x ws)
 
 pub wish-dropped : (x : ℕ) (wishes : List (List Wish)) → wish_of x (dropped x wishes) ≡ None
 wish-dropped x [] = refl
@@ -125,17 +114,11 @@ want-dropped x wishes = ap (λ o. option_map_or (λ (w : Wish). w.amount) o 0) (
 
 filter-none : (x : ℕ) (ws : List Wish) → find (is_of x) ws ≡ None → filter (λ w. not (is_of x w)) ws ≡ ws
 filter-none x [] none = refl
-filter-none x (w ∷ ws) none = elim (eqb_tells x w.node) [
-  | inl hit ↦ absurd (let some : Some w ≡ None = rw hit.0 at none in cc)
-  | inr miss ↦ let rest : find (is_of x) ws ≡ None = rw miss.0 at none in rw miss.0 (ap (λ vs. w ∷ vs) (filter-none x ws rest))
-]
+filter-none x (w ∷ ws) none = grind (arith, nat_tests, eqb_tells, filter-none x ws)
 
 neither : (a b : Option Wish) → option_or a b ≡ None → (a ≡ None) × (b ≡ None)
-neither None b h = (refl, h)
-neither (Some w) b h = absurd (cc)
+neither a b h = grind (arith, nat_tests)
 
 pub dropped-none : (x : ℕ) (wishes : List (List Wish)) → wish_of x wishes ≡ None → dropped x wishes ≡ wishes
 dropped-none x [] none = refl
-dropped-none x (ws ∷ wishes) none =
-    let both = neither (find (is_of x) ws) (wish_of x wishes) none in
-    rw (filter-none x ws both.0, dropped-none x wishes both.1) refl
+dropped-none x (ws ∷ wishes) none = grind (arith, nat_tests, neither, filter-none, dropped-none x wishes)
