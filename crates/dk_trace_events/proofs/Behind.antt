@@ -30,7 +30,7 @@ named_label h (Label.Out x) known = known.0
 named_label h (Label.Slack x source work) known = known.0.0
 named_label h Label.Idle known = tt
 
-all_reversed : (P : Entry → Type 0) (es : List Entry) → AllByRecursion P es → AllByRecursion P (reverse es)
+pub all_reversed : (P : Entry → Type 0) (es : List Entry) → AllByRecursion P es → AllByRecursion P (reverse es)
 all_reversed P [] all = tt
 all_reversed P (e ∷ es) all =
     subst (AllByRecursion P) (sym (reverse-append (e ∷ []) es)) (all_both P (reverse es) (e ∷ []) (all_reversed P es all.1) (all.0, tt))

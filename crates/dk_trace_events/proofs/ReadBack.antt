@@ -22,6 +22,8 @@ use Rattle.dk_groups.proofs.ListParts.{first_same, rest_same}
 use Rattle.dk_groups.proofs.Readable.{groups_readable, whole_all}
 use Rattle.dk_groups.proofs.Slices.{whole_slice}
 use Rattle.dk_groups.proofs.Until.{decimal_digits, until}
+use Rattle.dk_overrun_spans.specs.declared.overrun.Overrun.{Overrun}
+use Rattle.dk_overrun_spans.specs.Overruns.{overruns}
 use Rattle.dk_trace_events.specs.Texts.{texts_behind}
 use Rattle.dk_trace_events.specs.Slices.{event_lines, group_objects, group_text, slice_rest}
 use Rattle.dk_trace_events.specs.SlackPoints.{point_text, slack_in, slack_point, start_point}
@@ -30,6 +32,7 @@ use Rattle.dk_holds.specs.Holds.{ended, holding, last_entry}
 use Rattle.dk_trace_events.specs.Behind.{line_text, lines_text, past_of}
 use Rattle.dk_trace_events.specs.HoldSlices.{ended_holds, hold_slice, hold_text, mutex_names, open_holds}
 use Rattle.dk_trace_events.specs.LevelWindows.{level_texts}
+use Rattle.dk_trace_events.specs.OverrunInstants.{is_shown, overrun_instant, overruns_text, shown_overrun}
 use Rattle.dk_trace_events.specs.Names.{child_name, made_by, made_name, process_texts}
 use Rattle.dk_trace_events.specs.Traces.{end_text, groups_text, head_text, objects_text, tail_text, trace_text}
 use Rattle.dk_entry_words.proofs.ReadBack.{printable}
@@ -84,11 +87,22 @@ levels_no_slice : (from to j : ℕ) (rows : List TableRow) (rest : List ℕ) →
 levels_no_slice from to j [] rest free = free
 levels_no_slice from to j (row ∷ rows) rest free = record { letter = 110; behind = _; is = refl; other = λ e. absurd (omega (arith, e)); no_point = λ e. absurd (omega (arith, e)) }
 
+one_overrun_no_slice : (b : Bool) (o : Overrun) (rest : List ℕ) → NoSlice rest → NoSlice ((if b then overrun_instant o else []) ++ rest)
+one_overrun_no_slice true o rest free = record { letter = 119; behind = _; is = refl; other = λ e. absurd (omega (arith, e)); no_point = λ e. absurd (omega (arith, e)) }
+one_overrun_no_slice false o rest free = free
+
+overruns_no_slice : (from to : ℕ) (os : List Overrun) (rest : List ℕ) → NoSlice rest → NoSlice (overruns_text from to os ++ rest)
+overruns_no_slice from to [] rest free = free
+overruns_no_slice from to (o ∷ os) rest free =
+    let more = overruns_text from to os in
+    subst NoSlice (sym (append_assoc (shown_overrun from to o) more rest)) (one_overrun_no_slice (is_shown from to o) o (more ++ rest) (overruns_no_slice from to os rest free))
+
 -- what stands behind the groups
-rest_no_slice : (h : Heading) (from to : ℕ) (ls : List LedgerLine) → NoSlice (lines_text h from ls ++ (open_holds h from to (past_of ls) ++ end_text from to h))
-rest_no_slice h from to ls =
-    lines_no_slice h from [] ls (open_holds h from to (past_of ls) ++ end_text from to h)
-    (mutexes_no_slice (λ m. hold_text h from to m (holding m (past_of ls))) (λ m. hold_no_slice h from to m (holding m (past_of ls))) MAX_MUTEXES (end_text from to h) (levels_no_slice from to 0 h.levels tail_text tail_no_slice))
+rest_no_slice : (h : Heading) (from to : ℕ) (os : List Overrun) (ls : List LedgerLine) → NoSlice (lines_text h from ls ++ (open_holds h from to (past_of ls) ++ end_text from to h os))
+rest_no_slice h from to os ls =
+    lines_no_slice h from [] ls (open_holds h from to (past_of ls) ++ end_text from to h os)
+    (mutexes_no_slice (λ m. hold_text h from to m (holding m (past_of ls))) (λ m. hold_no_slice h from to m (holding m (past_of ls))) MAX_MUTEXES (end_text from to h os)
+    (overruns_no_slice from to os (level_texts from to 0 h.levels ++ tail_text) (levels_no_slice from to 0 h.levels tail_text tail_no_slice)))
 
 -- a group's text begins with its line
 abbrev behind_line : Heading → List LedgerLine → LedgerLine → List ℕ → List ℕ
@@ -176,8 +190,8 @@ traces_same h from to lo hi es fs is other e =
     let behind_names = append_cancel_left (mutex_names ++ process_texts 0 h.processes) _ _ behind_head in
     let mine = groups_readable h from to es is in
     let others = groups_readable h lo hi fs other in
-    let free = rest_no_slice h from to (groups 0 to es) in
-    let frees = rest_no_slice h lo hi (groups 0 hi fs) in
+    let free = rest_no_slice h from to (overruns h es) (groups 0 to es) in
+    let frees = rest_no_slice h lo hi (overruns h fs) (groups 0 hi fs) in
     let objects = objects_same h (groups from to es) (groups lo hi fs) _ _ mine others free frees behind_names in
     let same = groups_same h is.heading [] (groups from to es) (groups lo hi fs) _ _ mine others free frees objects in
     sym (whole_slice from to es) ∙ ap (flat_map entries_of) same ∙ whole_slice lo hi fs

@@ -5,5 +5,6 @@ pub mod Slices
 pub mod Names
 pub mod HoldSlices
 pub mod LevelWindows
+pub mod OverrunInstants
 pub mod Behind
 pub mod Traces

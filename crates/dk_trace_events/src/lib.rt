@@ -6,6 +6,7 @@ mod laws;
 mod line;
 mod lines;
 mod names;
+mod overruns;
 mod slack;
 mod slices;
 mod tracks;

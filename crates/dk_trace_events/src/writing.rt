@@ -10,11 +10,13 @@ ghost use Rattle.dk_holds.specs.Holds.{AreHolders};
 ghost use Rattle.dk_trace_events.specs.Behind.{AreKnown, IsStarting, StandsFirst, lines_text, past_of};
 ghost use Rattle.dk_trace_events.specs.HoldSlices.{mutex_names, open_holds};
 ghost use Rattle.dk_trace_events.specs.Names.{process_texts};
+ghost use Rattle.dk_trace_events.specs.LevelWindows.{level_texts};
 ghost use Rattle.dk_trace_events.specs.Traces.{end_text, groups_text, head_text, tail_text, trace_text};
 
 use crate::holds::{write_mutex_names, write_open_holds};
 use crate::lines::write_lines;
 use crate::names::write_processes;
+use crate::overruns::write_overruns;
 use crate::slices::write_groups;
 use crate::windows::write_levels;
 use dk_config::{MAX_MUTEXES, NoMemory};
@@ -22,11 +24,13 @@ use dk_groups::{GroupReader, WriteFault, header_of};
 use dk_holds::Holders;
 use dk_ledger::{Header, LedgerLine};
 use dk_outside::{Sink, SinkError, write_all_to};
+use dk_overrun_spans::{Overrun, read_overruns};
 use std::alloc::Global;
 use std::marker::Model;
 
 /// The trace of a ledger in a range of ticks, ready to be written. It is seen as the header with two readers, that of the
-/// groups and that of the lines up to the range's end, each with the first of what it gives.
+/// groups and that of the lines up to the range's end, each with the first of what it gives, and the windows that were
+/// overrun.
 #[derive(Drop)]
 pub struct Trace<'a> {
     header: Header,
@@ -34,6 +38,7 @@ pub struct Trace<'a> {
     first: Option<LedgerLine>,
     lines: GroupReader<'a>,
     first_line: Option<LedgerLine>,
+    overruns: Vec<Overrun>,
 }
 
 impl<'a> Model for Trace<'a> {
@@ -43,7 +48,7 @@ impl<'a> Model for Trace<'a> {
 
     ghost Value = { Tracing };
 
-    ghost view = { λ t. record { heading = t.header; groups = t.groups; first = t.first; lines = t.lines; first_line = t.first_line } };
+    ghost view = { λ t. record { heading = t.header; groups = t.groups; first = t.first; lines = t.lines; first_line = t.first_line; overruns = t.overruns.items } };
 
     ghost invariant = { λ t. StandsFirst t.header t.first_line t.lines × (t.lines.from ≡ 0) × IsStarting t.first t.groups };
 }
@@ -63,12 +68,14 @@ impl<'a> Trace<'a> {
         let first = groups.next(alloc)?;
         let mut lines = GroupReader::new(alloc, bytes, 0, to);
         let first_line = lines.next(alloc)?;
+        let overruns = read_overruns(alloc, bytes)?;
         Ok(Trace {
             header,
             groups,
             first,
             lines,
             first_line,
+            overruns,
         })
     }
 
@@ -84,6 +91,7 @@ impl<'a> Trace<'a> {
             first,
             mut lines,
             first_line,
+            overruns,
         } = self;
         write_head(&header, sink)?;
         write_objects(
@@ -92,6 +100,7 @@ impl<'a> Trace<'a> {
             first,
             &mut lines,
             first_line,
+            overruns.as_slice(),
             alloc,
             sink,
         )
@@ -130,6 +139,7 @@ fn write_objects<S: Sink>(
     first: Option<LedgerLine>,
     lines: &mut GroupReader,
     first_line: Option<LedgerLine>,
+    overruns: &[Overrun],
     alloc: Global,
     sink: &mut S,
 ) -> Result<(), WriteFault>
@@ -142,11 +152,11 @@ fn write_objects<S: Sink>(
         (groups_text j.heading (groups reader.old.from reader.old.to j.entries)
         ++ (lines_text j.heading reader.old.from (groups lines.old.from lines.old.to j.entries)
         ++ (open_holds j.heading reader.old.from lines.old.to (past_of (groups lines.old.from lines.old.to j.entries))
-        ++ end_text reader.old.from lines.old.to j.heading))) }
+        ++ end_text reader.old.from lines.old.to j.heading overruns.now))) }
 {
     let from = reader.first_tick();
     write_groups(reader, alloc, first, sink)?;
-    write_end(header, from, lines, alloc, first_line, sink)
+    write_end(header, from, lines, first_line, overruns, alloc, sink)
 }
 
 /// Writes what stands behind the groups.
@@ -154,8 +164,9 @@ fn write_end<S: Sink>(
     header: &Header,
     from: u32,
     lines: &mut GroupReader,
-    alloc: Global,
     first: Option<LedgerLine>,
+    overruns: &[Overrun],
+    alloc: Global,
     sink: &mut S,
 ) -> Result<(), WriteFault>
     requires printable { IsPrintable header.now }
@@ -165,11 +176,11 @@ fn write_end<S: Sink>(
         → Puts (S.seen sink.old) (S.seen sink.new) result
         (lines_text header.now from (groups lines.old.from lines.old.to j.entries)
         ++ (open_holds header.now from lines.old.to (past_of (groups lines.old.from lines.old.to j.entries))
-        ++ end_text from lines.old.to header.now)) }
+        ++ end_text from lines.old.to header.now overruns.now)) }
 {
     let to = lines.end_tick();
     let holders = write_lines(header, from, lines, alloc, first, sink)?;
-    write_last(header, from, to, &holders, sink)
+    write_last(header, from, to, &holders, overruns, sink)
 }
 
 /// Writes the holds that go on at the range's end, and what a trace ends with.
@@ -178,14 +189,30 @@ fn write_last<S: Sink>(
     from: u32,
     to: u32,
     holders: &Holders,
+    overruns: &[Overrun],
     sink: &mut S,
 ) -> Result<(), WriteFault>
     requires printable { IsPrintable header.now }
     requires known { AreKnown header.now holders.now }
     ensures { (past : List Entry) → AreHolders past holders.now → Puts (S.seen sink.old) (S.seen sink.new)
-        result (open_holds header.now from to past ++ end_text from to header.now) }
+        result (open_holds header.now from to past ++ end_text from to header.now overruns.now) }
 {
     write_open_holds(MAX_MUTEXES as u8, holders, header, from, to, sink)?;
+    write_windows(header, from, to, overruns, sink)
+}
+
+/// Writes the windows that were overrun, those of the levels, and what a trace ends with.
+fn write_windows<S: Sink>(
+    header: &Header,
+    from: u32,
+    to: u32,
+    overruns: &[Overrun],
+    sink: &mut S,
+) -> Result<(), WriteFault>
+    requires { IsPrintable header.now }
+    ensures { Puts (S.seen sink.old) (S.seen sink.new) result (end_text from to header.now overruns.now) }
+{
+    write_overruns(from, to, overruns, sink)?;
     write_windows_and_tail(header, from, to, sink)
 }
 
@@ -196,7 +223,8 @@ fn write_windows_and_tail<S: Sink>(
     sink: &mut S,
 ) -> Result<(), WriteFault>
     requires { IsPrintable header.now }
-    ensures { Puts (S.seen sink.old) (S.seen sink.new) result (end_text from to header.now) }
+    ensures { Puts (S.seen sink.old) (S.seen sink.new) result
+        (level_texts from to 0 header.now.levels ++ tail_text) }
 {
     write_levels(from, to, 0, header.levels.as_slice(), sink)?;
     write_tail(sink)

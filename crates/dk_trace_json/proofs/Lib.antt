@@ -4,4 +4,5 @@ pub mod Reading
 pub mod Shapes
 pub mod Words
 pub mod Objects
+pub mod Overruns
 pub mod Whole

@@ -19,15 +19,17 @@ use Rattle.dk_trace_events.specs.SlackPoints.{point_text, slack_in}
 use Rattle.dk_trace_events.specs.Names as names
 use Rattle.dk_trace_events.specs.HoldSlices as holds
 use Rattle.dk_trace_events.specs.HoldSlices.{mutex_track}
+use Rattle.dk_overrun_spans.specs.declared.overrun.Overrun.{Overrun}
+use Rattle.dk_trace_events.specs.OverrunInstants.{overrun_instant, window_of}
 use Rattle.dk_trace_events.specs.LevelWindows as windows
 use Rattle.dk_trace_events.specs.LevelWindows.{level_track}
 use Rattle.dk_entry_words.proofs.ReadBack.{printable}
 use Rattle.dk_trace_events.proofs.Safe.{Safe, both, decimal_safe, event_safe, kind_safe, label_word_safe, line_safe, thread_safe}
 use Rattle.dk_trace_json.specs.Events.{argument, process_event}
-use Rattle.dk_trace_json.specs.Values.{group_slice, hold_slice, instants, process_name, process_order, slack_value, thread_name, track_name, track_order, window_slice}
+use Rattle.dk_trace_json.specs.Values.{group_slice, hold_slice, instants, overrun_mark, process_name, process_order, slack_value, thread_name, track_name, track_order, window_slice}
 use Rattle.dk_trace_json.proofs.Pieces.{bytes, place, behind_apart, taken_apart}
 use Rattle.dk_trace_json.proofs.Reading.{Adds, Ends, IsCount, adds_none, adds_one, counted, digit, ends_with}
-use Rattle.dk_trace_json.proofs.Shapes.{IsPlace, count_args, counter_is, counter_json, instant_is, instant_json, one_member, placed, process_is, process_json, slack_args, slice_is, slice_json, text_args, thread_is, thread_json}
+use Rattle.dk_trace_json.proofs.Shapes.{IsPlace, count_args, counter_is, counter_json, instant_is, instant_json, marked_is, marked_json, one_member, placed, process_is, process_json, slack_args, slice_is, slice_json, text_args, thread_is, thread_json}
 use Rattle.dk_trace_json.proofs.Words.{category_safe, label_place, process_safe}
 
 -- ---- metadata
@@ -136,6 +138,18 @@ module _ (j : ℕ) (few : j < 12) where
       (slice_is _ _ args (codes "window") (last - first) name (level_track j).pid (level_track j).tid first refl (both (codes "window ") (decimal w) refl (decimal_safe w)) level_place (omega (arith, ends)) begins)
       (taken_apart (codes "{\"args\":{\"window\":") (bytes (decimal w) ∷ bytes (codes "},\"cat\":\"window\",\"dur\":") ∷ bytes (decimal (last - first)) ∷ bytes (codes ",\"name\":\"window ") ∷ bytes (decimal w)
       ∷ bytes (codes "\",\"ph\":\"X\"") ∷ place (level_track j).pid (level_track j).tid ∷ bytes (codes ",\"ts\":") ∷ bytes (decimal first) ∷ bytes (codes "},\n") ∷ []))
+
+-- ---- the windows that were overrun
+
+pub overrun_marked : (o : Overrun) → IsPlace (thread_track o.thread).pid (thread_track o.thread).tid → window_of o < 2 ^ 64 → o.last < 2 ^ 64 → Adds (overrun_instant o) (overrun_mark o ∷ [])
+overrun_marked o at small last =
+    let w = window_of o in
+    let args = count_args (codes "window") (decimal w) w refl (counted w small) in
+    let name = codes "overran window " ++ decimal w in
+    adds_one (marked_json (one_member (codes "window") (number (decimal w))) (codes "overrun") name (thread_track o.thread).pid (thread_track o.thread).tid o.last) (overrun_mark o) (overrun_instant o)
+    (marked_is _ _ args (codes "overrun") name (thread_track o.thread).pid (thread_track o.thread).tid o.last refl (both (codes "overran window ") (decimal w) refl (decimal_safe w)) at last)
+    (taken_apart (codes "{\"args\":{\"window\":") (bytes (decimal w) ∷ bytes (codes "},\"cat\":\"overrun\",\"name\":\"overran window ") ∷ bytes (decimal w)
+    ∷ bytes (codes "\",\"ph\":\"i\",\"s\":\"t\"") ∷ place (thread_track o.thread).pid (thread_track o.thread).tid ∷ bytes (codes ",\"ts\":") ∷ bytes (decimal o.last) ∷ bytes (codes "},\n") ∷ []))
 
 -- ---- the slack counter
 

@@ -6,7 +6,7 @@ use Rattle.json.specs.Tree.{depth}
 use Rattle.serde_json.specs.Data as values
 use Rattle.serde_json.specs.Read.{of_json}
 use Rattle.dk_trace_events.proofs.Safe.{Safe}
-use Rattle.dk_trace_json.specs.Events.{argument, count, counter_event, instant_event, made, process_event, slice_event, thread_event}
+use Rattle.dk_trace_json.specs.Events.{argument, count, counter_event, instant_event, made, marked_event, process_event, slice_event, thread_event}
 use Rattle.dk_trace_json.proofs.Plain.{IsPlain}
 use Rattle.dk_trace_json.proofs.Reading.{IsCount, IsEvent, counted}
 
@@ -104,6 +104,22 @@ instant_is cat name pid tid ts safe own is small =
       plain = (refl, safe, (refl, own, (refl, refl, (refl, refl, (refl, process.plain, (refl, thread.plain, (refl, first.plain, tt)))))));
       value = rw (process.value, thread.value, first.value);
       shallow = omega arith;
+    }
+
+-- with arguments
+abbrev pub marked_json : Json → List ℕ → List ℕ → ℕ → ℕ → ℕ → Members
+marked_json args cat name pid tid ts = member (codes "args") args (instant_json cat name pid tid ts)
+
+pub marked_is : (args : Json) (value : values.Data) → AreArgs args value → (cat name : List ℕ) (pid tid ts : ℕ) → Safe cat → Safe name → IsPlace pid tid → ts < 2 ^ 64
+    → IsEvent (marked_json args cat name pid tid ts) (marked_event value cat name pid tid ts)
+marked_is args value are cat name pid tid ts safe own is small =
+    let process = is.process in
+    let thread = is.thread in
+    let first = counted ts small in
+    record {
+      plain = (refl, are.plain, (refl, safe, (refl, own, (refl, refl, (refl, refl, (refl, process.plain, (refl, thread.plain, (refl, first.plain, tt))))))));
+      value = rw (are.value, process.value, thread.value, first.value);
+      shallow = let inside = are.shallow in omega (arith, inside);
     }
 
 pub slack_args : (a b : ℕ) → a < 2 ^ 64 → b < 2 ^ 64

@@ -38,6 +38,7 @@ use Rattle.dk_trace_events.specs.Traces.{trace_text}
 use Rattle.dk_entry_words.proofs.ReadBack.{printable}
 use Rattle.dk_trace_events.proofs.Safe.{both, thread_safe}
 use Rattle.dk_trace_json.specs.Values.{child_values, group_values, head_values, hold_slice, hold_values, levels_values, line_values, mutex_names, of_mutexes, processes_values, shown_window, slack_value, slack_values, start_values, trace_value, values_behind, window_slice, windows_of}
+use Rattle.dk_trace_json.proofs.Overruns.{overruns_add}
 use Rattle.dk_trace_json.proofs.Reading.{Adds, adds_both, adds_each, adds_none, all_read, digit}
 use Rattle.dk_trace_json.proofs.Objects.{event_shown, group_sliced, hold_sliced, last_read, level_named, level_ordered, mutex_named, names_process, names_track, orders_process, process_labelled, process_named, process_ordered, slack_pointed, thread_named, window_sliced}
 use Rattle.dk_trace_json.proofs.Words.{child_known, event_known, process_safe, thread_known, thread_place, thread_small}
@@ -219,7 +220,8 @@ reads_as h from to es is short =
     let few : length h.levels ≤ 12 = own.few_levels in
     let rows : length h.processes ≤ 32 = own.few_processes in
     let levels = (levels_add from to short 0 h.levels (omega (arith, few))).reads _ _ last_read in
-    let going_on = (mutexes_add (λ m. holds.hold_text h from to m (holding m past)) (λ m. hold_values h from to m (holding m past)) 16 (λ m less. hold_adds h own from to m (holding m past) less short)).reads _ _ levels in
+    let overran = (overruns_add h from to es is short).reads _ _ levels in
+    let going_on = (mutexes_add (λ m. holds.hold_text h from to m (holding m past)) (λ m. hold_values h from to m (holding m past)) 16 (λ m less. hold_adds h own from to m (holding m past) less short)).reads _ _ overran in
     let lines = (lines_add h own from [] (groups 0 to es) ls).reads _ _ going_on in
     let shown = (adds_both (start_adds h own (groups from to es) gs) (groups_add h own [] (groups from to es) gs (few_entries from to es is.short))).reads _ _ lines in
     let names = (adds_both mutexes_named (processes_add (length h.levels) 0 h.processes few (omega (arith, rows)) own.processes)).reads _ _ shown in

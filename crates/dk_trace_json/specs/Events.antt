@@ -40,6 +40,12 @@ instant_event cat name pid tid ts =
     made ((codes "cat", string cat) ∷ (codes "name", string name) ∷ (codes "ph", string (codes "i")) ∷ (codes "pid", count pid) ∷ (codes "s", string (codes "t"))
     ∷ (codes "tid", count tid) ∷ (codes "ts", count ts) ∷ [])
 
+-- one that has arguments
+abbrev pub marked_event : (args : Data) → (cat : List ℕ) → (name : List ℕ) → (pid : ℕ) → (tid : ℕ) → (ts : ℕ) → Data
+marked_event args cat name pid tid ts =
+    made ((codes "args", args) ∷ (codes "cat", string cat) ∷ (codes "name", string name) ∷ (codes "ph", string (codes "i")) ∷ (codes "pid", count pid)
+    ∷ (codes "s", string (codes "t")) ∷ (codes "tid", count tid) ∷ (codes "ts", count ts) ∷ [])
+
 -- the values of a counter of the kernel's process from `ts` on
 abbrev pub counter_event : (args : Data) → (name : List ℕ) → (ts : ℕ) → Data
 counter_event args name ts =

@@ -21,8 +21,11 @@ use Rattle.dk_trace_events.specs.SlackPoints.{is_as_before, slack_in}
 use Rattle.dk_trace_events.specs.Names.{made_by}
 use Rattle.dk_trace_events.specs.HoldSlices.{mutex_track}
 use Rattle.dk_trace_events.specs.LevelWindows.{level_track}
+use Rattle.dk_overrun_spans.specs.declared.overrun.Overrun.{Overrun}
+use Rattle.dk_overrun_spans.specs.Overruns.{overruns}
+use Rattle.dk_trace_events.specs.OverrunInstants.{is_shown, window_of}
 use Rattle.dk_trace_events.specs.Behind.{past_of}
-use Rattle.dk_trace_json.specs.Events.{argument, count, counter_event, instant_event, made, process_event, slice_event, thread_event}
+use Rattle.dk_trace_json.specs.Events.{argument, count, counter_event, instant_event, made, marked_event, process_event, slice_event, thread_event}
 
 -- ---- names of tracks, and their places
 
@@ -135,6 +138,21 @@ child_values h (Some x) = thread_name (thread_text h x) x ∷ []
 abbrev pub line_values : Heading → ℕ → List LedgerLine → LedgerLine → List Data
 line_values h from before l = child_values h (made_by l) ++ ended_holds h from (past_of before) l
 
+-- ---- the windows that were overrun
+
+-- an instant of the thread, at its last tick of the budget
+abbrev pub overrun_mark : Overrun → Data
+overrun_mark o =
+    marked_event (argument (codes "window") (count (window_of o))) (codes "overrun") (codes "overran window " ++ decimal (window_of o)) (thread_track o.thread).pid
+    (thread_track o.thread).tid o.last
+
+-- where it is one of the range
+abbrev pub shown_overrun : ℕ → ℕ → Overrun → List Data
+shown_overrun from to o = if is_shown from to o then overrun_mark o ∷ [] else []
+
+abbrev pub overruns_values : ℕ → ℕ → List Overrun → List Data
+overruns_values from to os = flat_map (shown_overrun from to) os
+
 -- ---- levels
 
 abbrev pub window_slice : ℕ → ℕ → ℕ → ℕ → Data
@@ -170,7 +188,7 @@ trace_events from to h es =
     head_values ++ ((mutex_names ++ processes_values 0 h.processes)
     ++ (groups_values h (groups from to es)
     ++ (values_behind (line_values h from) [] (groups 0 to es) ++ (open_holds h from to (past_of (groups 0 to es))
-    ++ (levels_values from to 0 h.levels ++ track_order 1 1 2 ∷ [])))))
+    ++ (overruns_values from to (overruns h es) ++ (levels_values from to 0 h.levels ++ track_order 1 1 2 ∷ []))))))
 
 -- times are shown in milliseconds
 abbrev pub trace_value : ℕ → ℕ → Heading → List Entry → Data

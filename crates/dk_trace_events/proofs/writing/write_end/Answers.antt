@@ -23,7 +23,7 @@ returns-in_err-holders g c = λ j readable start.
     let from = c.args.from in
     let ls = groups c.args.lines.now.from c.args.lines.now.to j.entries in
     let own = lines_text h from ls in
-    let behind = open_holds h from c.args.lines.now.to (past_of ls) ++ end_text from c.args.lines.now.to h in
+    let behind = open_holds h from c.args.lines.now.to (past_of ls) ++ end_text from c.args.lines.now.to h c.args.overruns.now in
     put_fails own behind (own ++ behind) refl (g.S.Sink.seen c.args.sink.now) (g.S.Sink.seen c.write_lines.new.sink) _ c.from_residual.result c.from_residual.ensures.1
     (c.in_err-holders.ensures.text j readable start)
 
@@ -34,10 +34,10 @@ returns g c = λ j readable start.
     let to = c.args.lines.now.to in
     let ls = groups c.args.lines.now.from to j.entries in
     let own = lines_text h from ls in
-    let behind = open_holds h from to (past_of ls) ++ end_text from to h in
+    let behind = open_holds h from to (past_of ls) ++ end_text from to h c.args.overruns.now in
     let holders = if_ok c.write_lines.result c.in_ok-holders.holders _ c.in_ok-holders.was c.write_lines.ensures.holders j readable start in
     let last : c.end_tick-to.result ≡ to = c.end_tick-to.ensures in
     put_ends own behind (own ++ behind) refl (g.S.Sink.seen c.args.sink.now) (g.S.Sink.seen c.write_lines.new.sink) (g.S.Sink.seen c.write_last.new.sink) _ c.write_last.result
     (c.in_ok-holders.ensures.text j readable start)
     (subst (λ n. Puts (g.S.Sink.seen c.write_lines.new.sink) (g.S.Sink.seen c.write_last.new.sink) c.write_last.result
-    (open_holds h from n (past_of ls) ++ end_text from n h)) last (c.write_last.ensures (past_of ls) holders))
+    (open_holds h from n (past_of ls) ++ end_text from n h c.args.overruns.now)) last (c.write_last.ensures (past_of ls) holders))
