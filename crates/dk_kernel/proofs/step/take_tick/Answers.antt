@@ -1,5 +1,5 @@
 use Rattle.dk_kernel.proofs.Stepped.{few-in-all, is-shut, runs-on}
-use Rattle.dk_kernel.proofs.step.advance.Goals as goal
+use Rattle.dk_kernel.proofs.step.take_tick.Goals as goal
 
 pub open-requires : goal.open-requires
 open-requires g c = is-shut c.book.new.entry c.book.new.tables c.close.new.self c.close.ensures.past
