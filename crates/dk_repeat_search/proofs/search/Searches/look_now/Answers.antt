@@ -1,6 +1,6 @@
 use Rattle.std.proofs.Common.{◌≡◌, ◌∙◌, length, arith, rules}
 use Rattle.dk_repeat_search.proofs.Places.{many-own}
-use Rattle.dk_repeat_search.proofs.search.Searches.look_at_run.Goals as goal
+use Rattle.dk_repeat_search.proofs.search.Searches.look_now.Goals as goal
 
 pub overflow_cast-len : goal.overflow_cast-len
 overflow_cast-len c =
