@@ -49,6 +49,14 @@ fn own_searches(alloc: Global, loaded: &Loaded) -> Result<Vec<OwnSearch>, NoMemo
     Ok(own)
 }
 
+fn lesser(one: u32, other: u32) -> u32
+    ensures one { result ≤ one }
+    ensures other { result ≤ other }
+    ensures some { 1 ≤ one → 1 ≤ other → 1 ≤ result }
+{
+    if one < other { one } else { other }
+}
+
 /// Whether the process may be what it was at the tick that is kept, or is to be kept as it is now: nothing is copied for it.
 fn is_worth(search: &OwnSearch, kernel: &Kernel, tick: u32) -> bool {
     let process = search.process;
@@ -126,10 +134,7 @@ fn look_all(
 {
     let mut least = MAX_TICKS;
     for search in own.iter_mut() {
-        let wait = look_at(search, alloc, kernel, tick)?;
-        if wait < least {
-            least = wait;
-        }
+        least = lesser(least, look_at(search, alloc, kernel, tick)?);
     }
     Ok(least)
 }
@@ -232,7 +237,7 @@ impl Searches {
         let tick = kernel.now();
         let run = self.look_at_run(alloc, kernel, tick)?;
         let own = look_all(&mut self.own, alloc, kernel, tick)?;
-        Ok(if run < own { run } else { own })
+        Ok(lesser(run, own))
     }
 
     /// Whether nothing is looked for any more.
@@ -312,7 +317,7 @@ impl Searches {
             if self.is_done() {
                 return Ok(());
             }
-            let few = if wait < left { wait } else { left };
+            let few = lesser(wait, left);
             self.go_on(kernel, few, steps);
             left -= few;
             wait = self.look(alloc, kernel)?;

@@ -1,5 +1,4 @@
 use Rattle.std.proofs.Common.{◌∙◌, List, length, sym, ap, subst}
-use Rattle.dk_kernel.specs.Running.{Running}
 use Rattle.dk_cycle.specs.declared.own.OwnSearch.{OwnSearch}
 use Rattle.dk_cycle.specs.declared.waiting.WaitWatch.{WaitWatch}
 use Rattle.dk_loader.specs.Workload.{Workload}

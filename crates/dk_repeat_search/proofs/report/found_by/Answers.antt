@@ -1,7 +1,6 @@
-use Rattle.std.proofs.Common.{ℕ, ◌≡◌, ◌∙◌, length, sym, ap, subst, arith}
+use Rattle.std.proofs.Common.{◌∙◌, length, sym, ap, subst, arith}
 use Rattle.dk_loader.specs.Workload.{Workload}
 use Rattle.dk_kernel.specs.Running.{Running}
-use Rattle.dk_cycle.specs.declared.own.OwnSearch.{OwnSearch}
 use Rattle.dk_repeat_report.specs.Cycles.{shares_of}
 use Rattle.dk_repeat_search.specs.Searching.{AreOwn, loaded_of}
 use Rattle.dk_repeat_search.proofs.Places.{many-own}
