@@ -2,3 +2,4 @@ pub mod Stands
 pub mod Telling
 pub mod Seen
 pub mod Starts
+pub mod Quietly

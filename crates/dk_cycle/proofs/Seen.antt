@@ -22,7 +22,7 @@ use Rattle.dk_cycle.specs.Keeping.{IsKeeping}
 use Rattle.dk_cycle.specs.Waiting.{HasProgram, IsWaitWatch, IsWaits, WaitsAreTold, first_missed, main_waits, waits_by, waits_in, waits_of}
 
 -- of two multiples of a number the greater is greater by it at least
-apart : (P t m : ℕ) → t % P ≡ 0 → m % P ≡ 0 → t < m → t + P ≤ m
+pub apart : (P t m : ℕ) → t % P ≡ 0 → m % P ≡ 0 → t < m → t + P ≤ m
 apart P t m begins ends less =
     let a = div-add-mod t P in
     let b = div-add-mod m P in

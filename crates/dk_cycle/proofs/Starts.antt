@@ -121,7 +121,7 @@ opens s early late quiet begins ends = λ c programs k is sum. record {
 }
 
 -- where all windows begin those of the longest period do
-begins-longest : (c : Configuration) (n tick : ℕ) → IsLongest c n → WindowsBegin c tick → tick % n ≡ 0
+pub begins-longest : (c : Configuration) (n tick : ℕ) → IsLongest c n → WindowsBegin c tick → tick % n ≡ 0
 begins-longest c n tick is begins = subst (λ m. tick % m ≡ 0) (sym is.is) (begins is.level is.known)
 
 pub shuts-early : (s : StartSearch) (early late : ℕ) → (early % s.longest ≡ 0 → ⊥) → Shuts s early late

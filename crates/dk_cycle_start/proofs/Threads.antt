@@ -1,14 +1,13 @@
 -- Two kernels of a run, thread by thread.
-use Rattle.std.proofs.Common.{ℕ, zero, suc, ◌≡◌, ◌+◌, ◌<◌, ◌≤◌, ◌∙◌, inl, inr, Bool, true, false, List, [], ◌∷◌, length, map, Option, Some, None, refl, sym, ap, subst, arith}
+use Rattle.std.proofs.Common.{ℕ, zero, suc, ◌≡◌, ◌+◌, ◌<◌, ◌≤◌, ◌∙◌, inl, inr, true, false, List, [], ◌∷◌, length, map, Option, Some, None, refl, sym, ap, subst, arith}
 use Rattle.std.specs.Prelude.{slice_get, is_some, nat_lt, option_map}
-use Rattle.std.specs.List.{list_any}
 use Rattle.std.proofs.lemmas.Bool.{cases_Bool, cases_eq}
 use Rattle.std.proofs.Math.Bool.{or-true}
 use Rattle.dk_config.specs.declared.TheConstants.{MAX_THREADS}
 use Rattle.dk_config.specs.Configuration.{Configuration}
 use Rattle.dk_trace.specs.declared.ThreadId.{ThreadId}
 use Rattle.dk_trace.specs.Members.{Has}
-use Rattle.dk_trace.specs.Threads.{Thread, family, is_main, threads}
+use Rattle.dk_trace.specs.Threads.{Thread, family, is_main}
 use Rattle.dk_trace.proofs.Members.{filter-has, get-has, has-filter, has-map, map-has}
 use Rattle.dk_threads.specs.declared.row.ThreadRow.{ThreadRow}
 use Rattle.dk_threads.specs.Rows.{is_stopped}

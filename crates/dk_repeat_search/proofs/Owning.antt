@@ -23,24 +23,24 @@ use Rattle.dk_repeat_report.specs.Lines as lines
 use Rattle.dk_repeat_search.specs.Searching.{AreOwn, process_of}
 use Rattle.dk_repeat_search.specs.Counting.{AreOwnFound, CountsSome}
 
-still-within : (n : ℕ) (o : Option Cycle) → IfSome o (λ y. y.start + y.length ≤ n) → IfSome o (λ y. y.start + y.length ≤ n + 1)
-still-within n None is = tt
-still-within n (Some y) is = omega (arith, is)
+still-within : (n more : ℕ) (o : Option Cycle) → IfSome o (λ y. y.start + y.length ≤ n) → IfSome o (λ y. y.start + y.length ≤ n + more)
+still-within n more None is = tt
+still-within n more (Some y) is = omega (arith, is)
 
--- a search up to a tick is one up to the next
-pub search-later : (c : Configuration) (programs : List (List ℕ)) (n : ℕ) (s : OwnSearch) → IsOwnSearch c programs n s → IsOwnSearch c programs (n + 1) s
-search-later c programs n s is = record {
+-- a search up to a tick is one up to a later one
+pub search-later : (c : Configuration) (programs : List (List ℕ)) (n more : ℕ) (s : OwnSearch) → IsOwnSearch c programs n s → IsOwnSearch c programs (n + more) s
+search-later c programs n more s is = record {
   known = is.known;
   period = is.period;
   some = is.some;
   keeping = is.keeping;
   saved = is.saved;
   cycle = is.cycle;
-  within = still-within n s.cycle is.within;
+  within = still-within n more s.cycle is.within;
 }
 
-pub searches-later : (c : Configuration) (programs : List (List ℕ)) (n : ℕ) (own : List OwnSearch) → All (IsOwnSearch c programs n) own → All (IsOwnSearch c programs (n + 1)) own
-searches-later c programs n own all = λ k d less. search-later c programs n (slice_index_or own k d) (all k d less)
+pub searches-later : (c : Configuration) (programs : List (List ℕ)) (n more : ℕ) (own : List OwnSearch) → All (IsOwnSearch c programs n) own → All (IsOwnSearch c programs (n + more)) own
+searches-later c programs n more own all = λ k d less. search-later c programs n more (slice_index_or own k d) (all k d less)
 
 -- what holds of the cycle that was found holds of that of a process that keeps to itself
 pub found-cycle : (keeping : Keeping) (o : Option Cycle) (y : Cycle) (P : Cycle → Type 0) → cycle_by keeping o ≡ Some y → IfSome o P → P y

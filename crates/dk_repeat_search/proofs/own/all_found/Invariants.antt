@@ -10,8 +10,7 @@ abbrev pub invariant-loop-search : goal.invariant-loop-search
 invariant-loop-search g l = record {
   all : All (IsOneFound l.fn.kernel.config l.fn.kernel.programs) l.all.items;
   processes : map lines.process_of l.all.items ≡ map process_of (take l.search-index l.own);
-  config : l.kernel.config ≡ l.fn.kernel.config;
-  programs : l.kernel.programs ≡ l.fn.kernel.programs;
+  same : l.kernel ≡ record l.fn.kernel { ticks = l.kernel.ticks };
   low : l.fn.kernel.ticks ≤ l.kernel.ticks;
   high : l.kernel.ticks ≤ l.fn.kernel.ticks + l.search-index * (2 * MAX_RUN_TICKS);
 }

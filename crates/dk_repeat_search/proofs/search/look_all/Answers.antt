@@ -13,4 +13,5 @@ loop-search-preserved c =
     record {
       own = All-set (IsOwnSearch k.config k.programs k.ticks) items i c.look_at.new.search c.in_ok-look_at.ensures.own c.loop-search.invariant.own;
       same = set-same process_of items i c.search-item.result c.look_at.new.search (omega arith) c.in_ok-look_at.ensures.same ∙ c.loop-search.invariant.same;
+      later = c.lesser-least.ensures.some c.loop-search.invariant.later c.in_ok-look_at.ensures.later;
     }
