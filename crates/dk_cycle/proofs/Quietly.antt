@@ -1,22 +1,5 @@
 -- Ticks that change no s of a run.
-use Rattle.std.proofs.Common.{ℕ, zero, suc, ◌≡◌, ◌+◌, ◌∙◌, ◌∷◌, ◌++◌, List, Option, Some, None, refl, sym, ap, subst, arith}
-use Rattle.std.specs.Prelude.{replicate}
-use Rattle.std.specs.Option.{option_map_or}
-use Rattle.dk_config.specs.Configuration.{Configuration}
-use Rattle.dk_config.specs.Checked.{IsChecked, IsAccepted}
-use Rattle.dk_trace.specs.declared.ThreadId.{ThreadId}
-use Rattle.dk_trace.specs.declared.Label.{Label}
-use Rattle.dk_trace.specs.declared.Entry.{Entry}
-use Rattle.dk_trace.specs.Entries.{quiet}
-use Rattle.dk_trace.specs.Choices.{chosen}
-use Rattle.dk_world.specs.Run.{World, body_step, executes, quiet_step, step, trace, world}
-use Rattle.dk_repeat.specs.Laws.{EntriesKeepThreads}
-use Rattle.dk_repeat.specs.Reading.{EntriesShowReads, caller}
-use Rattle.dk_cycle.specs.declared.run.RunSearch.{RunSearch}
-use Rattle.dk_cycle.specs.declared.start.StartSearch.{StartSearch}
-use Rattle.dk_cycle.specs.Run.{IsReader, IsRunSearch}
-use Rattle.dk_cycle.specs.Start.{IsStartSearch}
-use Rattle.dk_cycle.specs.Stretching.{SearchesStay, StartsStay}
+use Rattle.dk_cycle.proofs.Names.{ℕ, zero, suc, ◌≡◌, ◌+◌, ◌∙◌, ◌∷◌, ◌++◌, List, Option, Some, None, refl, sym, ap, subst, arith, replicate, option_map_or, Configuration, IsChecked, IsAccepted, ThreadId, Label, Entry, quiet, chosen, World, body_step, executes, quiet_step, step, trace, world, EntriesKeepThreads, EntriesShowReads, caller, RunSearch, StartSearch, IsReader, IsRunSearch, IsStartSearch, SearchesStay, StartsStay}
 use Rattle.dk_cycle.proofs.Stands.{followed}
 use Rattle.dk_cycle.proofs.Starts.{start-quiet}
 

@@ -1,20 +1,5 @@
 -- Ticks that a kernel does at once.
-use Rattle.std.proofs.Common.{ℕ, suc, ◌≡◌, ◌+◌, ◌-◌, ◌≤◌, ◌∙◌, ◌∷◌, ◌++◌, Option, None, false, refl, sym, ap, subst, arith}
-use Rattle.std.specs.Prelude.{replicate}
-use Rattle.dk_config.specs.Checked.{IsChecked, IsAccepted}
-use Rattle.dk_trace.specs.declared.Event.{Event}
-use Rattle.dk_trace.specs.declared.Work.{Work}
-use Rattle.dk_trace.specs.declared.Label.{Label}
-use Rattle.dk_trace.specs.declared.Entry.{Entry}
-use Rattle.dk_trace.specs.Entries.{quiet}
-use Rattle.dk_world.specs.Run.{trace}
-use Rattle.dk_repeat.specs.Reading.{caller}
-use Rattle.dk_kernel.specs.declared.stretch.Stretch.{Stretch}
-use Rattle.dk_kernel.specs.Running.{Running, trace_of}
-use Rattle.dk_kernel.specs.Stretches.{IsComputed, calls, entries_of}
-use Rattle.dk_cycle.specs.declared.start.StartSearch.{StartSearch}
-use Rattle.dk_cycle.specs.Stretching.{GoQuietly, StartsStay}
-use Rattle.dk_cycle_start.specs.Passes.{IsSearch}
+use Rattle.dk_cycle_start.proofs.Names.{ℕ, suc, ◌≡◌, ◌+◌, ◌-◌, ◌≤◌, ◌∙◌, ◌∷◌, ◌++◌, Option, None, false, refl, sym, ap, subst, arith, replicate, IsChecked, IsAccepted, Event, Work, Label, Entry, quiet, trace, caller, Stretch, Running, trace_of, IsComputed, calls, entries_of, StartSearch, GoQuietly, StartsStay, IsSearch}
 
 not-calling : (l : Label) → calls l ≡ false → caller l ≡ None
 not-calling (Label.Kernel level) is = refl

@@ -1,3 +1,4 @@
+pub mod Names
 pub mod Readers
 pub mod Threads
 pub mod Walking

@@ -1,25 +1,5 @@
 -- Two kernels of one run, of which one is later by the length of a cycle.
-use Rattle.std.proofs.Common.{ℕ, ◌≡◌, ◌+◌, ◌%◌, ◌<◌, ◌≤◌, ◌∙◌, inl, inr, Bool, true, false, List, ◌∷◌, Option, Some, sym, ap, subst, arith}
-use Rattle.std.specs.Prelude.{IfSome, option_map}
-use Rattle.std.proofs.Math.Nat.{add-mod_right}
-use Rattle.std.proofs.lemmas.Bool.{cases_eq, cases_lt}
-use Rattle.dk_config.specs.Configuration.{Configuration}
-use Rattle.dk_config.specs.Checked.{IsChecked, IsAccepted}
-use Rattle.dk_trace.specs.declared.Entry.{Entry}
-use Rattle.dk_world.specs.Run.{trace}
-use Rattle.dk_loader.specs.Workload.{Workload}
-use Rattle.dk_repeat.specs.Repeat.{RunStandsAgain, ThreadsStandAlike}
-use Rattle.dk_kernel.specs.Booting.{IsLoaded}
-use Rattle.dk_kernel.specs.Running.{Running, trace_of, world_of}
-use Rattle.dk_cycle.specs.declared.Cycle.{Cycle}
-use Rattle.dk_cycle.specs.declared.run.RunSearch.{RunSearch}
-use Rattle.dk_cycle.specs.declared.start.StartSearch.{StartSearch}
-use Rattle.dk_cycle.specs.Run.{IsLongest, IsReader, IsRunSearch}
-use Rattle.dk_cycle.specs.Start.{AreImagesAlike, FollowsStart, IsOpen, Opens, Shuts, StartsAt, StartsFirst, with_start}
-use Rattle.dk_cycle.proofs.Seen.{apart}
-use Rattle.dk_cycle.proofs.Starts.{begins-longest}
-use Rattle.dk_cycle_start.specs.Alike.{AreComparable, AreDifferent}
-use Rattle.dk_cycle_start.specs.Passes.{Answers, HasPrograms, IsCycleOf, IsFirst, IsLater, IsSearch, IsSettled, begun}
+use Rattle.dk_cycle_start.proofs.Names.{ℕ, ◌≡◌, ◌+◌, ◌%◌, ◌<◌, ◌≤◌, ◌∙◌, inl, inr, Bool, true, false, List, ◌∷◌, Option, Some, sym, ap, subst, arith, IfSome, option_map, add-mod_right, cases_eq, cases_lt, Configuration, IsChecked, IsAccepted, Entry, trace, Workload, RunStandsAgain, ThreadsStandAlike, IsLoaded, Running, trace_of, world_of, Cycle, RunSearch, StartSearch, IsLongest, IsReader, IsRunSearch, AreImagesAlike, FollowsStart, IsOpen, Opens, Shuts, StartsAt, StartsFirst, with_start, apart, begins-longest, AreComparable, AreDifferent, Answers, HasPrograms, IsCycleOf, IsFirst, IsLater, IsSearch, IsSettled, begun}
 
 -- the search after one more tick of the later kernel
 pub search-next : (k l : Running) (s t : StartSearch) (e : Entry) (reader : Option ℕ) (tick : ℕ) → tick ≡ k.ticks → l ≡ record k { ticks = k.ticks + 1 }

@@ -1,27 +1,7 @@
 -- What is counted of a cycle of a process by itself.
-use Rattle.std.proofs.Common.{ℕ, ◌≡◌, ◌+◌, ◌*◌, ◌<◌, ◌≤◌, ◌∙◌, List, [], ◌∷◌, ◌++◌, length, get_or, map, take, Option, Some, None, refl, sym, ap, subst, arith}
-use Rattle.std.specs.Prelude.{All, IfSome, slice_index_or}
-use Rattle.std.proofs.lemmas.List.FromFn.{get_or-map-range_with_len, length-map-range_with_len}
-use Rattle.std.proofs.lemmas.List.{map-append, map_more, take_all}
-use Rattle.dk_config.specs.Configuration.{Configuration}
-use Rattle.dk_alone.specs.Again.{ProcessStandsAgain}
-use Rattle.dk_cycle.specs.declared.Cycle.{Cycle}
-use Rattle.dk_cycle.specs.declared.keeping.Keeping.{Keeping}
+use Rattle.dk_repeat_search.proofs.Names.{ℕ, ◌≡◌, ◌+◌, ◌*◌, ◌<◌, ◌≤◌, ◌∙◌, List, [], ◌∷◌, ◌++◌, length, get_or, map, take, Option, Some, None, refl, sym, ap, subst, arith, All, IfSome, slice_index_or, get_or-map-range_with_len, length-map-range_with_len, map-append, map_more, take_all, Configuration, ProcessStandsAgain, Cycle, Keeping, OwnSearch, OwnTold, IsOwnSearch, own_told, MainShare, ProcessUse, CycleCounts, use_of, OwnFound, entries_from, share_at, shares_of, IsOneFound, IsOneUse, IsSameOwn, UsesOne, cycle_by, own_cycle, AreOwn, process_of, AreOwnFound, CountsSome}
 use Rattle.dk_cycle.specs.declared.keeping.Keeping.TheVariants as kind
-use Rattle.dk_cycle.specs.declared.own.OwnSearch.{OwnSearch}
-use Rattle.dk_cycle.specs.declared.told.OwnTold.{OwnTold}
-use Rattle.dk_cycle.specs.Own.{IsOwnSearch}
-use Rattle.dk_cycle.specs.Told.{own_told}
-use Rattle.dk_cycle_counts.specs.declared.process.MainShare.{MainShare}
-use Rattle.dk_cycle_counts.specs.declared.process.ProcessUse.{ProcessUse}
-use Rattle.dk_cycle_counts.specs.declared.counts.CycleCounts.{CycleCounts}
-use Rattle.dk_cycle_counts.specs.Process.{use_of}
-use Rattle.dk_repeat_report.specs.declared.own.OwnFound.{OwnFound}
-use Rattle.dk_repeat_report.specs.Cycles.{entries_from, share_at, shares_of}
-use Rattle.dk_repeat_report.specs.OwnUses.{IsOneFound, IsOneUse, IsSameOwn, UsesOne, cycle_by, own_cycle}
 use Rattle.dk_repeat_report.specs.Lines as lines
-use Rattle.dk_repeat_search.specs.Searching.{AreOwn, process_of}
-use Rattle.dk_repeat_search.specs.Counting.{AreOwnFound, CountsSome}
 
 still-within : (n more : ℕ) (o : Option Cycle) → IfSome o (λ y. y.start + y.length ≤ n) → IfSome o (λ y. y.start + y.length ≤ n + more)
 still-within n more None is = tt

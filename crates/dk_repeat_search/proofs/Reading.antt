@@ -1,15 +1,5 @@
 -- The searches of a kernel's run after more ticks.
-use Rattle.std.proofs.Common.{ℕ, ◌≡◌, ◌+◌, ◌∙◌, ◌∷◌, Option, sym, ap, subst}
-use Rattle.dk_config.specs.Configuration.{Configuration}
-use Rattle.dk_config.specs.Checked.{IsChecked, IsAccepted}
-use Rattle.dk_trace.specs.declared.Entry.{Entry}
-use Rattle.dk_world.specs.Run.{trace}
-use Rattle.dk_kernel.specs.Running.{Running, trace_of}
-use Rattle.dk_cycle.specs.declared.run.RunSearch.{RunSearch}
-use Rattle.dk_cycle.specs.Run.{Follows, IsReader}
-use Rattle.dk_cycle.specs.Stretching.{GoQuietly, SearchesStay}
-use Rattle.dk_repeat_search.specs.declared.search.Searches.{Searches}
-use Rattle.dk_repeat_search.specs.Searching.{IsSearching}
+use Rattle.dk_repeat_search.proofs.Names.{ℕ, ◌≡◌, ◌+◌, ◌∙◌, ◌∷◌, Option, sym, ap, subst, Configuration, IsChecked, IsAccepted, Entry, trace, Running, trace_of, RunSearch, Follows, IsReader, GoQuietly, SearchesStay, Searches, IsSearching}
 use Rattle.dk_repeat_search.proofs.Owning.{searches-later}
 
 -- the searches after one more tick

@@ -1,29 +1,5 @@
 -- What was found, told as text.
-use Rattle.std.proofs.Common.{ℕ, ◌≡◌, ◌∙◌, Bool, List, Option, Some, None, refl, ap, sym, subst}
-use Rattle.std.specs.Prelude.{option_map}
-use Rattle.dk_config.specs.Configuration.{Configuration}
-use Rattle.dk_loader.specs.Workload.{Workload}
-use Rattle.dk_kernel.specs.Booting.{IsLoaded}
-use Rattle.dk_kernel.specs.Running.{Running}
-use Rattle.dk_cycle.specs.declared.Cycle.{Cycle}
-use Rattle.dk_cycle.specs.declared.told.RunTold.{RunTold}
-use Rattle.dk_cycle.specs.declared.run.RunSearch.{RunSearch}
-use Rattle.dk_cycle.specs.Run.{IsLastReader, IsRunSearch}
-use Rattle.dk_cycle.specs.Told.{OwnIsTold, RunIsTold, reader_by, run_told}
-use Rattle.dk_cycle.specs.Start.{with_start}
-use Rattle.dk_cycle_counts.specs.declared.counts.CycleCounts.{CycleCounts}
-use Rattle.dk_repeat_report.specs.declared.own.OwnFound.{OwnFound}
-use Rattle.dk_repeat_report.specs.Cycles.{CyclesAreAlike, IsOneCounted}
-use Rattle.dk_repeat_report.specs.OwnUses.{OwnCyclesAreAlike}
-use Rattle.dk_repeat_report.specs.Lines.{names_of}
-use Rattle.dk_repeat_report.specs.Found.{AreOf, found_text}
-use Rattle.dk_repeat_report.proofs.Told.{repeats-text}
-use Rattle.dk_repeat_search.specs.declared.count.Found.{Found}
-use Rattle.dk_cycle_start.specs.Passes.{IsSettled}
-use Rattle.dk_repeat_search.specs.declared.search.Searches.{Searches}
-use Rattle.dk_repeat_search.specs.Searching.{HasSettled, IsSearching, loaded_of}
-use Rattle.dk_repeat_search.specs.Counting.{AreOwnFound, IsFound}
-use Rattle.dk_repeat_search.specs.Repeats.{IsRepeatsOf, KnowsReader, repeats, searched_ticks}
+use Rattle.dk_repeat_search.proofs.Names.{ℕ, ◌≡◌, ◌∙◌, Bool, List, Option, Some, None, refl, ap, sym, subst, option_map, Configuration, Workload, IsLoaded, Running, Cycle, RunTold, RunSearch, IsLastReader, IsRunSearch, OwnIsTold, RunIsTold, reader_by, run_told, with_start, CycleCounts, OwnFound, CyclesAreAlike, IsOneCounted, OwnCyclesAreAlike, names_of, AreOf, found_text, repeats-text, Found, IsSettled, Searches, HasSettled, IsSearching, loaded_of, AreOwnFound, IsFound, IsRepeatsOf, KnowsReader, repeats, searched_ticks}
 
 -- the search of a kernel's run is one of its configuration with its programs
 pub search-of : (k : Running) (v : Workload) (run : RunSearch) (tick : ℕ) → v ≡ loaded_of k → tick ≡ k.ticks → IsRunSearch k.config k.programs k.ticks run

@@ -1,27 +1,6 @@
 -- What is told of each process's windows.
-use Rattle.std.proofs.Common.{ℕ, zero, suc, ◌≡◌, ◌+◌, ◌<◌, ◌≤◌, ◌≢◌, ◌∙◌, ◌∷◌, ◌++◌, inl, inr, List, [], length, get_or, set, map, false, None, refl, sym, ap, subst, arith}
-use Rattle.std.specs.Prelude.{slice_index_or}
-use Rattle.std.specs.List.{range_with_len}
-use Rattle.std.proofs.lemmas.Bool.{cases_eq}
-use Rattle.std.proofs.lemmas.List.{get_or-set_other, get_or-set_same, get_or_append_left, length-map, length-set, length_push}
-use Rattle.std.proofs.lemmas.List.FromFn.{get_or-range_with_len, length-range_with_len}
-use Rattle.std.proofs.lemmas.Option.{get_or_from_slice_get, slice_get_within}
-use Rattle.std.proofs.Math.Seq.{get_or-append_seam}
-use Rattle.dk_config.specs.Configuration.{Configuration}
-use Rattle.dk_config.specs.Checked.{IsChecked, IsAccepted}
-use Rattle.dk_loader.specs.Workload.{Workload}
-use Rattle.dk_kernel.specs.Booting.{IsLoaded}
-use Rattle.dk_kernel.specs.Running.{Running}
+use Rattle.dk_repeat_search.proofs.Names.{ℕ, zero, suc, ◌≡◌, ◌+◌, ◌<◌, ◌≤◌, ◌≢◌, ◌∙◌, ◌∷◌, ◌++◌, inl, inr, List, [], length, get_or, set, map, false, None, refl, sym, ap, subst, arith, slice_index_or, range_with_len, cases_eq, get_or-set_other, get_or-set_same, get_or_append_left, length-map, length-set, length_push, get_or-range_with_len, length-range_with_len, get_or_from_slice_get, slice_get_within, get_or-append_seam, Configuration, IsChecked, IsAccepted, Workload, IsLoaded, Running, OwnSearch, RunTold, IsRunTold, RunIsTold, run_told, Waits, WaitWatch, IsWaits, WaitsAreTold, waits_told, Searches, AreOwn, HasSettled, loaded_of, process_of, AreTold, AreWaits, AreWatches, watched_process}
 use Rattle.dk_cycle.specs.declared.keeping.Keeping.TheVariants as kind
-use Rattle.dk_cycle.specs.declared.own.OwnSearch.{OwnSearch}
-use Rattle.dk_cycle.specs.declared.told.RunTold.{RunTold}
-use Rattle.dk_cycle.specs.Told.{IsRunTold, RunIsTold, run_told}
-use Rattle.dk_cycle.specs.declared.waiting.Waits.{Waits}
-use Rattle.dk_cycle.specs.declared.waiting.WaitWatch.{WaitWatch}
-use Rattle.dk_cycle.specs.Waiting.{IsWaits, WaitsAreTold, waits_told}
-use Rattle.dk_repeat_search.specs.declared.search.Searches.{Searches}
-use Rattle.dk_repeat_search.specs.Searching.{AreOwn, HasSettled, loaded_of, process_of}
-use Rattle.dk_repeat_search.specs.Always.{AreTold, AreWaits, AreWatches, watched_process}
 use Rattle.dk_repeat_search.proofs.Places.{many-own}
 
 abbrev pub no_search : OwnSearch

@@ -1,6 +1,4 @@
-use Rattle.std.proofs.Common.{◌≡◌, ◌+◌, ◌∙◌, ap, refl, subst}
-use Rattle.std.specs.Prelude.{OnOk}
-use Rattle.dk_trace.specs.Ranges.{size_of}
+use Rattle.dk_cycle_start.proofs.Names.{◌≡◌, ◌+◌, ◌∙◌, ap, refl, subst, OnOk, size_of}
 use Rattle.dk_cycle_start.proofs.quiet.go_on.Goals as goal
 
 pub run-requires-clause-begun : goal.run-requires-clause-begun

@@ -1,7 +1,4 @@
-use Rattle.std.proofs.Common.{ap, subst, arith}
-use Rattle.dk_config.specs.Configuration.{Configuration}
-use Rattle.dk_config.specs.Checked.{IsAccepted, IsChecked}
-use Rattle.dk_kernel.specs.Running.{Running}
+use Rattle.dk_cycle_start.proofs.Names.{ap, subst, arith, Configuration, IsAccepted, IsChecked, Running}
 use Rattle.dk_cycle_start.proofs.AtOnce.{none-gone, same-ticks, stretched}
 use Rattle.dk_cycle_start.proofs.quiet.go_quietly.Goals as goal
 

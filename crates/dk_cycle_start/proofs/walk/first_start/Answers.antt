@@ -1,7 +1,4 @@
-use Rattle.std.proofs.Common.{◌+◌, ◌∙◌, sym, ap, subst, arith}
-use Rattle.dk_repeat.specs.Repeat.{RunStandsAgain}
-use Rattle.dk_kernel.specs.Running.{Running}
-use Rattle.dk_cycle_start.specs.Passes.{HasPrograms, IsCycleOf}
+use Rattle.dk_cycle_start.proofs.Names.{◌+◌, ◌∙◌, sym, ap, subst, arith, RunStandsAgain, Running, HasPrograms, IsCycleOf}
 use Rattle.dk_cycle_start.proofs.Walking.{both-next, next-begins, none-more, room}
 use Rattle.dk_cycle_start.proofs.walk.first_start.Goals as goal
 

@@ -1,7 +1,4 @@
-use Rattle.std.proofs.Common.{ℕ, ◌≡◌, ◌-◌, ◌%◌, ◌<◌, ◌≤◌}
-use Rattle.dk_repeat.specs.Repeat.{RunStandsAgain}
-use Rattle.dk_cycle.specs.Run.{IsLongest}
-use Rattle.dk_cycle_start.specs.Passes.{IsLater, IsSearch}
+use Rattle.dk_cycle_start.proofs.Names.{ℕ, ◌≡◌, ◌-◌, ◌%◌, ◌<◌, ◌≤◌, RunStandsAgain, IsLongest, IsLater, IsSearch}
 use Rattle.dk_cycle_start.proofs.walk.first_start.Given as goal
 
 abbrev pub invariant-loop-start : goal.invariant-loop-start

@@ -1,5 +1,4 @@
-use Rattle.std.proofs.Common.{◌≡◌, ◌+◌}
-use Rattle.dk_cycle_start.specs.Passes.{IsSearch}
+use Rattle.dk_cycle_start.proofs.Names.{◌≡◌, ◌+◌, IsSearch}
 use Rattle.dk_cycle_start.proofs.walk.lead.Given as goal
 
 abbrev pub invariant-loop-left : goal.invariant-loop-left

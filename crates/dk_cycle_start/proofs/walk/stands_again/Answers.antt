@@ -1,4 +1,4 @@
-use Rattle.std.proofs.Common.{rules, ◌≡◌, true, false}
+use Rattle.dk_cycle_start.proofs.Names.{rules, ◌≡◌, true, false}
 use Rattle.dk_cycle_start.proofs.Walking.{answered, comparable, shut-now}
 use Rattle.dk_cycle_start.proofs.walk.stands_again.Goals as goal
 

@@ -1,10 +1,4 @@
-use Rattle.std.proofs.Common.{◌∙◌, List, length, sym, ap, subst}
-use Rattle.dk_cycle.specs.declared.own.OwnSearch.{OwnSearch}
-use Rattle.dk_cycle.specs.declared.waiting.WaitWatch.{WaitWatch}
-use Rattle.dk_loader.specs.Workload.{Workload}
-use Rattle.dk_kernel.specs.Booting.{IsLoaded}
-use Rattle.dk_repeat_search.specs.Searching.{loaded_of}
-use Rattle.dk_repeat_search.specs.Always.{AreTold}
+use Rattle.dk_repeat_search.proofs.Names.{◌∙◌, List, length, sym, ap, subst, OwnSearch, WaitWatch, Workload, IsLoaded, loaded_of, AreTold}
 use Rattle.dk_repeat_search.proofs.Places.{many-own}
 use Rattle.dk_repeat_search.proofs.Watching.{always-of, many-watches}
 use Rattle.dk_repeat_search.proofs.always.told_by.Goals as goal

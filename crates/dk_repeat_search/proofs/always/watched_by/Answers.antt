@@ -1,9 +1,4 @@
-use Rattle.std.proofs.Common.{◌∙◌, sym, ap, subst}
-use Rattle.std.specs.Prelude.{IfOk}
-use Rattle.dk_loader.specs.Workload.{Workload}
-use Rattle.dk_kernel.specs.Running.{Running}
-use Rattle.dk_repeat_search.specs.Searching.{loaded_of}
-use Rattle.dk_repeat_search.specs.Always.{IsAlways, IsWatching}
+use Rattle.dk_repeat_search.proofs.Names.{◌∙◌, sym, ap, subst, IfOk, Workload, Running, loaded_of, IsAlways, IsWatching}
 use Rattle.dk_repeat_search.proofs.always.watched_by.Goals as goal
 
 pub told_by-requires-clause-is : goal.told_by-requires-clause-is

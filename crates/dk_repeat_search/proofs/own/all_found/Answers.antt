@@ -1,13 +1,5 @@
-use Rattle.std.proofs.Common.{◌≡◌, ◌∙◌, List, length, get_or, map, ap, sym, subst, arith}
-use Rattle.std.specs.Prelude.{All}
-use Rattle.std.proofs.lemmas.List.Elements.{All-push}
-use Rattle.dk_kernel.specs.Running.{Running}
-use Rattle.dk_cycle.specs.Own.{IsOwnSearch}
-use Rattle.dk_cycle_counts.specs.declared.process.MainShare.{MainShare}
-use Rattle.dk_repeat_report.specs.Cycles.{share_at}
+use Rattle.dk_repeat_search.proofs.Names.{◌≡◌, ◌∙◌, List, length, get_or, map, ap, sym, subst, arith, All, All-push, Running, IsOwnSearch, MainShare, share_at, IsOneFound, process_of}
 use Rattle.dk_repeat_report.specs.Lines as lines
-use Rattle.dk_repeat_report.specs.OwnUses.{IsOneFound}
-use Rattle.dk_repeat_search.specs.Searching.{process_of}
 use Rattle.dk_repeat_search.proofs.Owning.{found-more, many-shares, share-there}
 use Rattle.dk_repeat_search.proofs.own.all_found.Goals as goal
 

@@ -1,9 +1,5 @@
-use Rattle.std.proofs.Common.{◌≡◌, ◌+◌, ◌*◌, ◌≤◌, map, take}
-use Rattle.std.specs.Prelude.{All}
-use Rattle.dk_config.specs.declared.TheConstants.{MAX_RUN_TICKS}
+use Rattle.dk_repeat_search.proofs.Names.{◌≡◌, ◌+◌, ◌*◌, ◌≤◌, map, take, All, MAX_RUN_TICKS, IsOneFound, process_of}
 use Rattle.dk_repeat_report.specs.Lines as lines
-use Rattle.dk_repeat_report.specs.OwnUses.{IsOneFound}
-use Rattle.dk_repeat_search.specs.Searching.{process_of}
 use Rattle.dk_repeat_search.proofs.own.all_found.Given as goal
 
 abbrev pub invariant-loop-search : goal.invariant-loop-search

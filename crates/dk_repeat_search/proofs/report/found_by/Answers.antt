@@ -1,8 +1,4 @@
-use Rattle.std.proofs.Common.{◌∙◌, length, sym, ap, subst, arith}
-use Rattle.dk_loader.specs.Workload.{Workload}
-use Rattle.dk_kernel.specs.Running.{Running}
-use Rattle.dk_repeat_report.specs.Cycles.{shares_of}
-use Rattle.dk_repeat_search.specs.Searching.{AreOwn, loaded_of}
+use Rattle.dk_repeat_search.proofs.Names.{◌∙◌, length, sym, ap, subst, arith, Workload, Running, shares_of, AreOwn, loaded_of}
 use Rattle.dk_repeat_search.proofs.Places.{many-own}
 use Rattle.dk_repeat_search.proofs.Told.{found-all, knows-reader}
 use Rattle.dk_repeat_search.proofs.report.found_by.Goals as goal

@@ -1,12 +1,4 @@
-use Rattle.std.proofs.Common.{◌∙◌, sym, ap, subst}
-use Rattle.std.specs.Prelude.{IfOk}
-use Rattle.dk_loader.specs.Workload.{Workload}
-use Rattle.dk_kernel.specs.Running.{Running}
-use Rattle.dk_repeat_report.specs.Cycles.{shares_of}
-use Rattle.dk_repeat_search.specs.declared.count.Found.{Found}
-use Rattle.dk_repeat_search.specs.Searching.{IsSearching, loaded_of}
-use Rattle.dk_repeat_search.specs.Counting.{IsFound}
-use Rattle.dk_repeat_search.specs.Repeats.{KnowsReader}
+use Rattle.dk_repeat_search.proofs.Names.{◌∙◌, sym, ap, subst, IfOk, Workload, Running, shares_of, Found, IsSearching, loaded_of, IsFound, KnowsReader}
 use Rattle.dk_repeat_search.proofs.report.searched_by.Goals as goal
 
 pub found_by-requires-clause-is : goal.found_by-requires-clause-is

@@ -1,7 +1,4 @@
-use Rattle.std.proofs.Common.{◌∙◌, arith}
-use Rattle.std.proofs.lemmas.List.Elements.{All-set}
-use Rattle.dk_cycle.specs.Own.{IsOwnSearch}
-use Rattle.dk_repeat_search.specs.Searching.{process_of}
+use Rattle.dk_repeat_search.proofs.Names.{◌∙◌, arith, All-set, IsOwnSearch, process_of}
 use Rattle.dk_repeat_search.proofs.Places.{set-same}
 use Rattle.dk_repeat_search.proofs.search.look_all.Goals as goal
 

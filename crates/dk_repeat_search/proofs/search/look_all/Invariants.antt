@@ -1,7 +1,4 @@
-use Rattle.std.proofs.Common.{◌≡◌, ◌≤◌, map}
-use Rattle.std.specs.Prelude.{All}
-use Rattle.dk_cycle.specs.Own.{IsOwnSearch}
-use Rattle.dk_repeat_search.specs.Searching.{process_of}
+use Rattle.dk_repeat_search.proofs.Names.{◌≡◌, ◌≤◌, map, All, IsOwnSearch, process_of}
 use Rattle.dk_repeat_search.proofs.search.look_all.Given as goal
 
 abbrev pub invariant-loop-search : goal.invariant-loop-search

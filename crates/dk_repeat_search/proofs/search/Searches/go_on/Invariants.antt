@@ -1,5 +1,4 @@
-use Rattle.std.proofs.Common.{◌≡◌, ◌+◌}
-use Rattle.dk_repeat_search.specs.Searching.{IsSearching}
+use Rattle.dk_repeat_search.proofs.Names.{◌≡◌, ◌+◌, IsSearching}
 use Rattle.dk_repeat_search.proofs.search.Searches.go_on.Given as goal
 
 abbrev pub invariant-loop-left : goal.invariant-loop-left

@@ -1,4 +1,4 @@
-use Rattle.std.proofs.Common.{◌≡◌, ◌∙◌, length, arith, rules}
+use Rattle.dk_repeat_search.proofs.Names.{◌≡◌, ◌∙◌, length, arith, rules}
 use Rattle.dk_repeat_search.proofs.Places.{many-own}
 use Rattle.dk_repeat_search.proofs.search.Searches.look_now.Goals as goal
 
