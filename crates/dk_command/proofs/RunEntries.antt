@@ -1,5 +1,6 @@
 -- How the entries of a run go on.
-use Rattle.dk_command.proofs.Names.{ℕ, zero, suc, ◌≡◌, ◌≤◌, ◌+◌, ◌-◌, ◌∙◌, List, [], ◌∷◌, ◌++◌, reverse, refl, ap, sym, subst, arith, append_assoc, append-nil, replicate_more, reverse-append, Option, None, Some, replicate, option_map_or, Configuration, Entry, ThreadId, chosen, Workload, trace, world, executes, body_step, quiet_step, quiet, stretch_of, gone_on, Running, trace_of, AreEntries, workload_of}
+use Rattle.dk_command.proofs.Names.{ℕ, zero, suc, ◌≡◌, ◌≤◌, ◌+◌, ◌-◌, ◌∙◌, List, [], ◌∷◌, ◌++◌, reverse, refl, ap, sym, subst, arith, append_assoc, append-nil, replicate_more, reverse-append, Option, None, Some, replicate, option_map_or, Configuration, Entry, ThreadId, chosen, Workload, trace, world, executes, body_step, quiet_step, quiet, stretch_of, gone_on, Running, trace_of, workload_of}
+use Rattle.dk_command.specs.Runs.{AreEntries}
 
 -- one more tick has one more entry
 newest : (c : Configuration) (programs : List (List ℕ)) (n : ℕ) → (e : Entry) × (trace c programs (suc n) ≡ e ∷ trace c programs n)

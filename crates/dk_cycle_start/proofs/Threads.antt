@@ -1,5 +1,6 @@
 -- Two kernels of a run, thread by thread.
-use Rattle.dk_cycle_start.proofs.Names.{ℕ, zero, suc, ◌≡◌, ◌+◌, ◌<◌, ◌≤◌, ◌∙◌, inl, inr, true, false, List, [], ◌∷◌, length, map, Option, Some, None, refl, sym, ap, subst, arith, slice_get, is_some, nat_lt, option_map, cases_Bool, cases_eq, or-true, MAX_THREADS, Configuration, ThreadId, Has, Thread, family, is_main, filter-has, get-has, has-filter, has-map, map-has, ThreadRow, is_stopped, counted_row, state_of, Standing, standing, Running, trace_of, world_of, is_shown, IsRowAt, IsThereIn, now_of, shown_of, thread-of-row, AreImagesAlike, AreComparable, AreDifferent, HasOtherContext, HasOtherMemory, IsSameAt, IsSameImage, IsSameMemory, context_of}
+use Rattle.dk_cycle_start.proofs.Names.{ℕ, zero, suc, ◌≡◌, ◌+◌, ◌<◌, ◌≤◌, ◌∙◌, inl, inr, true, false, List, [], ◌∷◌, length, map, Option, Some, None, refl, sym, ap, subst, arith, slice_get, is_some, nat_lt, option_map, cases_Bool, cases_eq, or-true, MAX_THREADS, Configuration, ThreadId, Has, Thread, family, is_main, filter-has, get-has, has-filter, has-map, map-has, ThreadRow, is_stopped, counted_row, state_of, Standing, standing, Running, trace_of, world_of, is_shown, IsRowAt, IsThereIn, now_of, thread-of-row, AreImagesAlike, AreComparable, AreDifferent, HasOtherContext, HasOtherMemory, IsSameAt, IsSameImage, IsSameMemory, context_of}
+use Rattle.dk_inspect.specs.Printing.{shown_of}
 use Rattle.dk_cycle_start.proofs.Readers.{found-running}
 
 has-place : {X : Type 0} (xs : List X) (x : X) → Has xs x → (i : ℕ) × (i < length xs) × (slice_get xs i ≡ Some x)

@@ -1,5 +1,6 @@
 -- What words find, by what they ask for.
-use Rattle.dk_inputs.proofs.Names.{ℕ, ◌≡◌, ap, List, refl, subst, add-zero, sym, Option, Some, None, Result, Ok, Err, IsErrOf, option_map, DepotView, Request, meaning, Refusal, Inputs, Finds, Refuses, Tells, job_of, Job, plan_for, plan_of, planned, some_found, Reads}
+use Rattle.dk_inputs.proofs.Names.{ℕ, ◌≡◌, ap, List, refl, subst, add-zero, sym, Option, Some, None, Result, Ok, Err, IsErrOf, option_map, DepotView, Request, meaning, Refusal, Inputs, Finds, Refuses, Tells, job_of, Job, plan_for, plan_of, some_found, Reads}
+use Rattle.dk_inputs.specs.Plan.{planned}
 use Rattle.dk_inputs.specs.declared.refusal.Refusal.TheVariants as why
 use Rattle.dk_inputs.proofs.FollowLemmas.{Never, Same, made, some_map}
 

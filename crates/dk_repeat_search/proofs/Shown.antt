@@ -1,5 +1,6 @@
 -- The threads of a process, with their contexts.
-use Rattle.dk_repeat_search.proofs.Names.{ℕ, ◌≡◌, ◌+◌, ◌≤◌, ◌∙◌, ◌==◌, inl, inr, true, List, [], ◌∷◌, ◌++◌, length, Option, Some, None, refl, sym, ap, subst, arith, slice_get, is_some, nat_lt, option_map, cases_eq, cases_Bool, nat_tests, or-true, append-nil, MAX_THREADS, Configuration, ThreadId, Has, is_same, Thread, family, is_main, has-filter, FamilyStands, ThreadRow, is_stopped, counted_row, state_of, unplaced, Context, world, trace, main_is_stopped, Running, world_of, trace_of, is_shown, IsRowAt, now_of, shown_of, thread-of-row, ThreadState, ProcessState, RunState, MainState, IsMainState, AreProcessStates, IsProcessState, IsRunState, AreThreads, HasContext, IsThreadAt, listed}
+use Rattle.dk_repeat_search.proofs.Names.{ℕ, ◌≡◌, ◌+◌, ◌≤◌, ◌∙◌, ◌==◌, inl, inr, true, List, [], ◌∷◌, ◌++◌, length, Option, Some, None, refl, sym, ap, subst, arith, slice_get, is_some, nat_lt, option_map, cases_eq, cases_Bool, nat_tests, or-true, append-nil, MAX_THREADS, Configuration, ThreadId, Has, is_same, Thread, family, is_main, has-filter, FamilyStands, ThreadRow, is_stopped, counted_row, state_of, unplaced, Context, world, trace, main_is_stopped, Running, world_of, trace_of, is_shown, IsRowAt, now_of, thread-of-row, ThreadState, ProcessState, RunState, MainState, IsMainState, AreProcessStates, IsProcessState, IsRunState, AreThreads, HasContext, IsThreadAt, listed}
+use Rattle.dk_inspect.specs.Printing.{shown_of}
 use Rattle.dk_repeat_search.specs.States as states
 use Rattle.dk_repeat_search.proofs.Places.{has-place, get-before, get-last, each-more}
 

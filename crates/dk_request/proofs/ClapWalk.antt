@@ -1,5 +1,6 @@
 -- The walk over all words that a row takes.
-use Rattle.dk_request.proofs.Names.{ℕ, suc, ◌+◌, ◌-◌, ◌≤◌, ◌<◌, ◌==◌, ◌&&◌, ◌||◌, not, ◌≡◌, ◌∙◌, Bool, true, false, List, [], ◌∷◌, ◌++◌, min, length, refl, sym, ap, subst, arith, codes, inl, inr, length-append, append_assoc, append-nil, if◌then◌else◌, fold, nat_lt, list_all, bytes_eq, cases_Bool, cases_eq, and_parts, and_from, nat_tests, bytes_eq-Decides, Text, built, Held, Walk, Waiting, idle, pushed, reacted, settled, walked, Shape, turn_passes, walk_passes, Synopsis, flags, is_allowed, is_empty, is_synopsis, positionals, simple_command}
+use Rattle.dk_request.proofs.Names.{ℕ, suc, ◌+◌, ◌-◌, ◌≤◌, ◌<◌, ◌==◌, ◌&&◌, ◌||◌, not, ◌≡◌, ◌∙◌, Bool, true, false, List, [], ◌∷◌, ◌++◌, min, length, refl, sym, ap, subst, arith, codes, inl, inr, length-append, append_assoc, append-nil, if◌then◌else◌, fold, nat_lt, list_all, bytes_eq, cases_Bool, cases_eq, and_parts, and_from, nat_tests, bytes_eq-Decides, Text, built, Held, Walk, Waiting, idle, pushed, reacted, settled, walked, Shape, turn_passes, Synopsis, flags, is_allowed, is_empty, is_synopsis, positionals, simple_command}
+use Rattle.clap.specs.Takes.{walk_passes}
 use Rattle.std.proofs.Common.{None}
 use Rattle.dk_request.proofs.ClapRules.{filled_flag, is_many, name_at, rules_for}
 use Rattle.dk_request.proofs.ClapTurns.{IsReady, flag_passes, flag_turn, place_after, resting, value_passes, value_turn, waits}
