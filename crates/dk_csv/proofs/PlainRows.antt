@@ -120,20 +120,21 @@ module _ (h : Heading) (is : IsPrintable h) where
   owner_plain Label.Idle = (refl, (refl, (refl, tt)))
 
   -- no field calls for quotes, and so the row is the record of its fields
-  pub fields_are_plain : (g : LedgerLine)
-      → Plain (decimal g.start) × Plains (decimal g.count ∷ kind_text g.label ∷ (owner_fields h g.label ++ (source_fields g.label ++ event_fields g.event)))
-      × (plain_row h g ++ 10 ∷ [] ≡ record_text (fields h g))
-  fields_are_plain g =
+  pub fields_are_plain : (n : ℕ) (g : LedgerLine)
+      → Plain (decimal g.start) × Plains (decimal g.count ∷ kind_text g.label ∷ (owner_fields h g.label ++ (source_fields g.label ++ (event_fields g.event ++ decimal n ∷ []))))
+      × (plain_row h n g ++ 10 ∷ [] ≡ record_text (fields h n g))
+  fields_are_plain n g =
       let start = number_plain g.start in
-      let rest : Plains (decimal g.count ∷ kind_text g.label ∷ (owner_fields h g.label ++ (source_fields g.label ++ event_fields g.event))) = (
+      let last = event_fields g.event ++ decimal n ∷ [] in
+      let rest : Plains (decimal g.count ∷ kind_text g.label ∷ (owner_fields h g.label ++ (source_fields g.label ++ last))) = (
         number_plain g.count,
         (
           kind_plain g.label,
-          plains_both (owner_fields h g.label) (source_fields g.label ++ event_fields g.event) (owner_plain g.label)
-              (plains_both (source_fields g.label) (event_fields g.event) (source_plain g.label) (event_plain g.event)),
+          plains_both (owner_fields h g.label) (source_fields g.label ++ last) (owner_plain g.label)
+              (plains_both (source_fields g.label) last (source_plain g.label) (plains_both (event_fields g.event) (decimal n ∷ []) (event_plain g.event) (number_plain n, tt))),
         ),
       ) in
-      (start, rest, row_plain (decimal g.start) (decimal g.count) (kind_text g.label ∷ (owner_fields h g.label ++ (source_fields g.label ++ event_fields g.event))) start rest)
+      (start, rest, row_plain (decimal g.start) (decimal g.count) (kind_text g.label ∷ (owner_fields h g.label ++ (source_fields g.label ++ last))) start rest)
 
-pub row_is : (h : Heading) → IsReadableHeading h → (g : LedgerLine) → plain_row h g ++ 10 ∷ [] ≡ record_text (fields h g)
-row_is h is g = (fields_are_plain h (printable h is) g).2
+pub row_is : (h : Heading) → IsReadableHeading h → (n : ℕ) (g : LedgerLine) → plain_row h n g ++ 10 ∷ [] ≡ record_text (fields h n g)
+row_is h is n g = (fields_are_plain h (printable h is) n g).2

@@ -26,7 +26,9 @@ use Rattle.dk_groups.proofs.Readable.{groups_readable, whole_all}
 use Rattle.dk_groups.proofs.ListParts.{first_same, rest_same}
 use Rattle.dk_entry_words.specs.Parted.{parted}
 use Rattle.dk_entry_words.proofs.ReadBack.{event_blanks, parted_same, printable}
-use Rattle.dk_csv.specs.Rows.{columns, csv_text, event_fields, fields, kind_text, owner_fields, padded, plain_row, record_text, rows_text, source_fields}
+use Rattle.dk_overrun_spans.specs.declared.overrun.Overrun.{Overrun}
+use Rattle.dk_overrun_spans.specs.Overruns.{overruns}
+use Rattle.dk_csv.specs.Rows.{columns, csv_text, event_fields, fields, kind_text, overran_at, owner_fields, padded, plain_row, record_text, rows_text, source_fields}
 use Rattle.dk_csv.proofs.PlainRows.{fields_are_plain, is_plain}
 
 both_same : (fs gs x y : List (List ℕ)) → length fs ≡ length gs → fs ++ x ≡ gs ++ y → (fs ≡ gs) × (x ≡ y)
@@ -169,17 +171,27 @@ source_length (Label.Slack x Source.Timeline work) = refl
 source_length (Label.Slack x (Source.Reclaimed j) work) = refl
 source_length Label.Idle = refl
 
+padded_length : (word : List ℕ) (arguments : Arguments) → length (padded word arguments) ≡ 4
+padded_length word Arguments.Nothing = refl
+padded_length word (Arguments.Kind kind) = refl
+padded_length word (Arguments.One n) = refl
+padded_length word (Arguments.Three a b c) = refl
+
+pub event_length : (event : Option Event) → length (event_fields event) ≡ 4
+event_length None = refl
+event_length (Some e) = padded_length (word_of e) (arguments_of e)
+
 -- all fields but the first
-abbrev rest_fields : Heading → LedgerLine → List (List ℕ)
-rest_fields h g = decimal g.count ∷ kind_text g.label ∷ (owner_fields h g.label ++ (source_fields g.label ++ event_fields g.event))
+abbrev rest_fields : Heading → ℕ → LedgerLine → List (List ℕ)
+rest_fields h n g = decimal g.count ∷ kind_text g.label ∷ (owner_fields h g.label ++ (source_fields g.label ++ (event_fields g.event ++ decimal n ∷ [])))
 
 module _ (h : Heading) (is : IsReadableHeading h) where
   few : length h.levels ≤ 12
   few = is.few_levels
 
   -- a group from its fields
-  one_group : (a b : LedgerLine) → IsReadableLine h a → IsReadableLine h b → fields h a ≡ fields h b → a ≡ b
-  one_group a b ha hb e =
+  one_group : (n m : ℕ) (a b : LedgerLine) → IsReadableLine h a → IsReadableLine h b → fields h n a ≡ fields h m b → a ≡ b
+  one_group n m a b ha hb e =
       let start : decimal a.start ≡ decimal b.start = first_same e in
       let one = rest_same e in
       let count : decimal a.count ≡ decimal b.count = first_same one in
@@ -187,44 +199,49 @@ module _ (h : Heading) (is : IsReadableHeading h) where
       let kind : kind_text a.label ≡ kind_text b.label = first_same two in
       let owners = both_same (owner_fields h a.label) (owner_fields h b.label) _ _ (owner_length h a.label ∙ sym (owner_length h b.label)) (rest_same two) in
       let sources = both_same (source_fields a.label) (source_fields b.label) _ _ (source_length a.label ∙ sym (source_length b.label)) owners.1 in
+      let events = both_same (event_fields a.event) (event_fields b.event) _ _ (event_length a.event ∙ sym (event_length b.event)) sources.1 in
       let label : label_text h a.label ≡ label_text h b.label =
       sym (label_is h a.label) ∙ ap (λ k. label_back k (owner_fields h a.label) (source_fields a.label)) kind
       ∙ ap (λ o. label_back (kind_text b.label) o (source_fields a.label)) owners.0 ∙ ap (label_back (kind_text b.label) (owner_fields h b.label)) sources.0 ∙ label_is h b.label in
       let event : event_part a.event ≡ event_part b.event =
-      sym (event_is a.event) ∙ ap event_back sources.1 ∙ event_is b.event in
+      sym (event_is a.event) ∙ ap event_back events.0 ∙ event_is b.event in
       one_line h few (names_fit (length h.levels) h.processes is.processes) is.own_names a b ha hb
       (ap (λ t. t ++ codes " " ++ decimal a.count ++ codes " " ++ label_text h a.label ++ event_part a.event) start
       ∙ ap (λ t. decimal b.start ++ codes " " ++ t ++ codes " " ++ label_text h a.label ++ event_part a.event) count
       ∙ ap (λ t. decimal b.start ++ codes " " ++ decimal b.count ++ codes " " ++ t ++ event_part a.event) label
       ∙ ap (λ t. decimal b.start ++ codes " " ++ decimal b.count ++ codes " " ++ label_text h b.label ++ t) event)
 
-  row_text_is : (g : LedgerLine) (r : List ℕ) → record_text (fields h g) ++ r ≡ plain_row h g ++ 10 ∷ r
-  row_text_is g r = ap (λ t. t ++ r) (sym (fields_are_plain h (printable h is) g).2) ∙ append_assoc (plain_row h g) (10 ∷ []) r
+  row_text_is : (n : ℕ) (g : LedgerLine) (r : List ℕ) → record_text (fields h n g) ++ r ≡ plain_row h n g ++ 10 ∷ r
+  row_text_is n g r = ap (λ t. t ++ r) (sym (fields_are_plain h (printable h is) n g).2) ∙ append_assoc (plain_row h n g) (10 ∷ []) r
 
-  no_row : (k : LedgerLine) (r : List ℕ) → [] ≡ record_text (fields h k) ++ r → ⊥
-  no_row k r e =
-      let all = ap length (e ∙ row_text_is k r) in
-      let parts = length-append (plain_row h k) (10 ∷ r) in
+  no_row : (n : ℕ) (k : LedgerLine) (r : List ℕ) → [] ≡ record_text (fields h n k) ++ r → ⊥
+  no_row n k r e =
+      let all = ap length (e ∙ row_text_is n k r) in
+      let parts = length-append (plain_row h n k) (10 ∷ r) in
       omega (arith, all, parts)
 
-  rows_same : (gs ks : List LedgerLine) → AllByRecursion (IsReadableLine h) gs → AllByRecursion (IsReadableLine h) ks → rows_text h gs ≡ rows_text h ks → gs ≡ ks
-  rows_same [] [] pg pk e = refl
-  rows_same [] (k ∷ ks) pg pk e = absurd (no_row k (rows_text h ks) e)
-  rows_same (g ∷ gs) [] pg pk e = absurd (no_row g (rows_text h gs) (sym e))
-  rows_same (g ∷ gs) (k ∷ ks) pg pk e =
-      let own = fields_are_plain h (printable h is) g in
-      let theirs = fields_are_plain h (printable h is) k in
-      let both = sym (row_text_is g (rows_text h gs)) ∙ e ∙ row_text_is k (rows_text h ks) in
-      let words = parted_same is_plain 44 10 refl refl (λ n. absurd (omega (arith, n))) (decimal g.start) (decimal k.start) (rest_fields h g) (rest_fields h k) (rows_text h gs) (rows_text h ks) (own.0, own.1) (theirs.0, theirs.1) both in
-      let same = one_group g k pg.0 pk.0 words.0 in
-      ap (λ t. t ∷ gs) same ∙ ap (λ ts. k ∷ ts) (rows_same gs ks pg.1 pk.1 words.1)
+  -- whatever windows were overrun
+  module _ (os ps : List Overrun) where
+    rows_same : (gs ks : List LedgerLine) → AllByRecursion (IsReadableLine h) gs → AllByRecursion (IsReadableLine h) ks → rows_text h os gs ≡ rows_text h ps ks → gs ≡ ks
+    rows_same [] [] pg pk e = refl
+    rows_same [] (k ∷ ks) pg pk e = absurd (no_row (overran_at ps k) k (rows_text h ps ks) e)
+    rows_same (g ∷ gs) [] pg pk e = absurd (no_row (overran_at os g) g (rows_text h os gs) (sym e))
+    rows_same (g ∷ gs) (k ∷ ks) pg pk e =
+        let n = overran_at os g in
+        let m = overran_at ps k in
+        let own = fields_are_plain h (printable h is) n g in
+        let theirs = fields_are_plain h (printable h is) m k in
+        let both = sym (row_text_is n g (rows_text h os gs)) ∙ e ∙ row_text_is m k (rows_text h ps ks) in
+        let words = parted_same is_plain 44 10 refl refl (λ same. absurd (omega (arith, same))) (decimal g.start) (decimal k.start) (rest_fields h n g) (rest_fields h m k) (rows_text h os gs) (rows_text h ps ks) (own.0, own.1) (theirs.0, theirs.1) both in
+        let same = one_group n m g k pg.0 pk.0 words.0 in
+        ap (λ t. t ∷ gs) same ∙ ap (λ ts. k ∷ ts) (rows_same gs ks pg.1 pk.1 words.1)
 
 -- two ledgers of one header whose tables of these ranges are the same have the same entries in them
 pub tables_same : (h : Heading) (from to lo hi : ℕ) (es fs : List Entry) → IsReadable (record { heading = h; entries = es }) → IsReadable (record { heading = h; entries = fs })
     → csv_text from to h es ≡ csv_text lo hi h fs → slice from to es ≡ slice lo hi fs
 tables_same h from to lo hi es fs is other e =
-    let rows = append_cancel_left (record_text columns) (rows_text h (groups from to es)) (rows_text h (groups lo hi fs)) e in
-    let same = rows_same h is.heading (groups from to es) (groups lo hi fs) (groups_readable h from to es is) (groups_readable h lo hi fs other) rows in
+    let rows = append_cancel_left (record_text columns) (rows_text h (overruns h es) (groups from to es)) (rows_text h (overruns h fs) (groups lo hi fs)) e in
+    let same = rows_same h is.heading (overruns h es) (overruns h fs) (groups from to es) (groups lo hi fs) (groups_readable h from to es is) (groups_readable h lo hi fs other) rows in
     sym (whole_slice from to es) ∙ ap (flat_map entries_of) same ∙ whole_slice lo hi fs
 
 pub one_to_one : (h : Heading) (es fs : List Entry) → IsReadable (record { heading = h; entries = es }) → IsReadable (record { heading = h; entries = fs })

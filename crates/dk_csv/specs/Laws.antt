@@ -4,7 +4,8 @@ use Rattle.std.specs.List.{AllByRecursion, list_all}
 use Rattle.dk_trace.specs.declared.Entry.{Entry}
 use Rattle.dk_ledger.specs.Heading.{Heading}
 use Rattle.dk_groups.specs.Groups.{groups}
-use Rattle.dk_csv.specs.Rows.{behind_comma, columns, fields}
+use Rattle.dk_overrun_spans.specs.Overruns.{overruns}
+use Rattle.dk_csv.specs.Rows.{behind_comma, columns, group_fields}
 
 -- neither a comma nor a quotation mark, and no end of a line
 abbrev pub is_bare : ℕ → Bool
@@ -20,7 +21,7 @@ pub record IsRecord (fs : List (List ℕ)) : Type 0 where
 
 -- the records of a range's table, that of the columns' names first
 abbrev pub records : ℕ → ℕ → Heading → List Entry → List (List (List ℕ))
-records from to h es = columns ∷ map (fields h) (groups from to es)
+records from to h es = columns ∷ map (group_fields h (overruns h es)) (groups from to es)
 
 -- the fields of a record with a comma between each two, and a line feed
 abbrev pub joined : List (List ℕ) → List ℕ

@@ -14,11 +14,14 @@ use Rattle.dk_groups.specs.Groups.{groups}
 use Rattle.dk_trace.specs.declared.says.Arguments.{Arguments}
 use Rattle.dk_trace.specs.Says.{arguments_of, word_of}
 use Rattle.dk_entry_words.specs.Parted.{behind}
+use Rattle.dk_overrun_spans.specs.declared.overrun.Overrun.{Overrun}
+use Rattle.dk_overrun_spans.specs.Marks.{overran_in}
+use Rattle.dk_overrun_spans.specs.Overruns.{overruns}
 
 -- the names of the columns
 abbrev pub columns : List (List ℕ)
 columns = codes "start" ∷ codes "count" ∷ codes "kind" ∷ codes "process" ∷ codes "serial" ∷ codes "level" ∷ codes "slack"
-    ∷ codes "from" ∷ codes "event" ∷ codes "arg1" ∷ codes "arg2" ∷ codes "arg3" ∷ []
+    ∷ codes "from" ∷ codes "event" ∷ codes "arg1" ∷ codes "arg2" ∷ codes "arg3" ∷ codes "overran" ∷ []
 
 abbrev pub kind_text : Label → List ℕ
 kind_text (Label.Kernel j) = codes "kernel"
@@ -65,27 +68,35 @@ abbrev pub event_fields : Option Event → List (List ℕ)
 event_fields None = [] ∷ [] ∷ [] ∷ [] ∷ []
 event_fields (Some e) = padded (word_of e) (arguments_of e)
 
--- a row, by its columns
-abbrev pub fields : Heading → LedgerLine → List (List ℕ)
-fields h g = decimal g.start ∷ decimal g.count ∷ kind_text g.label
-    ∷ (owner_fields h g.label ++ (source_fields g.label ++ event_fields g.event))
+-- a row, by its columns, where so many windows were overrun in it
+abbrev pub fields : Heading → ℕ → LedgerLine → List (List ℕ)
+fields h n g = decimal g.start ∷ decimal g.count ∷ kind_text g.label
+    ∷ (owner_fields h g.label ++ (source_fields g.label ++ (event_fields g.event ++ decimal n ∷ [])))
+
+-- how many of the group's ticks are the last of a thread's budget in a window that it overran
+abbrev pub overran_at : List Overrun → LedgerLine → ℕ
+overran_at os g = overran_in os g.start g.count
+
+-- the row of a group, where these windows were overrun
+abbrev pub group_fields : Heading → List Overrun → LedgerLine → List (List ℕ)
+group_fields h os g = fields h (overran_at os g) g
 
 -- the text of a record as `csv` writes it
 abbrev pub record_text : List (List ℕ) → List ℕ
 record_text fs = row_text default_writer fs
 
-abbrev pub rows_text : Heading → List LedgerLine → List ℕ
-rows_text h gs = flat_map (λ g. record_text (fields h g)) gs
+abbrev pub rows_text : Heading → List Overrun → List LedgerLine → List ℕ
+rows_text h os gs = flat_map (λ g. record_text (group_fields h os g)) gs
 
 -- the table of the groups of a range
 abbrev pub csv_text : ℕ → ℕ → Heading → List Entry → List ℕ
-csv_text from to h es = record_text columns ++ rows_text h (groups from to es)
+csv_text from to h es = record_text columns ++ rows_text h (overruns h es) (groups from to es)
 
 -- fields behind others, where none calls for quotes
 abbrev pub behind_comma : List (List ℕ) → List ℕ
 behind_comma fs = behind 44 fs
 
 -- a row without its line feed, where no field calls for quotes
-abbrev pub plain_row : Heading → LedgerLine → List ℕ
-plain_row h g = decimal g.start ++ behind_comma (decimal g.count ∷ kind_text g.label
-    ∷ (owner_fields h g.label ++ (source_fields g.label ++ event_fields g.event)))
+abbrev pub plain_row : Heading → ℕ → LedgerLine → List ℕ
+plain_row h n g = decimal g.start ++ behind_comma (decimal g.count ∷ kind_text g.label
+    ∷ (owner_fields h g.label ++ (source_fields g.label ++ (event_fields g.event ++ decimal n ∷ []))))

@@ -150,11 +150,11 @@ fn push_event(text: &mut TextLine, event: Option<Event>)
     }
 }
 
-/// The row of a group, without its line feed.
-pub(crate) fn row_of(header: &Header, group: LedgerLine) -> TextLine
+/// The row of a group in which so many windows were overrun, without its line feed.
+pub(crate) fn row_of(header: &Header, overran: u32, group: LedgerLine) -> TextLine
     requires printable { IsPrintable header.now }
     requires named { IsNamed header.now group.label }
-    ensures text { result ≡ plain_row header.now group }
+    ensures text { result ≡ plain_row header.now overran group }
     ensures len { length result < 200 }
 {
     let mut text = TextLine::new();
@@ -164,5 +164,6 @@ pub(crate) fn row_of(header: &Header, group: LedgerLine) -> TextLine
     push_owner(&mut text, header, group.label);
     push_source(&mut text, group.label);
     push_event(&mut text, group.event);
+    push_number(&mut text, overran);
     text
 }

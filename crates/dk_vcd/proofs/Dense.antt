@@ -17,13 +17,20 @@ use Rattle.dk_entry_words.proofs.Spelled.{parted_all, word_all, work_words_spell
 use Rattle.dk_holds.specs.declared.holding.Holding.{Holding}
 use Rattle.dk_vcd.specs.Holders.{holder_value}
 use Rattle.dk_vcd.specs.Laws.{IsDense, is_dense}
-use Rattle.dk_vcd.specs.Words.{child_part, event_value, line_value, row_value}
+use Rattle.dk_vcd.specs.Words.{child_part, event_value, line_value, overran_value, row_value}
 
 spelled_dense : (b : ℕ) → is_spelled b ≡ true → is_dense b ≡ true
 spelled_dense b h = grind (arith, nat_tests)
 
 pub digits_dense : (n : ℕ) → IsDense (decimal n)
 digits_dense n = word_all is_dense spelled_dense (decimal n) (number_spelled n)
+
+pub overran_dense : (n : ℕ) → IsDense (overran_value n)
+overran_dense n = either (n == 0)
+  where
+    either : (b : Bool) → IsDense (if b then [] else decimal n)
+    either true = refl
+    either false = digits_dense n
 
 pub event_dense : (event : Event) → IsDense (event_value event)
 event_dense event = parted_all is_dense spelled_dense 44 refl (event_words (Some event)) (event_spelled (Some event))

@@ -21,13 +21,13 @@ use Rattle.dk_groups.proofs.Below.{no_texts, one_text_more}
 use Rattle.dk_holds.specs.declared.holding.Holding.{Holding}
 use Rattle.dk_vcd.specs.declared.holders.Occasion.{Occasion}
 use Rattle.dk_vcd.specs.declared.signals.Signal.{Signal}
-use Rattle.dk_vcd.specs.Changes.{change_text, changes_text, first_mark, last_time, left_mark, left_row, mark_before, mark_text, rest_text, running_text, start_text, time_text}
+use Rattle.dk_vcd.specs.Changes.{change_text, changes_text, first_mark, last_time, left_mark, left_row, mark_before, mark_text, overran_at, rest_text, running_text, start_text, time_text, work_text}
 use Rattle.dk_vcd.specs.Dumps.{empty_process, empty_processes, opening_text, process_texts, tail_text, vcd_text}
 use Rattle.dk_vcd.specs.Holders.{event_before, holder_before, holder_change, holder_text, holder_value, holders_text, is_told, moved_text}
 use Rattle.dk_vcd.specs.Laws.{AreChanges, IsDense, IsDump, IsNumber, IsTime, IsValue, is_bit}
 use Rattle.dk_vcd.specs.Signals.{code, emptied, row_of, same_row}
-use Rattle.dk_vcd.specs.Words.{binary, event_value, line_value, row_value, running_value}
-use Rattle.dk_vcd.proofs.Dense.{event_dense, holder_dense, line_dense, row_dense}
+use Rattle.dk_vcd.specs.Words.{binary, event_value, line_value, overran_value, row_value, running_value}
+use Rattle.dk_vcd.proofs.Dense.{event_dense, holder_dense, line_dense, overran_dense, row_dense}
 
 abbrev IsChange : List ℕ → Type 0
 IsChange line = IsTime line ⊎ (IsValue line ⊎ IsNumber line)
@@ -132,13 +132,21 @@ module _ (h : Heading) (is : IsPrintable h) where
       (subst (λ t. AreChanges (ended t)) (sym line)
       (adds_line (codes "s" ++ value ++ codes " " ++ codes "L") own (time_text g.start) (one_line (time_text g.start) (time_line g.start))))
 
-  rest_lines : (b : Option LedgerLine) (g : LedgerLine) → AreChanges (ended (rest_text b g))
-  rest_lines b g =
+  work_lines : (b : Option LedgerLine) (g : LedgerLine) → AreChanges (ended (work_text b g))
+  work_lines b g =
       let row = codes "s" ++ row_value g.label ++ codes " " ++ code (row_of g.label) in
       let running = running_text (thread_of g.label) in
       mark_adds g (thread_of g.label) g.event (row ++ running ++ left_mark (mark_before b) (first_mark g))
       (left_mark_adds (mark_before b) (first_mark g) (row ++ running)
       (running_adds (thread_of g.label) row (one_line row (value_line (row_value g.label) (row_of g.label) (row_dense g.label)))))
+
+  rest_lines : (n : ℕ) (b : Option LedgerLine) (g : LedgerLine) → AreChanges (ended (rest_text n b g))
+  rest_lines n b g =
+      let own = codes "s" ++ overran_value n ++ codes " O" in
+      subst AreChanges (sym (append_assoc (ended own) (work_text b g) (10 ∷ [])))
+      (two_texts (ended own) (ended (work_text b g))
+      (one_line own (subst IsChange (append_assoc (codes "s" ++ overran_value n) (codes " ") (codes "O")) (value_line (overran_value n) Signal.Overran (overran_dense n))))
+      (work_lines b g))
 
   holder_lines : (m : ℕ) (o : Option Holding) (b : Bool) → AreChanges (if b then ended (holder_change h m o) else [])
   holder_lines m o true = one_line (holder_change h m o) (value_line (holder_value h o) (Signal.Mutex m) (holder_dense h is o))
@@ -154,15 +162,15 @@ module _ (h : Heading) (is : IsPrintable h) where
   moved_lines None held = no_lines
   moved_lines (Some e) held = below_lines (Occasion.Behind e) held 16
 
-  group_lines : (held : ℕ → Option Holding) (b : Option LedgerLine) (g : LedgerLine) → AreChanges (change_text h held b g)
-  group_lines held b g =
-      two_texts (ended (start_text h b g)) (moved_text h (event_before b) held ++ ended (rest_text b g)) (start_lines b g)
-      (two_texts (moved_text h (event_before b) held) (ended (rest_text b g)) (moved_lines (event_before b) held) (rest_lines b g))
+  group_lines : (held : ℕ → Option Holding) (n : ℕ) (b : Option LedgerLine) (g : LedgerLine) → AreChanges (change_text h held n b g)
+  group_lines held n b g =
+      two_texts (ended (start_text h b g)) (moved_text h (event_before b) held ++ ended (rest_text n b g)) (start_lines b g)
+      (two_texts (moved_text h (event_before b) held) (ended (rest_text n b g)) (moved_lines (event_before b) held) (rest_lines n b g))
 
   all_lines : (es : List Entry) (b : Option LedgerLine) (gs : List LedgerLine) → AreChanges (changes_text h es b gs)
   all_lines es b [] = no_lines
   all_lines es b (g ∷ gs) =
-      two_texts (change_text h (holder_before es g.start) b g) (changes_text h es (Some g) gs) (group_lines (holder_before es g.start) b g) (all_lines es (Some g) gs)
+      two_texts (change_text h (holder_before es g.start) (overran_at h es g) b g) (changes_text h es (Some g) gs) (group_lines (holder_before es g.start) (overran_at h es g) b g) (all_lines es (Some g) gs)
 
 -- ---- the first values
 
@@ -179,10 +187,10 @@ processes_lines : (p : ℕ) (ls : List ProcessLine) → AreChanges (empty_proces
 processes_lines p [] = no_lines
 processes_lines p (l ∷ ls) = two_texts (ended (empty_process p)) (empty_processes (suc p) ls) (process_lines p) (processes_lines (suc p) ls)
 
-common_lines : AreChanges (codes "s L\ns K\ns I\nbz R\n")
+common_lines : AreChanges (codes "s L\ns K\ns I\nbz R\ns O\n")
 common_lines = record {
-  lines = codes "s L" ∷ codes "s K" ∷ codes "s I" ∷ codes "bz R" ∷ [];
-  each = (value_line [] Signal.Line refl, (value_line [] Signal.Kernel refl, (value_line [] Signal.Idle refl, (number_line (codes "z") refl, tt))));
+  lines = codes "s L" ∷ codes "s K" ∷ codes "s I" ∷ codes "bz R" ∷ codes "s O" ∷ [];
+  each = (value_line [] Signal.Line refl, (value_line [] Signal.Kernel refl, (value_line [] Signal.Idle refl, (number_line (codes "z") refl, (value_line [] Signal.Overran refl, tt)))));
   is = refl;
 }
 
@@ -195,10 +203,10 @@ is_dump h from to es is =
     let ps = h.processes in
     let changes = changes_text h es None (groups from to es) in
     record {
-      first = codes "s L\ns K\ns I\nbz R\n" ++ (empty_processes 0 ps ++ holders_text h Occasion.Start held);
+      first = codes "s L\ns K\ns I\nbz R\ns O\n" ++ (empty_processes 0 ps ++ holders_text h Occasion.Start held);
       later = changes ++ tail_text to;
-      values = two_texts (codes "s L\ns K\ns I\nbz R\n") (empty_processes 0 ps ++ holders_text h Occasion.Start held) common_lines
+      values = two_texts (codes "s L\ns K\ns I\nbz R\ns O\n") (empty_processes 0 ps ++ holders_text h Occasion.Start held) common_lines
           (two_texts (empty_processes 0 ps) (holders_text h Occasion.Start held) (processes_lines 0 ps) (below_lines h (printable h is.heading) Occasion.Start held 16));
       changes = two_texts changes (tail_text to) (all_lines h (printable h is.heading) es None (groups from to es)) (one_line (time_text to) (time_line to));
-      is = in_parts opening_text (process_texts 0 ps) (codes "$enddefinitions $end\n$dumpvars\n") (codes "s L\ns K\ns I\nbz R\n") (empty_processes 0 ps) (holders_text h Occasion.Start held) (codes "$end\n") (changes ++ tail_text to);
+      is = in_parts opening_text (process_texts 0 ps) (codes "$enddefinitions $end\n$dumpvars\n") (codes "s L\ns K\ns I\nbz R\ns O\n") (empty_processes 0 ps) (holders_text h Occasion.Start held) (codes "$end\n") (changes ++ tail_text to);
     }

@@ -16,16 +16,16 @@ use Rattle.dk_groups.proofs.ListParts.{rest_same}
 use Rattle.dk_groups.proofs.Readable.{groups_readable, whole_all}
 use Rattle.dk_groups.proofs.Slices.{whole_slice}
 use Rattle.dk_groups.proofs.Until.{until}
-use Rattle.dk_vcd.specs.Words.{line_value}
+use Rattle.dk_vcd.specs.Words.{line_value, overran_value}
 use Rattle.dk_groups.specs.Below.{texts_below}
 use Rattle.dk_groups.proofs.Below.{no_texts, one_text_more}
 use Rattle.dk_holds.specs.declared.holding.Holding.{Holding}
-use Rattle.dk_vcd.specs.Changes.{change_text, changes_text, left_row, rest_text, start_text, time_text}
+use Rattle.dk_vcd.specs.Changes.{change_text, changes_text, left_row, overran_at, overran_text, rest_text, start_text, time_text, work_text}
 use Rattle.dk_vcd.specs.declared.holders.Occasion.{Occasion}
 use Rattle.dk_vcd.specs.Holders.{event_before, holder_before, holder_change, holder_text, holder_value, holders_text, is_told, moved_text}
 use Rattle.dk_vcd.specs.Dumps.{head_text, scopes_text, tail_text, vcd_text}
 use Rattle.dk_vcd.specs.Laws.{is_dense}
-use Rattle.dk_vcd.proofs.Dense.{digits_dense, holder_dense}
+use Rattle.dk_vcd.proofs.Dense.{digits_dense, holder_dense, overran_dense}
 
 -- a time, up to what comes behind it
 times_same : (n m : ℕ) (x y : List ℕ) → codes "#" ++ (decimal n ++ 10 ∷ x) ≡ codes "#" ++ (decimal m ++ 10 ∷ y) → x ≡ y
@@ -34,14 +34,14 @@ times_same n m x y e =
     rest_same (until is_dense (decimal n) (decimal m) 10 10 x y (digits_dense n) (digits_dense m) refl refl behind).1
 
 -- what stands behind the line of a group
-abbrev behind_line : Heading → (ℕ → Option Holding) → Option LedgerLine → LedgerLine → List ℕ → List ℕ
-behind_line h held b g r = 76 ∷ (left_row b g ++ 10 ∷ (moved_text h (event_before b) held ++ (ended (rest_text b g) ++ r)))
+abbrev behind_line : Heading → (ℕ → Option Holding) → ℕ → Option LedgerLine → LedgerLine → List ℕ → List ℕ
+behind_line h held n b g r = 76 ∷ (left_row b g ++ 10 ∷ (moved_text h (event_before b) held ++ (ended (rest_text n b g) ++ r)))
 
-opened : (h : Heading) (held : ℕ → Option Holding) (b : Option LedgerLine) (g : LedgerLine) (r : List ℕ)
-    → change_text h held b g ++ r ≡ codes "#" ++ (decimal g.start ++ 10 ∷ 115 ∷ (line_value h g ++ 32 ∷ behind_line h held b g r))
-opened h held b g r =
+opened : (h : Heading) (held : ℕ → Option Holding) (n : ℕ) (b : Option LedgerLine) (g : LedgerLine) (r : List ℕ)
+    → change_text h held n b g ++ r ≡ codes "#" ++ (decimal g.start ++ 10 ∷ 115 ∷ (line_value h g ++ 32 ∷ behind_line h held n b g r))
+opened h held n b g r =
     let moved = moved_text h (event_before b) held in
-    let more = ended (rest_text b g) in
+    let more = ended (rest_text n b g) in
     let left = left_row b g in
     let value = line_value h g in
     let last = 10 ∷ (moved ++ (more ++ r)) in
@@ -52,6 +52,18 @@ opened h held b g r =
     ∙ append_assoc (time_text g.start ++ codes "\ns" ++ value) (codes " L") (left ++ last)
     ∙ append_assoc (time_text g.start ++ codes "\ns") value (codes " L" ++ (left ++ last))
     ∙ append_assoc (time_text g.start) (codes "\ns") (value ++ (codes " L" ++ (left ++ last)))
+
+-- how many windows were overrun, up to what comes behind it
+overran_same : (n m : ℕ) (b : Option LedgerLine) (g : LedgerLine) (x y : List ℕ) → ended (rest_text n b g) ++ x ≡ ended (rest_text m b g) ++ y → x ≡ y
+overran_same n m b g x y e =
+    let own = ended (work_text b g) in
+    let parts : (k : ℕ) (r : List ℕ) → ended (rest_text k b g) ++ r ≡ 115 ∷ (overran_value k ++ 32 ∷ 79 ∷ 10 ∷ (own ++ r)) =
+    λ k r. ap (λ t. t ++ r) (append_assoc (overran_text k) (work_text b g) (10 ∷ [])) ∙ append_assoc (overran_text k) own r
+    ∙ append_assoc (codes "s" ++ overran_value k ++ codes " O") (10 ∷ []) (own ++ r) ∙ append_assoc (codes "s" ++ overran_value k) (codes " O") (10 ∷ (own ++ r))
+    ∙ append_assoc (codes "s") (overran_value k) (32 ∷ 79 ∷ 10 ∷ (own ++ r)) in
+    let both = rest_same (sym (parts n x) ∙ e ∙ parts m y) in
+    let behind = (until is_dense (overran_value n) (overran_value m) 32 32 (79 ∷ 10 ∷ (own ++ x)) (79 ∷ 10 ∷ (own ++ y)) (overran_dense n) (overran_dense m) refl refl both).1 in
+    append_cancel_left own x y (rest_same (rest_same (rest_same behind)))
 
 module _ (h : Heading) (is : IsReadableHeading h) where
   -- the value of a mutex, whoever holds it, up to what comes behind it
@@ -96,40 +108,42 @@ module _ (h : Heading) (is : IsReadableHeading h) where
       append_cancel_left (codes "$end\n") x y (below_same Occasion.Start held other 16 (codes "$end\n" ++ x) (codes "$end\n" ++ y) behind)
 
   -- where a range ends no group begins
-  no_group : (held : ℕ → Option Holding) (b : Option LedgerLine) (g : LedgerLine) (to : ℕ) (r : List ℕ) → tail_text to ≡ change_text h held b g ++ r → ⊥
-  no_group held b g to r e =
-      let behind = times_same to g.start [] (115 ∷ (line_value h g ++ 32 ∷ behind_line h held b g r)) (e ∙ opened h held b g r) in
+  no_group : (held : ℕ → Option Holding) (n : ℕ) (b : Option LedgerLine) (g : LedgerLine) (to : ℕ) (r : List ℕ) → tail_text to ≡ change_text h held n b g ++ r → ⊥
+  no_group held n b g to r e =
+      let behind = times_same to g.start [] (115 ∷ (line_value h g ++ 32 ∷ behind_line h held n b g r)) (e ∙ opened h held n b g r) in
       cc
 
   -- one group, and what comes behind it
-  group_same : (held other : ℕ → Option Holding) (b : Option LedgerLine) (g k : LedgerLine) (x y : List ℕ) → IsReadableLine h g → IsReadableLine h k
-      → change_text h held b g ++ x ≡ change_text h other b k ++ y → (g ≡ k) × (x ≡ y)
-  group_same held other b g k x y pg pk e =
-      let lines = times_same g.start k.start (115 ∷ (line_value h g ++ 32 ∷ behind_line h held b g x)) (115 ∷ (line_value h k ++ 32 ∷ behind_line h other b k y))
-      (sym (opened h held b g x) ∙ e ∙ opened h other b k y) in
-      let both = line_back 44 32 refl refl (λ e. absurd (omega (arith, e))) h is g k (behind_line h held b g x) (behind_line h other b k y) pg pk (rest_same lines) in
+  group_same : (held other : ℕ → Option Holding) (n m : ℕ) (b : Option LedgerLine) (g k : LedgerLine) (x y : List ℕ) → IsReadableLine h g → IsReadableLine h k
+      → change_text h held n b g ++ x ≡ change_text h other m b k ++ y → (g ≡ k) × (x ≡ y)
+  group_same held other n m b g k x y pg pk e =
+      let lines = times_same g.start k.start (115 ∷ (line_value h g ++ 32 ∷ behind_line h held n b g x)) (115 ∷ (line_value h k ++ 32 ∷ behind_line h other m b k y))
+      (sym (opened h held n b g x) ∙ e ∙ opened h other m b k y) in
+      let both = line_back 44 32 refl refl (λ e. absurd (omega (arith, e))) h is g k (behind_line h held n b g x) (behind_line h other m b k y) pg pk (rest_same lines) in
       let same = both.0 in
-      let rows = rest_same (ap (λ (l : LedgerLine). behind_line h held b l x) (sym same) ∙ both.1) in
+      let rows = rest_same (ap (λ (l : LedgerLine). behind_line h held n b l x) (sym same) ∙ both.1) in
       let moved = rest_same (append_cancel_left (left_row b k) _ _ rows) in
-      let rest = moved_same (event_before b) held other (ended (rest_text b k) ++ x) (ended (rest_text b k) ++ y) moved in
-      (same, append_cancel_left (ended (rest_text b k)) x y rest)
+      let rest = moved_same (event_before b) held other (ended (rest_text n b k) ++ x) (ended (rest_text m b k) ++ y) moved in
+      (same, overran_same n m b k x y rest)
 
   groups_same : (es fs : List Entry) (b : Option LedgerLine) (gs ks : List LedgerLine) (to hi : ℕ) → AllByRecursion (IsReadableLine h) gs → AllByRecursion (IsReadableLine h) ks
       → changes_text h es b gs ++ tail_text to ≡ changes_text h fs b ks ++ tail_text hi → gs ≡ ks
   groups_same es fs b [] [] to hi pg pk e = refl
   groups_same es fs b [] (k ∷ ks) to hi pg pk e =
-      let own = change_text h (holder_before fs k.start) b k in
-      absurd (no_group (holder_before fs k.start) b k to (changes_text h fs (Some k) ks ++ tail_text hi) (e ∙ append_assoc own (changes_text h fs (Some k) ks) (tail_text hi)))
+      let own = change_text h (holder_before fs k.start) (overran_at h fs k) b k in
+      absurd (no_group (holder_before fs k.start) (overran_at h fs k) b k to (changes_text h fs (Some k) ks ++ tail_text hi) (e ∙ append_assoc own (changes_text h fs (Some k) ks) (tail_text hi)))
   groups_same es fs b (g ∷ gs) [] to hi pg pk e =
-      let own = change_text h (holder_before es g.start) b g in
-      absurd (no_group (holder_before es g.start) b g hi (changes_text h es (Some g) gs ++ tail_text to) (sym e ∙ append_assoc own (changes_text h es (Some g) gs) (tail_text to)))
+      let own = change_text h (holder_before es g.start) (overran_at h es g) b g in
+      absurd (no_group (holder_before es g.start) (overran_at h es g) b g hi (changes_text h es (Some g) gs ++ tail_text to) (sym e ∙ append_assoc own (changes_text h es (Some g) gs) (tail_text to)))
   groups_same es fs b (g ∷ gs) (k ∷ ks) to hi pg pk e =
       let held = holder_before es g.start in
       let other = holder_before fs k.start in
       let more = changes_text h es (Some g) gs ++ tail_text to in
       let rest = changes_text h fs (Some k) ks ++ tail_text hi in
-      let first = group_same held other b g k more rest pg.0 pk.0
-      (sym (append_assoc (change_text h held b g) (changes_text h es (Some g) gs) (tail_text to)) ∙ e ∙ append_assoc (change_text h other b k) (changes_text h fs (Some k) ks) (tail_text hi)) in
+      let n = overran_at h es g in
+      let m = overran_at h fs k in
+      let first = group_same held other n m b g k more rest pg.0 pk.0
+      (sym (append_assoc (change_text h held n b g) (changes_text h es (Some g) gs) (tail_text to)) ∙ e ∙ append_assoc (change_text h other m b k) (changes_text h fs (Some k) ks) (tail_text hi)) in
       ap (λ t. t ∷ gs) first.0
       ∙ ap (λ ts. k ∷ ts) (groups_same es fs (Some k) gs ks to hi pg.1 pk.1 (ap (λ x. changes_text h es (Some x) gs ++ tail_text to) (sym first.0) ∙ first.1))
 

@@ -9,7 +9,9 @@ use Rattle.dk_ledger.specs.Heading.{Heading, ended}
 use Rattle.dk_holds.specs.declared.holding.Holding.{Holding}
 use Rattle.dk_vcd.specs.declared.signals.Signal.{Signal}
 use Rattle.dk_vcd.specs.Signals.{code, emptied, row_of, same_row}
-use Rattle.dk_vcd.specs.Words.{event_value, line_value, row_value, running_value}
+use Rattle.dk_overrun_spans.specs.Marks.{overran_in}
+use Rattle.dk_overrun_spans.specs.Overruns.{overruns}
+use Rattle.dk_vcd.specs.Words.{event_value, line_value, overran_value, row_value, running_value}
 use Rattle.dk_vcd.specs.Holders.{event_before, holder_before, moved_text}
 
 -- what comes next changes at this tick
@@ -66,20 +68,31 @@ abbrev pub running_text : Option ThreadId → List ℕ
 running_text o = codes "\nb" ++ running_value o ++ codes " R"
 
 -- what the group's ticks are for, who runs in them, and its event
-abbrev pub rest_text : Option LedgerLine → LedgerLine → List ℕ
-rest_text b g =
+abbrev pub work_text : Option LedgerLine → LedgerLine → List ℕ
+work_text b g =
     codes "s" ++ row_value g.label ++ codes " " ++ code (row_of g.label) ++ running_text (thread_of g.label)
     ++ left_mark (mark_before b) (first_mark g) ++ mark_text g (thread_of g.label) g.event
 
+-- that so many windows were overrun in the group
+abbrev pub overran_text : ℕ → List ℕ
+overran_text n = ended (codes "s" ++ overran_value n ++ codes " O")
+
+abbrev pub rest_text : ℕ → Option LedgerLine → LedgerLine → List ℕ
+rest_text n b g = overran_text n ++ work_text b g
+
 -- where these are the holds of the mutexes at its first tick
-abbrev pub change_text : Heading → (ℕ → Option Holding) → Option LedgerLine → LedgerLine → List ℕ
-change_text h held b g =
-    ended (start_text h b g) ++ (moved_text h (event_before b) held ++ ended (rest_text b g))
+abbrev pub change_text : Heading → (ℕ → Option Holding) → ℕ → Option LedgerLine → LedgerLine → List ℕ
+change_text h held n b g =
+    ended (start_text h b g) ++ (moved_text h (event_before b) held ++ ended (rest_text n b g))
+
+-- how many of the group's ticks are the last of a thread's budget in a window that it overran
+abbrev pub overran_at : Heading → List Entry → LedgerLine → ℕ
+overran_at h es g = overran_in (overruns h es) g.start g.count
 
 -- of groups of these entries behind this one
 abbrev pub changes_text : Heading → List Entry → Option LedgerLine → List LedgerLine → List ℕ
 changes_text h es b [] = []
-changes_text h es b (g ∷ gs) = change_text h (holder_before es g.start) b g ++ changes_text h es (Some g) gs
+changes_text h es b (g ∷ gs) = change_text h (holder_before es g.start) (overran_at h es g) b g ++ changes_text h es (Some g) gs
 
 -- the last of the groups behind this one
 abbrev pub last_of : Option LedgerLine → List LedgerLine → Option LedgerLine

@@ -1,5 +1,5 @@
 -- The text of a dump.
-use Rattle.std.specs.Prelude.{ℕ, suc, ◌≡◌, ◌++◌, [], ◌∷◌, List, codes, decimal, reverse, take, Option, None}
+use Rattle.std.specs.Prelude.{ℕ, suc, ◌≡◌, ◌++◌, [], ◌∷◌, Bool, List, codes, decimal, reverse, take, Option, None}
 use Rattle.dk_trace.specs.declared.Entry.{Entry}
 use Rattle.dk_ledger.specs.declared.header.ProcessLine.{ProcessLine}
 use Rattle.dk_ledger.specs.declared.line.LedgerLine.{LedgerLine}
@@ -9,6 +9,8 @@ use Rattle.dk_groups.specs.Groups.{groups}
 use Rattle.dk_groups.specs.Cutting.{Cutting, ComesNext}
 use Rattle.dk_holds.specs.declared.holding.Holding.{Holding}
 use Rattle.dk_holds.specs.Holds.{AreHolders}
+use Rattle.dk_overrun_spans.specs.Marks.{AreMarks}
+use Rattle.dk_overrun_spans.specs.Overruns.{overruns}
 use Rattle.dk_vcd.specs.Changes.{changes_text, time_text}
 use Rattle.dk_vcd.specs.declared.holders.Occasion.{Occasion}
 use Rattle.dk_vcd.specs.Holders.{holder_before, holders_text}
@@ -16,7 +18,7 @@ use Rattle.dk_vcd.specs.Holders.{holder_before, holders_text}
 -- what a dump begins with: its unit, and the signals that are of no process
 abbrev pub opening_text : List ℕ
 opening_text =
-    codes "$comment deosk ledger, a tick is a microsecond $end\n$timescale 1 us $end\n$scope module ledger $end\n$var string 1 L line $end\n$var string 1 K kernel $end\n$var string 1 I idle $end\n$var integer 32 R running $end\n$upscope $end\n$scope module mutexes $end\n$var string 1 M0 mutex_0 $end\n$var string 1 M1 mutex_1 $end\n$var string 1 M2 mutex_2 $end\n$var string 1 M3 mutex_3 $end\n$var string 1 M4 mutex_4 $end\n$var string 1 M5 mutex_5 $end\n$var string 1 M6 mutex_6 $end\n$var string 1 M7 mutex_7 $end\n$var string 1 M8 mutex_8 $end\n$var string 1 M9 mutex_9 $end\n$var string 1 M10 mutex_10 $end\n$var string 1 M11 mutex_11 $end\n$var string 1 M12 mutex_12 $end\n$var string 1 M13 mutex_13 $end\n$var string 1 M14 mutex_14 $end\n$var string 1 M15 mutex_15 $end\n$upscope $end\n"
+    codes "$comment deosk ledger, a tick is a microsecond $end\n$timescale 1 us $end\n$scope module ledger $end\n$var string 1 L line $end\n$var string 1 K kernel $end\n$var string 1 I idle $end\n$var integer 32 R running $end\n$var string 1 O overran $end\n$upscope $end\n$scope module mutexes $end\n$var string 1 M0 mutex_0 $end\n$var string 1 M1 mutex_1 $end\n$var string 1 M2 mutex_2 $end\n$var string 1 M3 mutex_3 $end\n$var string 1 M4 mutex_4 $end\n$var string 1 M5 mutex_5 $end\n$var string 1 M6 mutex_6 $end\n$var string 1 M7 mutex_7 $end\n$var string 1 M8 mutex_8 $end\n$var string 1 M9 mutex_9 $end\n$var string 1 M10 mutex_10 $end\n$var string 1 M11 mutex_11 $end\n$var string 1 M12 mutex_12 $end\n$var string 1 M13 mutex_13 $end\n$var string 1 M14 mutex_14 $end\n$var string 1 M15 mutex_15 $end\n$upscope $end\n"
 
 -- a signal of process p, between these texts
 abbrev pub signal_text : List ℕ → ℕ → ProcessLine → List ℕ → List ℕ
@@ -43,7 +45,7 @@ process_texts p (l ∷ ls) = process_text p l ++ process_texts (suc p) ls
 
 -- At first no signal has a value
 abbrev pub empty_text : List ℕ
-empty_text = codes "$enddefinitions $end\n$dumpvars\ns L\ns K\ns I\nbz R\n"
+empty_text = codes "$enddefinitions $end\n$dumpvars\ns L\ns K\ns I\nbz R\ns O\n"
 
 abbrev pub empty_process : ℕ → List ℕ
 empty_process p = codes "s P" ++ decimal p ++ codes "\ns C" ++ decimal p ++ codes "\ns E" ++ decimal p
@@ -69,12 +71,13 @@ vcd_text from to h es =
     head_text h (holder_before es from) ++ (changes_text h es None (groups from to es) ++ tail_text to)
 
 -- A dump that is ready to be written: the header, the reader of the groups with the first of them, the holds of the
--- mutexes before it, and the end.
+-- mutexes before it, the marks of the windows that were overrun, and the end.
 pub record Dumping : Type 0 where
   pub heading : Heading
   pub groups : Cutting
   pub first : Option LedgerLine
   pub holders : List (Option Holding)
+  pub marks : List Bool
   pub end : ℕ
 
 -- it is that of the ledger, in this range
@@ -84,4 +87,5 @@ pub record IsDumpOf (j : Journal) (lo hi : ℕ) (d : Dumping) : Type 0 where
   pub from : d.groups.from ≡ lo
   pub to : d.groups.to ≡ hi
   pub holders : AreHolders (reverse (take lo j.entries)) d.holders
+  pub marks : AreMarks (overruns j.heading j.entries) d.marks
   pub end : d.end ≡ hi

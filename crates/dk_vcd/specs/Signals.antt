@@ -8,6 +8,7 @@ abbrev pub code : Signal → List ℕ
 code Signal.Line = codes "L"
 code Signal.Kernel = codes "K"
 code Signal.Idle = codes "I"
+code Signal.Overran = codes "O"
 code (Signal.Main p) = codes "P" ++ decimal p
 code (Signal.Children p) = codes "C" ++ decimal p
 code (Signal.Event p) = codes "E" ++ decimal p

@@ -33,6 +33,10 @@ abbrev pub running_value : Option ThreadId → List ℕ
 running_value None = codes "z"
 running_value (Some x) = binary 8 x.process
 
+-- how many windows were overrun, and nothing where none was
+abbrev pub overran_value : ℕ → List ℕ
+overran_value n = if n == 0 then [] else decimal n
+
 -- the line that the group would be in a ledger
 abbrev pub line_value : Heading → LedgerLine → List ℕ
 line_value h l = parted 44 (line_words h l)

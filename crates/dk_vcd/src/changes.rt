@@ -6,12 +6,12 @@ ghost use Rattle.dk_trace.specs.Entries.{thread_of};
 ghost use Rattle.dk_ledger.specs.Heading.{IsPrintable, ended};
 ghost use Rattle.dk_ledger.specs.LineText.{IsNamed};
 ghost use Rattle.dk_holds.specs.Holds.{AreHolders, holding};
-ghost use Rattle.dk_vcd.specs.Changes.{change_text, first_mark, last_time, left_mark, left_row, mark_before, mark_of, mark_text, own_mark, rest_text, running_text, start_text};
+ghost use Rattle.dk_vcd.specs.Changes.{change_text, first_mark, last_time, left_mark, left_row, mark_before, mark_of, mark_text, overran_text, own_mark, rest_text, running_text, start_text, work_text};
 ghost use Rattle.dk_vcd.specs.Holders.{event_before, moved_text};
 
 use crate::holders::write_moved;
 use crate::signals::{Signal, push_code, push_emptied, row_of, same_row};
-use crate::words::{push_event, push_line, push_row, push_running};
+use crate::words::{push_event, push_line, push_overran, push_row, push_running};
 use dk_holds::Holders;
 use dk_ledger::{Header, LedgerLine, TextLine};
 use dk_outside::{Sink, SinkError};
@@ -152,26 +152,51 @@ fn push_running_change(text: &mut TextLine, thread: Option<ThreadId>)
 }
 
 /// What the group's ticks are for, who runs in them, and its event.
-fn rest_of(before: Option<LedgerLine>, group: LedgerLine) -> TextLine
+fn push_work(text: &mut TextLine, before: Option<LedgerLine>, group: LedgerLine)
     requires some { 0 < group.count }
     requires short { group.start + group.count < 2 ^ 32 }
-    ensures text { result ≡ rest_text before group }
+    requires room { length text.old + 147 ≤ 200 }
+    ensures bytes { text.new ≡ text.old ++ work_text before group }
+    ensures len { length text.new ≤ length text.old + 147 }
+{
+    text.word("s");
+    push_row(text, group.label);
+    text.word(" ");
+    push_code(text, row_of(group.label));
+    push_running_change(text, group.label.thread());
+    push_left_mark(text, mark_before(before), first_mark(group));
+    push_mark(text, group);
+}
+
+/// That so many windows were overrun in the group.
+fn push_overran_change(text: &mut TextLine, overran: u32)
+    requires { length text.old + 14 ≤ 200 }
+    ensures bytes { text.new ≡ text.old ++ overran_text overran }
+    ensures len { length text.new ≤ length text.old + 14 }
+{
+    text.word("s");
+    push_overran(text, overran);
+    text.word(" O");
+    text.word("\n");
+}
+
+/// What changes at the group behind its line and the mutexes.
+fn rest_of(overran: u32, before: Option<LedgerLine>, group: LedgerLine) -> TextLine
+    requires some { 0 < group.count }
+    requires short { group.start + group.count < 2 ^ 32 }
+    ensures text { result ≡ rest_text overran before group }
     ensures len { length result < 200 }
 {
     let mut text = TextLine::new();
-    text.word("s");
-    push_row(&mut text, group.label);
-    text.word(" ");
-    push_code(&mut text, row_of(group.label));
-    push_running_change(&mut text, group.label.thread());
-    push_left_mark(&mut text, mark_before(before), first_mark(group));
-    push_mark(&mut text, group);
+    push_overran_change(&mut text, overran);
+    push_work(&mut text, before, group);
     text
 }
 
 /// Writes what changes at the group behind its line.
 fn write_rest<S: Sink>(
     header: &Header,
+    overran: u32,
     before: Option<LedgerLine>,
     group: LedgerLine,
     holders: &Holders,
@@ -181,15 +206,17 @@ fn write_rest<S: Sink>(
     requires some { 0 < group.count }
     requires short { group.start + group.count < 2 ^ 32 }
     ensures { (past : List Entry) → AreHolders past holders.now → Writes (S.seen sink.old) (S.seen sink.new)
-        result (moved_text header.now (event_before before) (λ m. holding m past) ++ ended (rest_text before group)) }
+        result (moved_text header.now (event_before before) (λ m. holding m past) ++ ended (rest_text overran before group)) }
 {
     write_moved(header, before, holders, sink)?;
-    rest_of(before, group).write_to(sink)
+    rest_of(overran, before, group).write_to(sink)
 }
 
-/// Writes what changes at the group, where these are the holders of the mutexes before its first tick.
+/// Writes what changes at the group, where so many windows were overrun in it and these are the holders of the mutexes before
+/// its first tick.
 pub(crate) fn write_group<S: Sink>(
     header: &Header,
+    overran: u32,
     before: Option<LedgerLine>,
     group: LedgerLine,
     holders: &Holders,
@@ -200,8 +227,8 @@ pub(crate) fn write_group<S: Sink>(
     requires some { 0 < group.count }
     requires short { group.start + group.count < 2 ^ 32 }
     ensures { (past : List Entry) → AreHolders past holders.now → Writes (S.seen sink.old) (S.seen sink.new)
-        result (change_text header.now (λ m. holding m past) before group) }
+        result (change_text header.now (λ m. holding m past) overran before group) }
 {
     start_of(header, before, group).write_to(sink)?;
-    write_rest(header, before, group, holders, sink)
+    write_rest(header, overran, before, group, holders, sink)
 }

@@ -14,6 +14,8 @@ pub(crate) enum Signal {
     Kernel,
     /// Nobody's ticks.
     Idle,
+    /// How many windows were overrun.
+    Overran,
     /// What the main of the process does.
     Main(u8),
     /// Which child of the process has the tick, and what it does.
@@ -44,6 +46,7 @@ pub(crate) fn push_code(text: &mut TextLine, signal: Signal)
         Signal::Line => text.word("L"),
         Signal::Kernel => text.word("K"),
         Signal::Idle => text.word("I"),
+        Signal::Overran => text.word("O"),
         Signal::Main(process) => push_numbered(text, "P", process),
         Signal::Children(process) => push_numbered(text, "C", process),
         Signal::Event(process) => push_numbered(text, "E", process),

@@ -2,7 +2,7 @@
 ghost use Rattle.std.specs.Prelude.{◌≡◌, ◌+◌, ◌≤◌, ◌++◌, length};
 ghost use Rattle.dk_ledger.specs.Heading.{IsPrintable};
 ghost use Rattle.dk_ledger.specs.LineText.{IsNamed};
-ghost use Rattle.dk_vcd.specs.Words.{binary, child_part, event_value, line_value, row_value, running_value};
+ghost use Rattle.dk_vcd.specs.Words.{binary, child_part, event_value, line_value, overran_value, row_value, running_value};
 
 use dk_entry_words::{Separator, event_words, line_words, work_words};
 use dk_ledger::{Header, LedgerLine, TextLine};
@@ -57,6 +57,16 @@ pub(crate) fn push_running(text: &mut TextLine, thread: Option<ThreadId>)
     match thread {
         None => text.word("z"),
         Some(thread) => push_binary(text, 8, thread.process),
+    }
+}
+
+pub(crate) fn push_overran(text: &mut TextLine, overran: u32)
+    requires { length text.old + 10 ≤ 200 }
+    ensures bytes { text.new ≡ text.old ++ overran_value overran }
+    ensures len { length text.new ≤ length text.old + 10 }
+{
+    if overran != 0 {
+        text.number(overran);
     }
 }
 

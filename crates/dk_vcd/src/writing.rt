@@ -5,6 +5,8 @@ ghost use Rattle.dk_groups.specs.Groups.{groups};
 ghost use Rattle.dk_groups.specs.Cutting.{ComesNext, IsGoingOn};
 ghost use Rattle.dk_groups.specs.Writing.{Puts};
 ghost use Rattle.dk_holds.specs.Holds.{AreHolders};
+ghost use Rattle.dk_overrun_spans.specs.Marks.{AreMarks};
+ghost use Rattle.dk_overrun_spans.specs.Overruns.{overruns};
 ghost use Rattle.dk_vcd.specs.Changes.{changes_text, time_text};
 ghost use Rattle.dk_vcd.specs.Dumps.{tail_text, vcd_text};
 
@@ -16,17 +18,19 @@ use dk_hold_spans::read_holders;
 use dk_holds::Holders;
 use dk_ledger::{Header, LedgerLine, TextLine};
 use dk_outside::Sink;
+use dk_overrun_spans::Marks;
 use std::alloc::Global;
 use std::marker::Model;
 
 /// The dump of a ledger in a range of ticks, ready to be written. It is seen as the header, the reader of the groups with
-/// the first of them, the holds of the mutexes before it, and the range's end.
+/// the first of them, the holds of the mutexes before it, the marks of the windows that were overrun, and the range's end.
 #[derive(Drop)]
 pub struct Dump<'a> {
     header: Header,
     groups: GroupReader<'a>,
     first: Option<LedgerLine>,
     holders: Holders,
+    marks: Marks,
     end: u32,
 }
 
@@ -35,7 +39,7 @@ impl<'a> Model for Dump<'a> {
 
     ghost Value = { Dumping };
 
-    ghost view = { λ d. record { heading = d.header; groups = d.groups; first = d.first; holders = d.holders; end = d.end } };
+    ghost view = { λ d. record { heading = d.header; groups = d.groups; first = d.first; holders = d.holders; marks = d.marks; end = d.end } };
 }
 
 impl<'a> Dump<'a> {
@@ -52,11 +56,13 @@ impl<'a> Dump<'a> {
         let mut groups = GroupReader::new(alloc, bytes, from, to);
         let first = groups.next(alloc)?;
         let holders = holders_at(alloc, bytes, from)?;
+        let marks = Marks::of(alloc, bytes)?;
         Ok(Dump {
             header,
             groups,
             first,
             holders,
+            marks,
             end: to,
         })
     }
@@ -73,10 +79,11 @@ impl<'a> Dump<'a> {
             mut groups,
             first,
             holders,
+            marks,
             end,
         } = self;
         write_head(&header, &holders, sink)?;
-        write_changes(&mut groups, first, holders, end, alloc, sink)
+        write_changes(&mut groups, first, holders, &marks, end, alloc, sink)
     }
 }
 
@@ -115,17 +122,18 @@ fn write_changes<S: Sink>(
     reader: &mut GroupReader,
     first: Option<LedgerLine>,
     holders: Holders,
+    marks: &Marks,
     end: u32,
     alloc: Global,
     sink: &mut S,
 ) -> Result<(), WriteFault>
     requires { IsGoingOn first reader.old }
     ensures { (j : Journal) → IsReadable j → ComesNext j [] first reader.old
-        → AreHolders (reverse (take reader.old.from j.entries)) holders
+        → AreHolders (reverse (take reader.old.from j.entries)) holders → AreMarks (overruns j.heading j.entries) marks.now
         → Puts (S.seen sink.old) (S.seen sink.new) result (changes_text j.heading j.entries None
         (groups reader.old.from reader.old.to j.entries) ++ tail_text end) }
 {
-    write_groups(reader, alloc, first, holders, sink)?;
+    write_groups(reader, alloc, first, holders, marks, sink)?;
     write_tail(end, sink)
 }
 
@@ -135,18 +143,20 @@ fn write_groups<S: Sink>(
     alloc: Global,
     first: Option<LedgerLine>,
     mut holders: Holders,
+    marks: &Marks,
     sink: &mut S,
 ) -> Result<(), WriteFault>
     requires { IsGoingOn first reader.old }
     ensures { (j : Journal) → IsReadable j → ComesNext j [] first reader.old
-        → AreHolders (reverse (take reader.old.from j.entries)) holders
+        → AreHolders (reverse (take reader.old.from j.entries)) holders → AreMarks (overruns j.heading j.entries) marks.now
         → Puts (S.seen sink.old) (S.seen sink.new) result
         (changes_text j.heading j.entries None (groups reader.old.from reader.old.to j.entries)) }
 {
     let mut before = None;
     let mut next = first;
     while let Some(group) = next {
-        write_group(reader.header(), before, group, &holders, sink)?;
+        let overran = marks.within(group.start, group.count);
+        write_group(reader.header(), overran, before, group, &holders, sink)?;
         holders.step(&group);
         before = next;
         next = reader.next(alloc)?;

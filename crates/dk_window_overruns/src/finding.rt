@@ -31,7 +31,7 @@ fn note(ticks: &mut Vec<u32>, found: Option<u32>) -> Result<(), NoMemory>
 
 /// The ticks with which the windows began that the thread of this row overran, as many as the row says. The entries are
 /// looked through from its first window on, up to the last that it overran.
-pub(crate) fn found_of(alloc: Global, entries: &[Entry], row: &Row) -> Result<Vec<u32>, NoMemory>
+pub fn found_of(alloc: Global, entries: &[Entry], row: &Row) -> Result<Vec<u32>, NoMemory>
     requires { length entries.now ≤ MAX_RUN_TICKS }
     ensures { IfOk result (λ v. v.items ≡ found_of entries.now row.now) }
 {

@@ -6,6 +6,7 @@ mod laws;
 mod lines;
 mod whole;
 
+pub use finding::found_of;
 pub use laws::all_told_law;
 pub use lines::overrun_lines;
 pub use whole::AllWindows;

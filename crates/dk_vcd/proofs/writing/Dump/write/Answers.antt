@@ -7,6 +7,8 @@ use Rattle.dk_groups.specs.Writing.{Puts}
 use Rattle.dk_groups.proofs.Going.{cut_short, then_puts}
 use Rattle.dk_groups.proofs.Texts.{nothing_put}
 use Rattle.dk_holds.specs.Holds.{AreHolders}
+use Rattle.dk_overrun_spans.specs.Marks.{AreMarks}
+use Rattle.dk_overrun_spans.specs.Overruns.{overruns}
 use Rattle.dk_vcd.specs.Changes.{changes_text}
 use Rattle.dk_vcd.specs.Holders.{holder_before}
 use Rattle.dk_vcd.specs.Dumps.{Dumping, head_text, tail_text, vcd_text}
@@ -36,7 +38,8 @@ returns g c = λ j from to readable dump.
     let from_is = ap (λ (d : Dumping). d.groups.from) view ∙ dump.from in
     let to_is = ap (λ (d : Dumping). d.groups.to) view ∙ dump.to in
     let end_is = ap (λ (d : Dumping). d.end) view ∙ dump.end in
-    let put = c.write_changes.ensures j readable first (subst (λ n. AreHolders (reverse (take n j.entries)) inside.holders) (sym from_is) holders) in
+    let are = subst (λ (d : Dumping). AreMarks (overruns j.heading j.entries) d.marks) (sym view) dump.marks in
+    let put = c.write_changes.ensures j readable first (subst (λ n. AreHolders (reverse (take n j.entries)) inside.holders) (sym from_is) holders) are in
     let same : text inside.groups.from inside.groups.to ++ tail_text inside.end ≡ rest =
     ap (λ n. text n inside.groups.to ++ tail_text inside.end) from_is ∙ ap (λ n. text from n ++ tail_text inside.end) to_is ∙ ap (λ n. text from to ++ tail_text n) end_is in
     then_puts (vcd_text from to j.heading j.entries) (head_text inside.header held)

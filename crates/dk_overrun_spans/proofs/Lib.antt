@@ -1,0 +1,3 @@
+pub mod LastTicks
+pub mod Counting
+pub mod Rows

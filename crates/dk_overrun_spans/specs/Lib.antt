@@ -1,0 +1,3 @@
+pub mod Overruns
+pub mod Marks
+pub mod Laws

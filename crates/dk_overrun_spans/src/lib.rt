@@ -1,0 +1,13 @@
+//! The windows that the threads of a ledger overran, each with its thread's last tick of the budget. This project's own.
+#![tactic(auto)]
+
+mod laws;
+mod marks;
+mod overrun;
+mod reading;
+mod scanning;
+
+pub use laws::all_counted_law;
+pub use marks::Marks;
+pub use overrun::Overrun;
+pub use reading::read_overruns;
