@@ -1,0 +1,53 @@
+//! What commands tell of a configuration and of a ledger.
+
+use std::alloc::Global;
+
+/// Whether a configuration is certified.
+#[derive(Drop)]
+pub enum Certification {
+    /// What `when` tells of it, as a text and as a table.
+    Certified { when: Vec<u8>, table: Vec<u8> },
+    /// The first level that may miss its window, with the ticks that it needs and those of its window.
+    Failing { level: u8, needs: u64, window: u32 },
+}
+
+/// What the commands tell of a configuration, as texts and as tables.
+#[derive(Drop)]
+pub struct Told {
+    pub certificate: Vec<u8>,
+    pub certificate_table: Vec<u8>,
+    pub certification: Certification,
+    pub margins: Vec<u8>,
+    pub margins_table: Vec<u8>,
+    pub warnings: Vec<u8>,
+    /// How many warnings there are.
+    pub count: usize,
+}
+
+/// What a ledger adds to a page: its tile, its row among the files, its sections, and outputs.
+#[derive(Drop)]
+pub struct Additions {
+    pub tile: Vec<u8>,
+    pub file: Vec<u8>,
+    pub sections: Vec<u8>,
+    pub outputs: Vec<u8>,
+}
+
+impl Additions {
+    ghost use Rattle.std.specs.Prelude.{◌≡◌, []};
+
+    /// Nothing, where there is no ledger.
+    pub fn none(alloc: Global) -> Additions
+        ensures tile { result.tile.items ≡ [] }
+        ensures file { result.file.items ≡ [] }
+        ensures sections { result.sections.items ≡ [] }
+        ensures outputs { result.outputs.items ≡ [] }
+    {
+        Additions {
+            tile: Vec::new(alloc),
+            file: Vec::new(alloc),
+            sections: Vec::new(alloc),
+            outputs: Vec::new(alloc),
+        }
+    }
+}
