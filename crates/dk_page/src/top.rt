@@ -1,18 +1,11 @@
-//! The title, the verdicts and the files.
+//! The title, the verdicts and the file.
 ghost use Rattle.std.specs.Prelude.{◌≡◌, ◌++◌, OnOk};
 ghost use Rattle.dk_page.specs.Pages.{certification_tile, failing_tile, inputs, title, tone, top_text, warnings_tile};
 
 use crate::template::{CERTIFIED_TILE, HEAD, INPUTS, STYLE, TABLE_END, TILES};
-use crate::told::{Additions, Certification, Told};
+use crate::told::{Certification, Told};
 use dk_html::{Part, add_parts};
 use std::alloc::{AllocError, Global};
-
-/// Adds bytes that were made for the page.
-pub(crate) fn add_made(out: &mut Vec<u8>, bytes: &[u8]) -> Result<(), AllocError>
-    ensures { OnOk result (out.new.items ≡ out.old.items ++ bytes.now) }
-{
-    out.extend_from_slice(bytes)
-}
 
 /// Adds words of the page.
 pub(crate) fn add_words(out: &mut Vec<u8>, words: &str) -> Result<(), AllocError>
@@ -103,9 +96,8 @@ fn add_inputs<'x>(
     out: &mut Vec<u8>,
     name: &'x [u8],
     document: &'x [u8],
-    files: &'x [u8],
 ) -> Result<(), AllocError>
-    ensures { OnOk result (out.new.items ≡ out.old.items ++ inputs name.now document.now files.now) }
+    ensures { OnOk result (out.new.items ≡ out.old.items ++ inputs name.now document.now) }
 {
     let parts = [
         Part::Words(INPUTS),
@@ -114,27 +106,24 @@ fn add_inputs<'x>(
             name,
             bytes: document,
         },
-        Part::Made(files),
         Part::Words(TABLE_END),
     ];
     add_parts(alloc, out, &parts)
 }
 
-/// Adds the title, the verdicts and the files.
+/// Adds the title, the verdicts and the file.
 pub(crate) fn add_top(
     alloc: Global,
     out: &mut Vec<u8>,
     name: &[u8],
     document: &[u8],
     told: &Told,
-    added: &Additions,
 ) -> Result<(), AllocError>
-    ensures { OnOk result (out.new.items ≡ out.old.items ++ top_text name.now document.now told.now added.now) }
+    ensures { OnOk result (out.new.items ≡ out.old.items ++ top_text name.now document.now told.now) }
 {
     add_title(alloc, out, name)?;
     add_certification_tile(alloc, out, &told.certification)?;
     add_warnings_tile(alloc, out, tone(told.count), told.count)?;
-    add_made(out, added.tile.as_slice())?;
-    add_inputs(alloc, out, name, document, added.file.as_slice())?;
+    add_inputs(alloc, out, name, document)?;
     Ok(())
 }
