@@ -1,5 +1,5 @@
 -- What the words and the files come to.
-use Rattle.std.specs.Prelude.{ℕ, ◌≡◌, ◌<◌, ◌≤◌, ◌⊎◌, length, List, [], ◌∷◌, Option, Some, None, if◌then◌else◌, codes}
+use Rattle.std.specs.Prelude.{ℕ, ◌≡◌, ◌<◌, ◌≤◌, ◌⊎◌, ◌==◌, ◌&&◌, not, Bool, false, length, List, [], ◌∷◌, Option, Some, None, if◌then◌else◌, codes}
 use Rattle.std.specs.Str.{bytes_eq}
 use Rattle.dk_config.specs.declared.TheConstants.{MAX_CONFIG_BYTES}
 use Rattle.dk_review.specs.Reviews.{IsReview}
@@ -49,9 +49,14 @@ IsOfName at name a = (document : List ℕ) × (at name ≡ Some document) × IsO
 abbrev pub IsUsage : Answer → Type 0
 IsUsage a = Says (codes "usage: deosk-show page FILE\n") answered.Usage a
 
+-- a word that isn't empty, and doesn't begin as a flag does
+abbrev pub is_name : List ℕ → Bool
+is_name [] = false
+is_name (b ∷ rest) = not (b == 45)
+
 -- the name of the file whose page the words ask for; the first word is the program's name, and isn't looked at
 abbrev pub asked : List (List ℕ) → Option (List ℕ)
-asked (me ∷ verb ∷ name ∷ []) = if bytes_eq verb (codes "page") then Some name else None
+asked (me ∷ verb ∷ name ∷ []) = if bytes_eq verb (codes "page") && is_name name then Some name else None
 asked _ = None
 
 -- what is asked for comes to this: the page of the file of this name, or the usage line

@@ -3,7 +3,7 @@ ghost use Rattle.std.specs.Prelude.{◌≡◌, ◌≢◌, ◌≤◌, ◌<◌, �
 ghost use Rattle.dk_config.specs.declared.TheConstants.{MAX_CONFIG_BYTES};
 ghost use Rattle.dk_outside.specs.Counts.{Rises};
 ghost use Rattle.dk_outside.specs.declared.depot.DepotError.{DepotError};
-ghost use Rattle.dk_page_prog.specs.Answers.{IsAnswerTo, IsAnswered, IsOfDocument, IsOfFile, IsOfName, Says, asked, ended_of};
+ghost use Rattle.dk_page_prog.specs.Answers.{IsAnswerTo, IsAnswered, IsOfDocument, IsOfFile, IsOfName, Says, asked, ended_of, is_name};
 
 use crate::status::Answered;
 use dk_config::MAX_CONFIG_BYTES;
@@ -73,12 +73,24 @@ fn of_name<D: Depot>(alloc: Global, name: &str, depot: &mut D) -> Result<Answer,
     of_file(alloc, name, document.as_slice())
 }
 
+/// Whether the word isn't empty, and doesn't begin as a flag does.
+fn is_name(word: &[u8]) -> bool
+    ensures { result ≡ is_name word.now }
+{
+    match word {
+        [first, ..] => *first != b'-',
+        [] => false,
+    }
+}
+
 /// The name of the file whose page the words ask for.
 fn asked(words: &[String]) -> Option<&str>
     ensures { option_map (λ n. n.now) result ≡ asked (map string_bytes words.now) }
 {
     match words {
-        [_, verb, name] if verb.as_str() == "page" => Some(name.as_str()),
+        [_, verb, name] if verb.as_str() == "page" && is_name(name.as_bytes()) => {
+            Some(name.as_str())
+        }
         _ => None,
     }
 }
