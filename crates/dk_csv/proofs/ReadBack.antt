@@ -14,7 +14,7 @@ use Rattle.dk_trace.specs.declared.says.Arguments.{Arguments}
 use Rattle.dk_trace.specs.Says.{arguments_of, word_of}
 use Rattle.dk_ledger.specs.declared.line.LedgerLine.{LedgerLine}
 use Rattle.dk_ledger.specs.Heading.{Heading}
-use Rattle.dk_ledger.specs.LineText.{argument_words, event_part, fault_text, joined, label_text}
+use Rattle.dk_ledger.specs.LineText.{argument_words, event_part, fault_text, label_text}
 use Rattle.dk_ledger.specs.Cuts.{entries_of}
 use Rattle.dk_ledger.specs.Readable.{IsReadable, IsReadableHeading}
 use Rattle.dk_ledger.proofs.EntryLists.{IsReadableLine}
@@ -24,7 +24,8 @@ use Rattle.dk_groups.specs.Groups.{groups, slice}
 use Rattle.dk_groups.proofs.Slices.{whole_slice}
 use Rattle.dk_groups.proofs.Readable.{groups_readable, whole_all}
 use Rattle.dk_groups.proofs.ListParts.{first_same, rest_same}
-use Rattle.dk_entry_words.proofs.ReadBack.{parted_same, printable}
+use Rattle.dk_entry_words.specs.Parted.{parted}
+use Rattle.dk_entry_words.proofs.ReadBack.{event_blanks, parted_same, printable}
 use Rattle.dk_csv.specs.Rows.{columns, csv_text, event_fields, fields, kind_text, owner_fields, padded, plain_row, record_text, rows_text, source_fields}
 use Rattle.dk_csv.proofs.PlainRows.{fields_are_plain, is_plain}
 
@@ -111,9 +112,9 @@ label_is h Label.Idle = refl
 
 -- the text of an event, from its word and its arguments
 abbrev args_back : List ℕ → List ℕ → List ℕ → List ℕ → List ℕ
-args_back word [] second third = word
-args_back word (d ∷ ds) [] third = joined (word ∷ (d ∷ ds) ∷ [])
-args_back word (d ∷ ds) (e ∷ es) third = joined (word ∷ (d ∷ ds) ∷ (e ∷ es) ∷ third ∷ [])
+args_back word [] second third = parted 32 (word ∷ [])
+args_back word (d ∷ ds) [] third = parted 32 (word ∷ (d ∷ ds) ∷ [])
+args_back word (d ∷ ds) (e ∷ es) third = parted 32 (word ∷ (d ∷ ds) ∷ (e ∷ es) ∷ third ∷ [])
 
 abbrev event_back : List (List ℕ) → List ℕ
 event_back (word ∷ first ∷ second ∷ third ∷ []) = with_word word
@@ -123,20 +124,21 @@ event_back (word ∷ first ∷ second ∷ third ∷ []) = with_word word
     with_word (c ∷ cs) = codes " " ++ args_back (c ∷ cs) first second third
 event_back _ = []
 
-one_arg : (word first : List ℕ) → 0 < length first → args_back word first [] [] ≡ joined (word ∷ first ∷ [])
+one_arg : (word first : List ℕ) → 0 < length first → args_back word first [] [] ≡ parted 32 (word ∷ first ∷ [])
 one_arg word [] some = absurd (omega arith)
 one_arg word (d ∷ ds) some = refl
 
-three_args : (word first second third : List ℕ) → 0 < length first → 0 < length second → args_back word first second third ≡ joined (word ∷ first ∷ second ∷ third ∷ [])
+three_args : (word first second third : List ℕ) → 0 < length first → 0 < length second → args_back word first second third ≡ parted 32 (word ∷ first ∷ second ∷ third ∷ [])
 three_args word [] second third some more = absurd (omega arith)
 three_args word (d ∷ ds) [] third some more = absurd (omega arith)
 three_args word (d ∷ ds) (e ∷ es) third some more = refl
 
 -- a word has a first byte, and behind it come its arguments
-padded_back : (word : List ℕ) (arguments : Arguments) → 0 < length word → event_back (padded word arguments) ≡ codes " " ++ joined (word ∷ argument_words arguments)
+padded_back : (word : List ℕ) (arguments : Arguments) → 0 < length word → event_back (padded word arguments) ≡ codes " " ++ parted 32 (word ∷ argument_words arguments)
 padded_back [] arguments some = absurd (omega arith)
 padded_back (c ∷ cs) Arguments.Nothing some = refl
-padded_back (c ∷ cs) (Arguments.Kind kind) some = ap (λ t. codes " " ++ t) (append_assoc (c ∷ cs) (codes " ") (fault_text kind))
+padded_back (c ∷ cs) (Arguments.Kind kind) some =
+    ap (λ t. codes " " ++ t) (append_assoc ((c ∷ cs) ++ codes " ") (fault_text kind) [] ∙ append_assoc (c ∷ cs) (codes " ") (fault_text kind ++ []))
 padded_back (c ∷ cs) (Arguments.One n) some = ap (λ t. codes " " ++ t) (one_arg (c ∷ cs) (decimal n) (some_digits n))
 padded_back (c ∷ cs) (Arguments.Three a b d) some =
     ap (λ t. codes " " ++ t) (three_args (c ∷ cs) (decimal a) (decimal b) (decimal d) (some_digits a) (some_digits b))
@@ -146,7 +148,7 @@ some_word e = grind (arith)
 
 event_is : (event : Option Event) → event_back (event_fields event) ≡ event_part event
 event_is None = refl
-event_is (Some e) = padded_back (word_of e) (arguments_of e) (some_word e)
+event_is (Some e) = padded_back (word_of e) (arguments_of e) (some_word e) ∙ ap (λ t. codes " " ++ t) (event_blanks e)
 
 pub owner_length : (h : Heading) (label : Label) → length (owner_fields h label) ≡ 3
 owner_length h (Label.Kernel j) = refl

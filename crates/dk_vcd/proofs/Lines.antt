@@ -1,6 +1,8 @@
 -- A dump is written in lines, each of which is a time or a signal's new value.
-use Rattle.std.proofs.Common.{ℕ, zero, suc, ◌≡◌, ◌∙◌, ◌+◌, ◌-◌, ◌==◌, ◌++◌, [], ◌∷◌, List, sym, ap, refl, subst, codes, append_assoc, append-nil, inl, inr, ◌⊎◌}
+use Rattle.std.proofs.Common.{ℕ, zero, suc, ◌≡◌, ◌∙◌, ◌+◌, ◌-◌, ◌/◌, ◌%◌, ◌==◌, ◌++◌, [], ◌∷◌, List, sym, ap, refl, subst, codes, append_assoc, append-nil, inl, inr, ◌⊎◌, arith}
 use Rattle.std.specs.Prelude.{Bool, true, false, decimal, flat_map, Option, Some, None, if◌then◌else◌}
+use Rattle.std.specs.List.{list_all}
+use Rattle.std.proofs.lemmas.Bool.Decides.{nat_tests}
 use Rattle.std.proofs.lemmas.Grind.{flat_map-append}
 use Rattle.dk_trace.specs.declared.ThreadId.{ThreadId}
 use Rattle.dk_trace.specs.declared.Event.{Event}
@@ -11,6 +13,7 @@ use Rattle.dk_ledger.specs.declared.line.LedgerLine.{LedgerLine}
 use Rattle.dk_ledger.specs.Heading.{Heading, IsPrintable, ended}
 use Rattle.dk_ledger.specs.Readable.{IsReadable}
 use Rattle.dk_ledger.proofs.EntryLists.{all_both}
+use Rattle.dk_ledger.proofs.Spelled.{all_append}
 use Rattle.dk_entry_words.proofs.ReadBack.{printable}
 use Rattle.dk_groups.specs.Below.{texts_below}
 use Rattle.dk_groups.specs.Groups.{groups}
@@ -18,16 +21,16 @@ use Rattle.dk_groups.proofs.Below.{no_texts, one_text_more}
 use Rattle.dk_holds.specs.declared.holding.Holding.{Holding}
 use Rattle.dk_vcd.specs.declared.holders.Occasion.{Occasion}
 use Rattle.dk_vcd.specs.declared.signals.Signal.{Signal}
-use Rattle.dk_vcd.specs.Changes.{change_text, changes_text, first_mark, last_time, left_mark, left_row, mark_before, mark_text, rest_text, start_text, time_text}
+use Rattle.dk_vcd.specs.Changes.{change_text, changes_text, first_mark, last_time, left_mark, left_row, mark_before, mark_text, rest_text, running_text, start_text, time_text}
 use Rattle.dk_vcd.specs.Dumps.{empty_process, empty_processes, opening_text, process_texts, tail_text, vcd_text}
 use Rattle.dk_vcd.specs.Holders.{event_before, holder_before, holder_change, holder_text, holder_value, holders_text, is_told, moved_text}
-use Rattle.dk_vcd.specs.Laws.{AreChanges, IsDense, IsDump, IsTime, IsValue}
+use Rattle.dk_vcd.specs.Laws.{AreChanges, IsDense, IsDump, IsNumber, IsTime, IsValue, is_bit}
 use Rattle.dk_vcd.specs.Signals.{code, emptied, row_of, same_row}
-use Rattle.dk_vcd.specs.Words.{event_value, line_value, row_value}
+use Rattle.dk_vcd.specs.Words.{binary, event_value, line_value, row_value, running_value}
 use Rattle.dk_vcd.proofs.Dense.{event_dense, holder_dense, line_dense, row_dense}
 
 abbrev IsChange : List ℕ → Type 0
-IsChange line = IsTime line ⊎ IsValue line
+IsChange line = IsTime line ⊎ (IsValue line ⊎ IsNumber line)
 
 -- ---- texts that are lines
 
@@ -45,7 +48,10 @@ two_texts s t a b = record {
 }
 
 value_line : (v : List ℕ) (s : Signal) → IsDense v → IsChange (codes "s" ++ v ++ codes " " ++ code s)
-value_line v s dense = inr (record { value = v; signal = s; dense = dense; is = refl })
+value_line v s dense = inr (inl (record { value = v; signal = s; dense = dense; is = refl }))
+
+number_line : (bits : List ℕ) → list_all is_bit bits ≡ true → IsChange (codes "b" ++ bits ++ codes " R")
+number_line bits all = inr (inr (record { bits = bits; binary = all; is = refl }))
 
 time_line : (t : ℕ) → IsChange (time_text t)
 time_line t = inl (record { tick = t; is = refl })
@@ -99,6 +105,22 @@ mark_adds g (Some x) (Some e) =
     (adds_both (last_time g) (10 ∷ (codes "s" ++ value ++ codes " " ++ code (Signal.Event x.process))) (last_time_adds g)
     (adds_line (codes "s" ++ value ++ codes " " ++ code (Signal.Event x.process)) own))
 
+-- who runs
+one_bit : (n : ℕ) → list_all is_bit ((48 + n % 2) ∷ []) ≡ true
+one_bit n = grind (arith, nat_tests)
+
+bits_all : (k n : ℕ) → list_all is_bit (binary k n) ≡ true
+unfolding binary
+bits_all zero n = refl
+bits_all (suc k) n = all_append is_bit (binary k (n / 2)) ((48 + n % 2) ∷ []) (bits_all k (n / 2)) (one_bit n)
+
+running_bits : (o : Option ThreadId) → list_all is_bit (running_value o) ≡ true
+running_bits None = refl
+running_bits (Some x) = bits_all 8 x.process
+
+running_adds : (o : Option ThreadId) → Adds (running_text o)
+running_adds o = adds_line (codes "b" ++ running_value o ++ codes " R") (number_line (running_value o) (running_bits o))
+
 module _ (h : Heading) (is : IsPrintable h) where
   start_lines : (b : Option LedgerLine) (g : LedgerLine) → AreChanges (ended (start_text h b g))
   start_lines b g =
@@ -113,8 +135,10 @@ module _ (h : Heading) (is : IsPrintable h) where
   rest_lines : (b : Option LedgerLine) (g : LedgerLine) → AreChanges (ended (rest_text b g))
   rest_lines b g =
       let row = codes "s" ++ row_value g.label ++ codes " " ++ code (row_of g.label) in
-      mark_adds g (thread_of g.label) g.event (row ++ left_mark (mark_before b) (first_mark g))
-      (left_mark_adds (mark_before b) (first_mark g) row (one_line row (value_line (row_value g.label) (row_of g.label) (row_dense g.label))))
+      let running = running_text (thread_of g.label) in
+      mark_adds g (thread_of g.label) g.event (row ++ running ++ left_mark (mark_before b) (first_mark g))
+      (left_mark_adds (mark_before b) (first_mark g) (row ++ running)
+      (running_adds (thread_of g.label) row (one_line row (value_line (row_value g.label) (row_of g.label) (row_dense g.label)))))
 
   holder_lines : (m : ℕ) (o : Option Holding) (b : Bool) → AreChanges (if b then ended (holder_change h m o) else [])
   holder_lines m o true = one_line (holder_change h m o) (value_line (holder_value h o) (Signal.Mutex m) (holder_dense h is o))
@@ -155,10 +179,10 @@ processes_lines : (p : ℕ) (ls : List ProcessLine) → AreChanges (empty_proces
 processes_lines p [] = no_lines
 processes_lines p (l ∷ ls) = two_texts (ended (empty_process p)) (empty_processes (suc p) ls) (process_lines p) (processes_lines (suc p) ls)
 
-common_lines : AreChanges (codes "s L\ns K\ns I\n")
+common_lines : AreChanges (codes "s L\ns K\ns I\nbz R\n")
 common_lines = record {
-  lines = codes "s L" ∷ codes "s K" ∷ codes "s I" ∷ [];
-  each = (value_line [] Signal.Line refl, (value_line [] Signal.Kernel refl, (value_line [] Signal.Idle refl, tt)));
+  lines = codes "s L" ∷ codes "s K" ∷ codes "s I" ∷ codes "bz R" ∷ [];
+  each = (value_line [] Signal.Line refl, (value_line [] Signal.Kernel refl, (value_line [] Signal.Idle refl, (number_line (codes "z") refl, tt))));
   is = refl;
 }
 
@@ -171,10 +195,10 @@ is_dump h from to es is =
     let ps = h.processes in
     let changes = changes_text h es None (groups from to es) in
     record {
-      first = codes "s L\ns K\ns I\n" ++ (empty_processes 0 ps ++ holders_text h Occasion.Start held);
+      first = codes "s L\ns K\ns I\nbz R\n" ++ (empty_processes 0 ps ++ holders_text h Occasion.Start held);
       later = changes ++ tail_text to;
-      values = two_texts (codes "s L\ns K\ns I\n") (empty_processes 0 ps ++ holders_text h Occasion.Start held) common_lines
+      values = two_texts (codes "s L\ns K\ns I\nbz R\n") (empty_processes 0 ps ++ holders_text h Occasion.Start held) common_lines
           (two_texts (empty_processes 0 ps) (holders_text h Occasion.Start held) (processes_lines 0 ps) (below_lines h (printable h is.heading) Occasion.Start held 16));
       changes = two_texts changes (tail_text to) (all_lines h (printable h is.heading) es None (groups from to es)) (one_line (time_text to) (time_line to));
-      is = in_parts opening_text (process_texts 0 ps) (codes "$enddefinitions $end\n$dumpvars\n") (codes "s L\ns K\ns I\n") (empty_processes 0 ps) (holders_text h Occasion.Start held) (codes "$end\n") (changes ++ tail_text to);
+      is = in_parts opening_text (process_texts 0 ps) (codes "$enddefinitions $end\n$dumpvars\n") (codes "s L\ns K\ns I\nbz R\n") (empty_processes 0 ps) (holders_text h Occasion.Start held) (codes "$end\n") (changes ++ tail_text to);
     }

@@ -9,7 +9,7 @@ use Rattle.dk_ledger.specs.Heading.{Heading, ended}
 use Rattle.dk_holds.specs.declared.holding.Holding.{Holding}
 use Rattle.dk_vcd.specs.declared.signals.Signal.{Signal}
 use Rattle.dk_vcd.specs.Signals.{code, emptied, row_of, same_row}
-use Rattle.dk_vcd.specs.Words.{event_value, line_value, row_value}
+use Rattle.dk_vcd.specs.Words.{event_value, line_value, row_value, running_value}
 use Rattle.dk_vcd.specs.Holders.{event_before, holder_before, moved_text}
 
 -- what comes next changes at this tick
@@ -61,10 +61,14 @@ abbrev pub mark_text : LedgerLine → Option ThreadId → Option Event → List 
 mark_text g (Some x) (Some e) = own_mark g x e
 mark_text g _ _ = []
 
--- what the group's ticks are for, and its event
+-- the process of this thread has the group's ticks, or none has them
+abbrev pub running_text : Option ThreadId → List ℕ
+running_text o = codes "\nb" ++ running_value o ++ codes " R"
+
+-- what the group's ticks are for, who runs in them, and its event
 abbrev pub rest_text : Option LedgerLine → LedgerLine → List ℕ
 rest_text b g =
-    codes "s" ++ row_value g.label ++ codes " " ++ code (row_of g.label)
+    codes "s" ++ row_value g.label ++ codes " " ++ code (row_of g.label) ++ running_text (thread_of g.label)
     ++ left_mark (mark_before b) (first_mark g) ++ mark_text g (thread_of g.label) g.event
 
 -- where these are the holds of the mutexes at its first tick

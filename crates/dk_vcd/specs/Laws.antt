@@ -1,5 +1,5 @@
 -- What the signal of a mutex tells at each tick, by what has been written of it; and the form of a dump's lines.
-use Rattle.std.specs.Prelude.{ℕ, ◌≡◌, ◌++◌, ◌⊎◌, Bool, true, false, [], ◌∷◌, List, codes, flat_map, nat_lt, Option, Some, None, if◌then◌else◌}
+use Rattle.std.specs.Prelude.{ℕ, ◌≡◌, ◌==◌, ◌||◌, ◌++◌, ◌⊎◌, Bool, true, false, [], ◌∷◌, List, codes, flat_map, nat_lt, Option, Some, None, if◌then◌else◌}
 use Rattle.std.specs.List.{AllByRecursion, list_all}
 use Rattle.dk_trace.specs.declared.Event.{Event}
 use Rattle.dk_trace.specs.declared.Entry.{Entry}
@@ -47,10 +47,20 @@ pub record IsValue (line : List ℕ) : Type 0 where
   pub dense : IsDense value
   pub is : line ≡ (codes "s" ++ value ++ codes " " ++ code signal)
 
--- the text is lines of times and values
+-- a binary digit, or that there is none
+abbrev pub is_bit : ℕ → Bool
+is_bit b = (b == 48) || (b == 49) || (b == 122)
+
+-- the line of a new value of the number, in binary
+pub record IsNumber (line : List ℕ) : Type 0 where
+  pub bits : List ℕ
+  pub binary : list_all is_bit bits ≡ true
+  pub is : line ≡ (codes "b" ++ bits ++ codes " R")
+
+-- the text is lines of times, values and numbers
 pub record AreChanges (text : List ℕ) : Type 0 where
   pub lines : List (List ℕ)
-  pub each : AllByRecursion (λ line. IsTime line ⊎ IsValue line) lines
+  pub each : AllByRecursion (λ line. IsTime line ⊎ (IsValue line ⊎ IsNumber line)) lines
   pub is : text ≡ flat_map ended lines
 
 -- the text is a dump: the signals of the ledger's processes, their first values, and then what changes

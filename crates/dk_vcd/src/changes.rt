@@ -6,12 +6,12 @@ ghost use Rattle.dk_trace.specs.Entries.{thread_of};
 ghost use Rattle.dk_ledger.specs.Heading.{IsPrintable, ended};
 ghost use Rattle.dk_ledger.specs.LineText.{IsNamed};
 ghost use Rattle.dk_holds.specs.Holds.{AreHolders, holding};
-ghost use Rattle.dk_vcd.specs.Changes.{change_text, first_mark, last_time, left_mark, left_row, mark_before, mark_of, mark_text, own_mark, rest_text, start_text};
+ghost use Rattle.dk_vcd.specs.Changes.{change_text, first_mark, last_time, left_mark, left_row, mark_before, mark_of, mark_text, own_mark, rest_text, running_text, start_text};
 ghost use Rattle.dk_vcd.specs.Holders.{event_before, moved_text};
 
 use crate::holders::write_moved;
 use crate::signals::{Signal, push_code, push_emptied, row_of, same_row};
-use crate::words::{push_event, push_line, push_row};
+use crate::words::{push_event, push_line, push_row, push_running};
 use dk_holds::Holders;
 use dk_ledger::{Header, LedgerLine, TextLine};
 use dk_outside::{Sink, SinkError};
@@ -141,7 +141,17 @@ fn push_mark(text: &mut TextLine, group: LedgerLine)
     }
 }
 
-/// What the group's ticks are for, and its event.
+fn push_running_change(text: &mut TextLine, thread: Option<ThreadId>)
+    requires { length text.old + 12 ≤ 200 }
+    ensures bytes { text.new ≡ text.old ++ running_text thread }
+    ensures len { length text.new ≤ length text.old + 12 }
+{
+    text.word("\nb");
+    push_running(text, thread);
+    text.word(" R");
+}
+
+/// What the group's ticks are for, who runs in them, and its event.
 fn rest_of(before: Option<LedgerLine>, group: LedgerLine) -> TextLine
     requires some { 0 < group.count }
     requires short { group.start + group.count < 2 ^ 32 }
@@ -153,6 +163,7 @@ fn rest_of(before: Option<LedgerLine>, group: LedgerLine) -> TextLine
     push_row(&mut text, group.label);
     text.word(" ");
     push_code(&mut text, row_of(group.label));
+    push_running_change(&mut text, group.label.thread());
     push_left_mark(&mut text, mark_before(before), first_mark(group));
     push_mark(&mut text, group);
     text

@@ -25,8 +25,8 @@ pub fn holders_are_told()
         → told_at es m t (holder_before es from m) None (groups from to es) ≡ holder_before es t m }
 {}
 
-/// A dump has the form of one: behind the declarations each line is a time or a signal's new value, and no value has a
-/// blank, which would end it.
+/// A dump has the form of one: behind the declarations each line is a time, a signal's new value or a new value of `running`
+/// in binary, and no value has a blank, which would end it.
 pub fn values_have_no_blank()
     ensures { (h : Heading) (from to : ℕ) (es : List Entry) → IsReadable (record { heading = h; entries = es })
         → IsDump h (vcd_text from to h es) }

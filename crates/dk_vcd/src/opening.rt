@@ -129,9 +129,9 @@ fn write_empty<S: Sink>(process: u8, lines: &[ProcessLine], sink: &mut S) -> Res
 }
 
 const OPENING: &str =
-    "$comment deosk ledger, a tick is a microsecond $end\n$timescale 1 us $end\n$scope module ledger $end\n$var string 1 L line $end\n$var string 1 K kernel $end\n$var string 1 I idle $end\n$upscope $end\n$scope module mutexes $end\n$var string 1 M0 mutex_0 $end\n$var string 1 M1 mutex_1 $end\n$var string 1 M2 mutex_2 $end\n$var string 1 M3 mutex_3 $end\n$var string 1 M4 mutex_4 $end\n$var string 1 M5 mutex_5 $end\n$var string 1 M6 mutex_6 $end\n$var string 1 M7 mutex_7 $end\n$var string 1 M8 mutex_8 $end\n$var string 1 M9 mutex_9 $end\n$var string 1 M10 mutex_10 $end\n$var string 1 M11 mutex_11 $end\n$var string 1 M12 mutex_12 $end\n$var string 1 M13 mutex_13 $end\n$var string 1 M14 mutex_14 $end\n$var string 1 M15 mutex_15 $end\n$upscope $end\n";
+    "$comment deosk ledger, a tick is a microsecond $end\n$timescale 1 us $end\n$scope module ledger $end\n$var string 1 L line $end\n$var string 1 K kernel $end\n$var string 1 I idle $end\n$var integer 32 R running $end\n$upscope $end\n$scope module mutexes $end\n$var string 1 M0 mutex_0 $end\n$var string 1 M1 mutex_1 $end\n$var string 1 M2 mutex_2 $end\n$var string 1 M3 mutex_3 $end\n$var string 1 M4 mutex_4 $end\n$var string 1 M5 mutex_5 $end\n$var string 1 M6 mutex_6 $end\n$var string 1 M7 mutex_7 $end\n$var string 1 M8 mutex_8 $end\n$var string 1 M9 mutex_9 $end\n$var string 1 M10 mutex_10 $end\n$var string 1 M11 mutex_11 $end\n$var string 1 M12 mutex_12 $end\n$var string 1 M13 mutex_13 $end\n$var string 1 M14 mutex_14 $end\n$var string 1 M15 mutex_15 $end\n$upscope $end\n";
 
-const EMPTY: &str = "$enddefinitions $end\n$dumpvars\ns L\ns K\ns I\n";
+const EMPTY: &str = "$enddefinitions $end\n$dumpvars\ns L\ns K\ns I\nbz R\n";
 
 fn write_values<S: Sink>(lines: &[ProcessLine], sink: &mut S) -> Result<(), SinkError>
     requires { length lines.now ≤ 32 }
