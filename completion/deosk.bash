@@ -72,5 +72,5 @@ _deosk_show_arguments() {
 }
 
 _deosk_commands='certify run inspect plan harmonise migrate asm dis ledger audit gen'
-_deosk_show_commands='svg trace vcd csv windows holds faults certify margins when warnings chain impact repeats check replay'
+_deosk_show_commands='svg trace vcd csv windows holds faults certify margins when warnings page chain impact repeats check replay'
 complete -F _deosk deosk deosk-show try

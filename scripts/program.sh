@@ -471,7 +471,16 @@ cannot_write() {
     exit 6
 }
 
-# to_file -o FILE WORDS: the output of the words becomes the file, whole where the status is 0, and else not at all
+# has_page: the output is a whole page of a layout that fails
+has_page() {
+    case $status in
+    [23]) [ "$(head -c 15 "$written")" = '<!DOCTYPE html>' ] ;;
+    *) false ;;
+    esac
+}
+
+# to_file -o FILE WORDS: the output of the words becomes the file, whole where the status is 0 or it is a page, and else
+# not at all
 to_file() {
     # words of which these are none get the program's usage line
     [ $# -ge 3 ] || straight
@@ -486,9 +495,10 @@ to_file() {
     { true >"$written"; } 2>/dev/null || cannot_write "$file"
     [ ! -e "$target" ] || chmod --reference="$target" "$written" 2>/dev/null
     run "$@" >"$written"
-    if [ $status = 0 ]; then
+    if [ $status = 0 ] || has_page; then
         mv -f "$written" "$target" || cannot_write "$file"
-        exit 0
+        [ $status = 0 ] || say "status $status, $file is the page that tells why"
+        exit $status
     fi
     case $status in
     1) cat "$written" >&2 && { [ $me != deosk ] || say "$(wrong "$@")"; } ;;

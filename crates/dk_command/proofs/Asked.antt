@@ -1,20 +1,6 @@
 -- What words come to, by the inputs that were found for them.
-use Rattle.std.proofs.Common.{ℕ, ◌≡◌, ◌∙◌, ap, subst, sym, true}
-use Rattle.std.proofs.lemmas.Bool.{false≢true}
-use Rattle.std.specs.Prelude.{Some, None, Result, Ok, Err, IsErrOf, option_map}
-use Rattle.dk_outside.specs.Views.{DepotView}
-use Rattle.dk_inputs.specs.declared.refusal.Refusal.{Refusal}
+use Rattle.dk_command.proofs.Names.{ℕ, ◌≡◌, ◌∙◌, ap, subst, sym, true, false≢true, Some, None, Result, Ok, Err, IsErrOf, option_map, DepotView, Refusal, Inputs, is_failed_read, is_silent, Finds, Follows, Makes, Refuses, Tells, job_of, some_found, Files, Reads, Never, Same, some_map, Work, Fails, SomeFails, Does, SomeDoes}
 use Rattle.dk_inputs.specs.declared.refusal.Refusal.TheVariants as why
-use Rattle.dk_inputs.specs.declared.inputs.Inputs.{Inputs}
-use Rattle.dk_inputs.specs.Answer.{is_failed_read, is_silent}
-use Rattle.dk_inputs.specs.Follows.{Finds, Follows, Makes, Refuses, Tells}
-use Rattle.dk_inputs.specs.Inputs.{job_of}
-use Rattle.dk_inputs.specs.Plan.{some_found}
-use Rattle.dk_inputs.specs.Reads.{Files, Reads}
-use Rattle.dk_inputs.proofs.FollowLemmas.{Never, Same, some_map}
-use Rattle.dk_command.specs.declared.work.Work.{Work}
-use Rattle.dk_command.specs.Output.{Fails, SomeFails}
-use Rattle.dk_command.specs.Work.{Does, SomeDoes}
 
 -- what was found for the words comes to this work
 pub some_made : (r : Result Work Refusal) (x : Inputs) → Makes Does Fails r (job_of x)

@@ -1,16 +1,6 @@
 -- The header of a run is one for the inspector, and the state of its kernel is that of the run.
-use Rattle.std.proofs.Common.{ℕ, ◌≡◌, ◌∙◌, ap, refl, sym, subst}
-use Rattle.dk_config.specs.Configuration.{Configuration}
-use Rattle.dk_ledger.specs.Heading.{Heading}
-use Rattle.dk_kernel.specs.Running.{Running}
-use Rattle.dk_loader.specs.Workload.{Workload}
-use Rattle.dk_inspect.specs.View.{view}
-use Rattle.dk_inspect.specs.Printing.{IsHeaderOf}
+use Rattle.dk_command.proofs.Names.{ℕ, ◌≡◌, ◌∙◌, ap, refl, sym, subst, Configuration, Heading, Running, Workload, view, IsHeaderOf, workload_of, state, Does, heading}
 use Rattle.dk_command.specs.declared.work.Work.TheVariants as work
-use Rattle.dk_command.specs.Runs.{workload_of}
-use Rattle.dk_inputs.specs.Plan.{state}
-use Rattle.dk_command.specs.Work.{Does}
-use Rattle.dk_inputs.specs.Inputs.{heading}
 use Rattle.dk_command.proofs.RunLemmas.{length-rows_of}
 
 pub is_header : (c : Configuration) (h : Heading) → h ≡ heading c → IsHeaderOf c h

@@ -1,19 +1,7 @@
 -- The entries of a ledger are counted line by line.
-use Rattle.std.proofs.Common.{ℕ, ◌≡◌, ◌∙◌, ◌-◌, ◌<◌, ◌++◌, [], ◌∷◌, List, length, None, sym, ap, subst, arith, length-append}
-use Rattle.std.specs.Prelude.{IfSome, replicate}
-use Rattle.dk_trace.specs.declared.Entry.{Entry}
-use Rattle.dk_trace.specs.declared.Label.{Label}
-use Rattle.dk_trace.specs.Entries.{thread_of, kernel_level}
-use Rattle.dk_trace.specs.Ranges.{Size, HasLabel}
-use Rattle.dk_ledger.specs.declared.line.LedgerLine.{LedgerLine}
-use Rattle.dk_ledger.specs.Cuts.{entries_of}
-use Rattle.dk_ledger.specs.Heading.{Heading, header_text}
-use Rattle.dk_report.specs.Counts.{Numbers, numbers_of}
-use Rattle.dk_report.specs.Report.{numbers_text}
+use Rattle.dk_command.proofs.Names.{ℕ, ◌≡◌, ◌∙◌, ◌-◌, ◌<◌, ◌++◌, [], ◌∷◌, List, length, sym, ap, subst, arith, length-append, IfSome, replicate, Entry, Label, thread_of, kernel_level, Size, HasLabel, LedgerLine, entries_of, Heading, header_text, Numbers, numbers_of, numbers_text, HasCounted, IsText, ledger}
+use Rattle.std.proofs.Common.{None}
 use Rattle.dk_request.specs.declared.output.Output.TheVariants as asked
-use Rattle.dk_command.specs.LedgerLines.{HasCounted}
-use Rattle.dk_command.specs.Output.{IsText}
-use Rattle.dk_inputs.specs.Plan.{ledger}
 
 pub known_level : (s : Size) (label : Label) (n : ℕ) → HasLabel s label → n ≡ s.levels → IfSome (kernel_level label) (λ j. j < n)
 known_level s (Label.Kernel j) n known same = subst (λ m. j < m) (sym same) known

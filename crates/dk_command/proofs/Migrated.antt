@@ -1,14 +1,7 @@
 -- A configuration that breaks no rule breaks none in version 2 either.
-use Rattle.std.proofs.Common.{◌≡◌, ℕ, suc, List, [], ◌∷◌, ◌++◌, length, refl, arith}
-use Rattle.std.specs.Prelude.{None}
-use Rattle.std.proofs.lemmas.Bool.Decides.{nat_tests}
-use Rattle.dk_config.specs.declared.rows.ProcessRow.{ProcessRow}
-use Rattle.dk_config.specs.Configuration.{Configuration}
-use Rattle.dk_config.specs.Tests.{Test, first_broken, each_row}
-use Rattle.dk_config.specs.Rules.{all_tests, version_tests, count_tests, range_tests, period_tests, name_tests, again_tests, level_tests, budget_tests, user_tests, slowest_tests, slowest_level}
-use Rattle.dk_config.specs.Checked.{BreaksNoRule}
-use Rattle.dk_config.proofs.Passing.{parts_pass, both_pass}
-use Rattle.dk_certify.specs.Laws.{migrated}
+use Rattle.dk_command.proofs.Names.{◌≡◌, ℕ, suc, List, [], ◌∷◌, ◌++◌, length, refl, arith, None, nat_tests, ProcessRow, Configuration, Test, first_broken, each_row, range_tests, period_tests, name_tests, again_tests, level_tests, budget_tests, user_tests, slowest_level, BreaksNoRule, parts_pass, both_pass, migrated}
+use Rattle.dk_config.specs.Rules.{version_tests, slowest_tests}
+use Rattle.dk_config.specs.Rules.{all_tests, count_tests}
 
 counts_pass : (version levels processes mutexes : ℕ) → first_broken (count_tests version levels processes mutexes) ≡ None → first_broken (count_tests 2 levels processes mutexes) ≡ None
 unfolding count_tests

@@ -1,19 +1,6 @@
 -- How the entries of a run go on.
-use Rattle.std.proofs.Common.{ℕ, zero, suc, ◌≡◌, ◌≤◌, ◌+◌, ◌-◌, ◌∙◌, List, [], ◌∷◌, ◌++◌, reverse, refl, ap, sym, subst, arith, append_assoc, append-nil}
-use Rattle.std.proofs.lemmas.List.{replicate_more, reverse-append}
-use Rattle.std.specs.Prelude.{Option, None, Some, replicate}
-use Rattle.std.specs.Option.{option_map_or}
-use Rattle.dk_config.specs.Configuration.{Configuration}
-use Rattle.dk_trace.specs.declared.Entry.{Entry}
-use Rattle.dk_trace.specs.declared.ThreadId.{ThreadId}
-use Rattle.dk_trace.specs.Choices.{chosen}
-use Rattle.dk_loader.specs.Workload.{Workload}
-use Rattle.dk_world.specs.Run.{trace, world, executes, body_step, quiet_step}
-use Rattle.dk_trace.specs.Entries.{quiet}
-use Rattle.dk_ledger.specs.Stretches.{stretch_of}
-use Rattle.dk_kernel.specs.Stretches.{gone_on}
-use Rattle.dk_kernel.specs.Running.{Running, trace_of}
-use Rattle.dk_command.specs.Runs.{AreEntries, workload_of}
+use Rattle.dk_command.proofs.Names.{ℕ, zero, suc, ◌≡◌, ◌≤◌, ◌+◌, ◌-◌, ◌∙◌, List, [], ◌∷◌, ◌++◌, reverse, refl, ap, sym, subst, arith, append_assoc, append-nil, replicate_more, reverse-append, Option, None, Some, replicate, option_map_or, Configuration, Entry, ThreadId, chosen, Workload, trace, world, executes, body_step, quiet_step, quiet, stretch_of, gone_on, Running, trace_of, workload_of}
+use Rattle.dk_command.specs.Runs.{AreEntries}
 
 -- one more tick has one more entry
 newest : (c : Configuration) (programs : List (List ℕ)) (n : ℕ) → (e : Entry) × (trace c programs (suc n) ≡ e ∷ trace c programs n)

@@ -1,27 +1,7 @@
 -- What was written of a ledger so far, and how it may go on.
-use Rattle.std.proofs.Common.{◌≡◌, ◌≤◌, ◌∙◌, ℕ, zero, suc, List, [], ◌∷◌, ◌++◌, length, arith, refl, ap, subst, sym, append_assoc, append-nil}
-use Rattle.std.proofs.lemmas.List.{length-map}
-use Rattle.dk_outside.specs.Views.{SinkView}
-use Rattle.dk_outside.specs.Written.{Writes}
-use Rattle.dk_config.specs.Configuration.{Configuration}
-use Rattle.dk_config.specs.Sums.{numbers, below}
-use Rattle.dk_certify.specs.Verdicts.{row_of, rows_of}
-use Rattle.dk_trace.specs.declared.Entry.{Entry}
-use Rattle.dk_trace.specs.Ranges.{size_of}
-use Rattle.dk_kernel.specs.Running.{Running, trace_of}
-use Rattle.dk_ledger.specs.Heading.{Heading, IsPrintable, header_text, line_of_row}
-use Rattle.dk_ledger.specs.LineText.{IsNamed, ledger_line}
-use Rattle.dk_ledger.specs.Lines.{lines_of}
-use Rattle.dk_ledger.specs.Ledgers.{Drafted, IsAfter, Progress, last_of, closed_text, closing_text, last_text, end_line, entries_text, ledger_text}
-use Rattle.std.specs.Prelude.{IfSome, IsErr, None, Ok}
-use Rattle.dk_loader.specs.Workload.{Workload}
-use Rattle.dk_command.specs.Runs.{AreEntries}
-use Rattle.dk_command.specs.Recorded.{Begun, HasCountedRun, HasWritten}
-use Rattle.dk_inspect.specs.Printing.{IsHeaderOf}
-use Rattle.dk_report.specs.Counts.{Numbers, StandsFor}
+use Rattle.dk_command.proofs.Names.{◌≡◌, ◌≤◌, ◌∙◌, ℕ, zero, suc, List, [], ◌∷◌, ◌++◌, length, arith, refl, ap, subst, sym, append_assoc, append-nil, length-map, SinkView, Writes, Configuration, numbers, below, row_of, rows_of, Entry, size_of, Running, trace_of, Heading, IsPrintable, header_text, line_of_row, IsNamed, ledger_line, lines_of, Drafted, IsAfter, Progress, last_of, closed_text, closing_text, last_text, end_line, entries_text, ledger_text, IfSome, IsErr, None, Ok, Workload, AreEntries, Begun, HasCountedRun, HasWritten, IsHeaderOf, Numbers, StandsFor, closed_text-append, whole_text}
 use Rattle.dk_command.proofs.RunEntries.{go_on, none_yet, nothing_yet}
 use Rattle.dk_command.proofs.WritingLemmas.{Writing, nothing, same_text, stopped}
-use Rattle.dk_ledger.proofs.CutLemmas.{closed_text-append, whole_text}
 
 -- how far a writer is after these entries
 abbrev progress : List Entry → Progress

@@ -1,24 +1,7 @@
 -- The work of a run whose kernel has done no tick.
-use Rattle.std.proofs.Common.{ℕ, ◌≡◌, ◌≤◌, ◌∙◌, length, refl, sym, ap, subst}
-use Rattle.std.specs.Prelude.{Result}
-use Rattle.std.proofs.lemmas.List.{length-map}
-use Rattle.dk_config.specs.declared.TheConstants.{MAX_RUN_TICKS}
-use Rattle.dk_ledger.specs.Heading.{Heading, line_of_row}
-use Rattle.dk_ledger.specs.Ledgers.{ledger_text}
-use Rattle.dk_loader.specs.Workload.{Workload}
-use Rattle.dk_kernel.specs.Booting.{IsLoaded}
-use Rattle.dk_kernel.specs.Running.{Running}
-use Rattle.dk_request.specs.declared.output.Output.{Output}
+use Rattle.dk_command.proofs.Names.{ℕ, ◌≡◌, ◌≤◌, ◌∙◌, length, refl, sym, ap, subst, Result, length-map, MAX_RUN_TICKS, Heading, line_of_row, ledger_text, Workload, IsLoaded, Running, Output, Refusal, Makes, CanBoot, IsCertified, run, Work, Fails, IsReady, WritesFor, workload_of}
 use Rattle.dk_request.specs.declared.output.Output.TheVariants as asked
-use Rattle.dk_inputs.specs.declared.refusal.Refusal.{Refusal}
-use Rattle.dk_inputs.specs.Follows.{Makes}
-use Rattle.dk_inputs.specs.Inputs.{CanBoot, IsCertified}
-use Rattle.dk_inputs.specs.Plan.{run}
-use Rattle.dk_command.specs.declared.work.Work.{Work}
 use Rattle.dk_command.specs.declared.work.Work.TheVariants as work
-use Rattle.dk_command.specs.Output.{Fails}
-use Rattle.dk_command.specs.Work.{IsReady, WritesFor}
-use Rattle.dk_command.specs.Runs.{workload_of}
 
 pub is_loaded : (h : Heading) (w : Workload) → CanBoot h w → IsLoaded w
 is_loaded h w can = record { checked = can.certified.checked; limits = can.limits; accepted = can.certified.accepted; programs = can.programs; sizes = can.sizes }

@@ -1,12 +1,5 @@
 -- Writings one after another.
-use Rattle.std.proofs.Common.{ℕ, suc, true, length, ◌∷◌, ◌==◌, ◌≡◌, List, [], ◌++◌, refl, sym, ap, subst, arith, append-nil}
-use Rattle.std.specs.Prelude.{Option, Some, None, Result, Ok, Err, IsOk, IsErr}
-use Rattle.std.proofs.lemmas.Bool.{false≢true}
-use Rattle.std.proofs.lemmas.Bool.Decides.{nat_tests}
-use Rattle.dk_outside.specs.Views.{SinkView}
-use Rattle.dk_outside.specs.Written.{Appends, Writes}
-use Rattle.dk_outside.specs.declared.sink.SinkError.{SinkError}
-use Rattle.dk_outside.proofs.WrittenLemmas.{first_fails, second_ends}
+use Rattle.dk_command.proofs.Names.{ℕ, suc, true, length, ◌∷◌, ◌==◌, ◌≡◌, List, [], ◌++◌, refl, sym, ap, subst, arith, append-nil, Option, Some, None, Result, Ok, Err, IsOk, IsErr, false≢true, nat_tests, SinkView, Appends, Writes, SinkError, first_fails, second_ends}
 
 abbrev pub Writing : Type 0
 Writing = Result (Unit {0}) SinkError

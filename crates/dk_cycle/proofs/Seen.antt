@@ -1,28 +1,9 @@
 -- What is seen of a main's windows up to a tick, and what it says of every run.
-use Rattle.std.proofs.Common.{ℕ, suc, ◌≡◌, ◌+◌, ◌*◌, ◌/◌, ◌%◌, ◌<◌, ◌≤◌, ◌∙◌, ◌||◌, inl, inr, Bool, true, false, List, [], ◌∷◌, take, Option, Some, None, refl, sym, ap, subst, arith}
-use Rattle.std.specs.Prelude.{IfSome, slice_index_or}
-use Rattle.std.specs.List.{list_any}
-use Rattle.std.proofs.Math.Nat.{div-add-mod, mod_self, mul-le-mul_right, zero-mod}
-use Rattle.std.proofs.lemmas.Bool.{cases_Bool, cases_lt}
-use Rattle.dk_config.specs.Configuration.{Configuration}
-use Rattle.dk_config.specs.Checked.{IsChecked, IsAccepted}
-use Rattle.dk_config.specs.Windows.{period, main_level}
-use Rattle.dk_trace.specs.declared.Entry.{Entry}
-use Rattle.dk_world.specs.Run.{trace}
-use Rattle.dk_alone.specs.Alone.{KeepsToItself, alone, entries_of, is_of_process}
-use Rattle.dk_alone.specs.Again.{ProcessStandsAgain, WindowBegins, own_window, window_from}
-use Rattle.dk_alone.specs.Laws.{FirstWindowsTell, WindowsAsAlone}
-use Rattle.dk_alone.proofs.Own.{filter-in, filter-out, other-main}
-use Rattle.dk_alone.proofs.Cycles.{begins-sum}
-use Rattle.dk_cycle.specs.declared.Cycle.{Cycle}
-use Rattle.dk_cycle.specs.declared.keeping.Keeping.{Keeping}
+use Rattle.dk_cycle.proofs.Names.{ℕ, suc, ◌≡◌, ◌+◌, ◌*◌, ◌/◌, ◌%◌, ◌<◌, ◌≤◌, ◌∙◌, ◌||◌, inl, inr, Bool, true, false, List, [], ◌∷◌, take, Option, Some, None, refl, sym, ap, subst, arith, IfSome, slice_index_or, list_any, div-add-mod, mod_self, mul-le-mul_right, zero-mod, cases_Bool, cases_lt, Configuration, IsChecked, IsAccepted, period, main_level, Entry, trace, KeepsToItself, alone, entries_of, is_of_process, ProcessStandsAgain, WindowBegins, own_window, window_from, FirstWindowsTell, WindowsAsAlone, filter-in, filter-out, other-main, begins-sum, Cycle, Keeping, WaitWatch, IsKeeping, HasProgram, IsWaitWatch, IsWaits, WaitsAreTold, first_missed, main_waits, waits_by, waits_in, waits_of}
 use Rattle.dk_cycle.specs.declared.keeping.Keeping.TheVariants as kind
-use Rattle.dk_cycle.specs.declared.waiting.WaitWatch.{WaitWatch}
-use Rattle.dk_cycle.specs.Keeping.{IsKeeping}
-use Rattle.dk_cycle.specs.Waiting.{HasProgram, IsWaitWatch, IsWaits, WaitsAreTold, first_missed, main_waits, waits_by, waits_in, waits_of}
 
 -- of two multiples of a number the greater is greater by it at least
-apart : (P t m : ℕ) → t % P ≡ 0 → m % P ≡ 0 → t < m → t + P ≤ m
+pub apart : (P t m : ℕ) → t % P ≡ 0 → m % P ≡ 0 → t < m → t + P ≤ m
 apart P t m begins ends less =
     let a = div-add-mod t P in
     let b = div-add-mod m P in

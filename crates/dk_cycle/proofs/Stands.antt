@@ -1,29 +1,5 @@
 -- A run, or a process, that is what it was stands again.
-use Rattle.std.proofs.Common.{ℕ, suc, ◌≡◌, ◌+◌, ◌-◌, ◌<◌, ◌≤◌, ◌%◌, ◌∙◌, ◌∷◌, inl, inr, Bool, true, List, length, Option, Some, None, refl, sym, ap, subst, arith}
-use Rattle.std.specs.Prelude.{slice_get, IfSome}
-use Rattle.std.specs.Int.{◌∣◌}
-use Rattle.std.specs.Option.{option_map_or}
-use Rattle.std.proofs.lemmas.Bool.{cases_eq}
-use Rattle.std.proofs.lemmas.Option.{slice_get_within}
-use Rattle.std.proofs.lemmas.Nat.Gcd.{dvd_trans, dvd_of_mod-eq-zero, mod-eq-zero_of_dvd}
-use Rattle.dk_config.specs.Configuration.{Configuration}
-use Rattle.dk_config.specs.Windows.{period, main_level}
-use Rattle.dk_config.specs.Checked.{IsChecked, IsAccepted, IsWithinLimits}
-use Rattle.dk_trace.specs.declared.Entry.{Entry}
-use Rattle.dk_world.specs.Run.{World, world, trace}
-use Rattle.dk_alone.specs.Again.{WindowBegins, ProcessStandsAlike, ProcessStandsAgain}
-use Rattle.dk_repeat.specs.Repeat.{ReadsNoTickNext, WindowsBegin, ThreadsStandAlike, RunStandsAlike, RunStandsAgain, entry_at, keeps_threads, newest}
-use Rattle.dk_repeat.specs.Laws.{EntriesKeepThreads}
-use Rattle.dk_repeat.specs.Reading.{EntriesShowReads, NobodyReads, ReadsTickAt}
-use Rattle.dk_cycle.specs.declared.Cycle.{Cycle}
-use Rattle.dk_cycle.specs.declared.own.MainState.{MainState}
-use Rattle.dk_cycle.specs.declared.own.OwnSearch.{OwnSearch}
-use Rattle.dk_cycle.specs.declared.run.ThreadState.{ThreadState}
-use Rattle.dk_cycle.specs.declared.run.ProcessState.{ProcessState}
-use Rattle.dk_cycle.specs.declared.run.RunState.{RunState}
-use Rattle.dk_cycle.specs.declared.run.RunSearch.{RunSearch}
-use Rattle.dk_cycle.specs.Own.{IsFound, IsMainState, IsOwnSearch, IsSavedMain}
-use Rattle.dk_cycle.specs.Run.{AreAllProcesses, AreProcessStates, AreSame, AreSameThreads, IsFoundRun, IsKept, IsLongest, IsLastReader, IsReader, IsRunSearch, IsRunState, IsSameProcess, GoesOn, KeepsThreadsFrom, KeepsThreadsIn, last_reader}
+use Rattle.dk_cycle.proofs.Names.{ℕ, suc, ◌≡◌, ◌+◌, ◌-◌, ◌<◌, ◌≤◌, ◌%◌, ◌∙◌, ◌∷◌, inl, inr, Bool, true, List, length, Option, Some, None, refl, sym, ap, subst, arith, slice_get, IfSome, ◌∣◌, option_map_or, cases_eq, slice_get_within, dvd_trans, dvd_of_mod-eq-zero, mod-eq-zero_of_dvd, Configuration, period, main_level, IsChecked, IsAccepted, IsWithinLimits, Entry, World, world, trace, WindowBegins, ProcessStandsAlike, ProcessStandsAgain, ReadsNoTickNext, WindowsBegin, ThreadsStandAlike, RunStandsAlike, RunStandsAgain, entry_at, keeps_threads, newest, EntriesKeepThreads, EntriesShowReads, NobodyReads, ReadsTickAt, Cycle, MainState, OwnSearch, ThreadState, ProcessState, RunState, RunSearch, IsFound, IsMainState, IsOwnSearch, IsSavedMain, AreAllProcesses, AreProcessStates, AreSame, AreSameThreads, IsFoundRun, IsKept, IsLongest, IsLastReader, IsReader, IsRunSearch, IsRunState, IsSameProcess, GoesOn, KeepsThreadsFrom, KeepsThreadsIn, last_reader}
 
 begins-by : (c : Configuration) (p tick own : ℕ) → own ≡ period c (main_level c p) → tick % own ≡ 0 → WindowBegins c p tick
 begins-by c p tick own is begins = subst (λ n. tick % n ≡ 0) is begins

@@ -1,22 +1,5 @@
 -- The least start of a cycle of a run.
-use Rattle.std.proofs.Common.{ℕ, ◌≡◌, ◌+◌, ◌-◌, ◌*◌, ◌/◌, ◌%◌, ◌<◌, ◌≤◌, ◌∙◌, ◌∷◌, inl, inr, true, false, List, Option, Some, None, refl, sym, ap, subst, arith}
-use Rattle.std.specs.Prelude.{IfSome, nat_eq}
-use Rattle.std.proofs.Math.Nat.{div-add-mod, mul-le-mul_right}
-use Rattle.std.proofs.lemmas.Nat.{mod_below}
-use Rattle.std.proofs.lemmas.Bool.{cases_eq}
-use Rattle.std.proofs.lemmas.Bool.Decides.{nat_tests}
-use Rattle.dk_config.specs.Configuration.{Configuration}
-use Rattle.dk_config.specs.Checked.{IsChecked, IsAccepted}
-use Rattle.dk_trace.specs.declared.Entry.{Entry}
-use Rattle.dk_world.specs.Run.{world, trace}
-use Rattle.dk_repeat.specs.Repeat.{ReadsNoTickNext, RunStandsAgain, ThreadsStandAlike, WindowsBegin, entry_at}
-use Rattle.dk_repeat.specs.Laws.{EntriesKeepThreads, RunsRepeatForEver}
-use Rattle.dk_repeat.specs.Reading.{EntriesShowReads}
-use Rattle.dk_cycle.specs.declared.Cycle.{Cycle}
-use Rattle.dk_cycle.specs.declared.run.RunSearch.{RunSearch}
-use Rattle.dk_cycle.specs.declared.start.StartSearch.{StartSearch}
-use Rattle.dk_cycle.specs.Run.{GoesOn, IsLongest, IsReader, IsRunSearch, KeepsThreadsFrom, KeepsThreadsIn}
-use Rattle.dk_cycle.specs.Start.{IsLoud, IsStartSearch, Opens, Shuts, with_start}
+use Rattle.dk_cycle.proofs.Names.{ℕ, ◌≡◌, ◌+◌, ◌-◌, ◌*◌, ◌/◌, ◌%◌, ◌<◌, ◌≤◌, ◌∙◌, ◌∷◌, inl, inr, true, false, List, Option, Some, None, refl, sym, ap, subst, arith, IfSome, nat_eq, div-add-mod, mul-le-mul_right, mod_below, cases_eq, nat_tests, Configuration, IsChecked, IsAccepted, Entry, world, trace, ReadsNoTickNext, RunStandsAgain, ThreadsStandAlike, WindowsBegin, entry_at, EntriesKeepThreads, RunsRepeatForEver, EntriesShowReads, Cycle, RunSearch, StartSearch, GoesOn, IsLongest, IsReader, IsRunSearch, KeepsThreadsFrom, KeepsThreadsIn, IsLoud, IsStartSearch, Opens, Shuts, with_start}
 use Rattle.dk_cycle.proofs.Stands.{begins-all, entry-there}
 
 -- ---- a run that stands again makes and stops no thread any more
@@ -121,7 +104,7 @@ opens s early late quiet begins ends = λ c programs k is sum. record {
 }
 
 -- where all windows begin those of the longest period do
-begins-longest : (c : Configuration) (n tick : ℕ) → IsLongest c n → WindowsBegin c tick → tick % n ≡ 0
+pub begins-longest : (c : Configuration) (n tick : ℕ) → IsLongest c n → WindowsBegin c tick → tick % n ≡ 0
 begins-longest c n tick is begins = subst (λ m. tick % m ≡ 0) (sym is.is) (begins is.level is.known)
 
 pub shuts-early : (s : StartSearch) (early late : ℕ) → (early % s.longest ≡ 0 → ⊥) → Shuts s early late

@@ -1,18 +1,5 @@
 -- What was found says how it goes on for ever.
-use Rattle.std.proofs.Common.{ℕ, ◌≡◌, List, [], Option, Some, None, refl, subst}
-use Rattle.std.specs.Prelude.{IfSome, slice_index_or}
-use Rattle.dk_config.specs.Configuration.{Configuration}
-use Rattle.dk_config.specs.Checked.{IsChecked, IsAccepted}
-use Rattle.dk_alone.specs.Alone.{KeepsToItself}
-use Rattle.dk_alone.specs.Again.{ProcessStandsAgain}
-use Rattle.dk_alone.specs.Laws.{ProcessesRepeat, StandsAgainAsAlone}
-use Rattle.dk_repeat.specs.Repeat.{RunStandsAgain}
-use Rattle.dk_repeat.specs.Laws.{RunsRepeatForEver}
-use Rattle.dk_cycle.specs.declared.Cycle.{Cycle}
-use Rattle.dk_cycle.specs.Keeping.{IsKeeping}
-use Rattle.dk_cycle.specs.Start.{StartsFirst}
-use Rattle.dk_cycle.specs.Run.{IsLastReader}
-use Rattle.dk_cycle.specs.Told.{HasCycle, IsRunCycle, OwnIsTold, RunIsTold, reader_by}
+use Rattle.dk_cycle.proofs.Names.{ℕ, ◌≡◌, List, [], Option, Some, None, refl, subst, IfSome, slice_index_or, Configuration, IsChecked, IsAccepted, KeepsToItself, ProcessStandsAgain, ProcessesRepeat, StandsAgainAsAlone, RunStandsAgain, RunsRepeatForEver, Cycle, IsKeeping, StartsFirst, IsLastReader, HasCycle, IsRunCycle, OwnIsTold, RunIsTold, reader_by}
 
 run-cycle : (c : Configuration) (programs : List (List ℕ)) (o : Option Cycle) → RunsRepeatForEver → IsChecked c → IsAccepted c
     → IfSome o (λ y. RunStandsAgain c programs y.start y.length) → IfSome o (StartsFirst c programs) → IfSome o (IsRunCycle c programs)

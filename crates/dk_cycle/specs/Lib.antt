@@ -5,3 +5,4 @@ pub mod Start
 pub mod Repeating
 pub mod Told
 pub mod Waiting
+pub mod Stretching

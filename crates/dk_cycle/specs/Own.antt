@@ -2,6 +2,7 @@
 use Rattle.std.specs.Prelude.{ℕ, ◌≡◌, ◌+◌, ◌-◌, ◌<◌, ◌≤◌, ◌%◌, true, List, [], length, slice_index_or, Option, Some, IfSome, is_some}
 use Rattle.dk_config.specs.Configuration.{Configuration}
 use Rattle.dk_config.specs.Windows.{period, main_level}
+use Rattle.dk_cpu.specs.declared.Context.{Context}
 use Rattle.dk_world.specs.Run.{world, trace}
 use Rattle.dk_alone.specs.Again.{WindowBegins, ProcessStandsAgain, main_is_stopped}
 use Rattle.dk_cycle.specs.declared.Cycle.{Cycle}
@@ -32,6 +33,10 @@ pub record IsBack (saved : Option MainState) (now : MainState) : Type 0 where
   pub is : saved ≡ Some before
   pub later : before.tick < now.tick
   pub same : IsSameMain before now
+
+-- with this context and this memory it isn't
+abbrev pub IsGone : Option MainState → Context → List ℕ → Type 0
+IsGone saved context words = (now : MainState) → now.context ≡ context → now.words.items ≡ words → IsBack saved now → ⊥
 
 -- the cycle from the tick that is kept to a later one at which the process is the same
 pub record IsFound (saved : Option MainState) (now : MainState) (y : Cycle) : Type 0 where

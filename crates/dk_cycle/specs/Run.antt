@@ -6,6 +6,7 @@ use Rattle.dk_config.specs.Configuration.{Configuration}
 use Rattle.dk_config.specs.Checked.{IsChecked, IsAccepted}
 use Rattle.dk_config.specs.Windows.{period}
 use Rattle.dk_trace.specs.declared.Entry.{Entry}
+use Rattle.dk_cpu.specs.declared.Context.{Context}
 use Rattle.dk_trace.specs.Members.{Has}
 use Rattle.dk_trace.specs.Threads.{Thread, family}
 use Rattle.dk_world.specs.Run.{World, world, trace}
@@ -54,6 +55,12 @@ pub record AreAllThreads (one other : List ThreadState) : Type 0 where
 pub record IsSameProcess (one other : ProcessState) : Type 0 where
   pub memory : one.words.items ≡ other.words.items
   pub threads : AreAllThreads one.threads.items other.threads.items
+
+-- one with this memory, and this context of its first thread, isn't the same
+abbrev pub IsOtherProcess : ProcessState → Context → List ℕ → Type 0
+IsOtherProcess s context words =
+    (now : ProcessState) (main : ThreadState) → now.words.items ≡ words → slice_get now.threads.items 0 ≡ Some main
+    → main.context ≡ context → IsSameProcess s now → ⊥
 
 abbrev pub AreSame : List ProcessState → List ProcessState → ℕ → Type 0
 AreSame one other many =

@@ -8,6 +8,7 @@ mod own;
 mod reading;
 mod run;
 mod start;
+mod stretching;
 mod told;
 mod waiting;
 
@@ -16,6 +17,7 @@ pub use own::{MainState, OwnSearch, same_context};
 pub use reading::{is_behind_read, quiet_caller};
 pub use run::{ProcessState, RunSearch, RunState, ThreadState};
 pub use start::StartSearch;
+pub use stretching::stretch_law;
 pub use told::{OwnTold, RunTold, own_told, run_told, told_law};
 pub use waiting::{WaitWatch, Waits, waits_law, waits_told};
 

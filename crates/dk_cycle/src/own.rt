@@ -1,5 +1,5 @@
 //! The search for a cycle of one process by itself.
-ghost use Rattle.std.specs.Prelude.{ℕ, List, [], ◌≡◌, ◌<◌, ◌%◌, length, slice_index_or, true, IfSome, is_some};
+ghost use Rattle.std.specs.Prelude.{ℕ, List, [], ◌≡◌, ◌<◌, ◌≤◌, ◌%◌, length, slice_index_or, true, false, IfSome, is_some};
 ghost use Rattle.dk_config.specs.Configuration.{Configuration};
 ghost use Rattle.dk_config.specs.Checked.{IsChecked};
 ghost use Rattle.dk_config.specs.Windows.{main_level, period};
@@ -71,7 +71,7 @@ fn same_main(one: &MainState, other: &MainState) -> bool
 impl OwnSearch {
     ghost use Rattle.std.specs.Prelude.{[], slice_index_or, ℕ, List, ◌%◌};
     ghost use Rattle.dk_config.specs.Configuration.{Configuration};
-    ghost use Rattle.dk_cycle.specs.Own.{Finds, IsBack, IsFound, IsMainState, IsOwnSearch, Looks};
+    ghost use Rattle.dk_cycle.specs.Own.{Finds, IsBack, IsFound, IsGone, IsMainState, IsOwnSearch, Looks};
 
     /// Before the first tick, of the process with this program.
     pub fn new(config: &Config, process: u8, program: &[u8]) -> OwnSearch
@@ -95,12 +95,25 @@ impl OwnSearch {
         !matches!(self.keeping, Keeping::Keeps) || self.cycle.is_some()
     }
 
-    /// Whether a window of the main begins at the tick.
-    pub fn begins(&self, tick: u32) -> bool
+    /// In how many ticks the next window of the main begins: in a whole period where one begins at the tick.
+    pub fn wait(&self, tick: u32) -> u32
         requires { 0 < self.now.period }
-        ensures { result ≡ true → tick % self.now.period ≡ 0 }
+        ensures some { 1 ≤ result }
+        ensures begins { result ≡ self.now.period → tick % self.now.period ≡ 0 }
     {
-        tick % self.period == 0
+        self.period - tick % self.period
+    }
+
+    /// Whether the process had this memory, and its main this context, at the tick that is kept.
+    pub fn had(&self, context: &Context, words: &[u32]) -> bool
+        ensures { result ≡ false → IsGone self.now.saved context.now words.now }
+    {
+        match &self.saved {
+            None => false,
+            Some(saved) => {
+                same_context(&saved.context, context) && saved.words.as_slice() == words
+            }
+        }
     }
 
     /// The cycle that ends now, where the process is what it was at the tick that is kept.
@@ -124,7 +137,7 @@ impl OwnSearch {
     }
 
     /// Whether what is kept is as old as the run was then, so that the search goes on from now (after Brent 1980).
-    fn is_due(&self, tick: u32) -> bool {
+    pub fn is_due(&self, tick: u32) -> bool {
         match &self.saved {
             None => true,
             Some(saved) => saved.tick <= tick / 2,

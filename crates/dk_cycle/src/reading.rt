@@ -12,6 +12,7 @@ use dk_trace::{Entry, Label, ThreadId, Work};
 const TIME: u8 = 9;
 
 /// The thread at a kernel call, by the label of its tick.
+#[inline(always)]
 fn caller(label: Label) -> Option<ThreadId>
     ensures { result ≡ caller label }
 {
@@ -27,6 +28,7 @@ fn caller(label: Label) -> Option<ThreadId>
 }
 
 /// The thread at a kernel call, where its tick has no event. It runs on.
+#[inline(always)]
 pub fn quiet_caller(entry: &Entry) -> Option<ThreadId>
     ensures { result ≡ quiet_caller entry.now }
 {

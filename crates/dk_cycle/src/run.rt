@@ -1,5 +1,5 @@
 //! The search for a cycle of a whole run.
-ghost use Rattle.std.specs.Prelude.{ℕ, List, ◌≡◌, ◌<◌, ◌%◌, length, true, option_map, is_some, IfSome};
+ghost use Rattle.std.specs.Prelude.{ℕ, List, ◌≡◌, ◌<◌, ◌≤◌, ◌%◌, length, true, false, option_map, is_some, IfSome};
 ghost use Rattle.std.specs.Option.{option_map_or};
 ghost use Rattle.dk_config.specs.Checked.{IsChecked, IsWithinLimits};
 ghost use Rattle.dk_repeat.specs.Repeat.{keeps_threads};
@@ -80,6 +80,23 @@ fn same_process(one: &ProcessState, other: &ProcessState) -> bool
         && same_threads(one.threads.as_slice(), other.threads.as_slice())
 }
 
+impl ProcessState {
+    ghost use Rattle.dk_cycle.specs.Run.{IsOtherProcess};
+
+    /// Whether the process had this memory, and its first thread this context.
+    pub fn had(&self, context: &Context, words: &[u32]) -> bool
+        ensures { result ≡ false → IsOtherProcess self.now context.now words.now }
+    {
+        if self.words.as_slice() != words {
+            return false;
+        }
+        match self.threads.get(0) {
+            Some(main) => same_context(&main.context, context),
+            None => true,
+        }
+    }
+}
+
 /// Whether the processes are the same.
 fn same_processes(one: &[ProcessState], other: &[ProcessState]) -> bool
     ensures same { result ≡ true → AreAllProcesses one.now other.now }
@@ -97,6 +114,7 @@ fn same_processes(one: &[ProcessState], other: &[ProcessState]) -> bool
 }
 
 /// Whether the entry neither makes nor stops a thread.
+#[inline(always)]
 fn keeps_threads(entry: &Entry) -> bool
     ensures { result ≡ option_map_or keeps_threads entry.now.event true }
 {
@@ -112,6 +130,7 @@ fn keeps_threads(entry: &Entry) -> bool
 
 /// Whether a search goes on to keep what it keeps: no thread was made or stopped so far, nor is one in this entry, and nobody
 /// read the tick in it.
+#[inline(always)]
 pub(crate) fn goes_on(kept: bool, entry: &Entry, reader: Option<u8>) -> bool
     ensures same { result ≡ true → GoesOn kept entry.now reader }
     ensures only { GoesOn kept entry.now reader → result ≡ true }
@@ -120,6 +139,7 @@ pub(crate) fn goes_on(kept: bool, entry: &Entry, reader: Option<u8>) -> bool
 }
 
 /// Who read the tick last, where it was read by this process before, and then by that one.
+#[inline(always)]
 fn last_reader(before: Option<u8>, now: Option<u8>) -> Option<u8>
     ensures { result ≡ last_reader before now }
 {
@@ -165,15 +185,17 @@ impl RunSearch {
         self.cycle.is_some()
     }
 
-    /// Whether the windows of all levels begin at the tick.
-    pub fn begins(&self, tick: u32) -> bool
+    /// In how many ticks the windows of all levels begin next: in a whole longest period where they begin at the tick.
+    pub fn wait(&self, tick: u32) -> u32
         requires { 0 < self.now.longest }
-        ensures { result ≡ true → tick % self.now.longest ≡ 0 }
+        ensures some { 1 ≤ result }
+        ensures begins { result ≡ self.now.longest → tick % self.now.longest ≡ 0 }
     {
-        tick % self.longest == 0
+        self.longest - tick % self.longest
     }
 
     /// Looks at the entry of the next tick, in which a thread of this process read the tick, or nobody did.
+    #[inline(always)]
     pub fn follow(&mut self, entry: &Entry, reader: Option<u8>)
         ensures { Follows self.old entry.now reader self.new }
     {
@@ -207,12 +229,16 @@ impl RunSearch {
         }
     }
 
-    /// Whether a thread was made or stopped since or the tick was read, or what is kept is as old as the run was then, so
-    /// that the search goes on from now (after Brent 1980).
-    fn is_due(&self, tick: u32) -> bool {
+    /// Whether what is kept is as old as the run was then, so that the search goes on from now (after Brent 1980). Where a
+    /// thread was made or stopped since, or the tick was read, it does so an eighth of the run later: so a run in which
+    /// that goes on isn't kept each time.
+    pub fn is_due(&self, tick: u32) -> bool {
         match &self.saved {
             None => true,
-            Some(saved) => !self.kept || saved.tick <= tick / 2,
+            Some(saved) => {
+                let late = if self.kept { tick / 2 } else { tick - tick / 8 };
+                saved.tick <= late
+            }
         }
     }
 

@@ -1,3 +1,5 @@
+pub mod Names
 pub mod Readers
 pub mod Threads
 pub mod Walking
+pub mod AtOnce

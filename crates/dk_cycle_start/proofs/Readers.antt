@@ -1,21 +1,5 @@
 -- Who read the tick in the last tick of a kernel's run.
-use Rattle.std.proofs.Common.{ℕ, ◌≡◌, ◌+◌, ◌∙◌, Bool, true, false, List, [], ◌∷◌, length, Option, Some, None, refl, sym, ap, subst, arith}
-use Rattle.std.specs.Prelude.{slice_index_or}
-use Rattle.std.specs.List.{list_any}
-use Rattle.std.proofs.Math.Bool.{or-true}
-use Rattle.dk_config.specs.Configuration.{Configuration}
-use Rattle.dk_trace.specs.declared.ThreadId.{ThreadId}
-use Rattle.dk_trace.specs.declared.Entry.{Entry}
-use Rattle.dk_trace.specs.Members.{Has}
-use Rattle.dk_trace.specs.Threads.{Thread, family, is_main, threads}
-use Rattle.dk_trace.specs.Entries.{is_same}
-use Rattle.dk_trace.proofs.Members.{flat-has, list_any-has}
-use Rattle.dk_trace.proofs.Same.{same-self}
-use Rattle.dk_threads.specs.Recount.{has_row, is_there}
-use Rattle.dk_cpu.specs.declared.Context.{Context}
-use Rattle.dk_world.specs.Run.{world, trace}
-use Rattle.dk_repeat.specs.Reading.{HasRead, IsBehindRead, RunsOn, ShowsReads, quiet_caller}
-use Rattle.dk_cycle.specs.Run.{IsReader}
+use Rattle.dk_cycle_start.proofs.Names.{ℕ, ◌≡◌, ◌+◌, ◌∙◌, Bool, true, false, List, [], length, Some, None, refl, sym, subst, arith, slice_index_or, list_any, or-true, Configuration, ThreadId, Entry, Has, Thread, family, is_main, threads, is_same, flat-has, list_any-has, same-self, has_row, is_there, Context, world, trace, HasRead, IsBehindRead, RunsOn, ShowsReads, quiet_caller, IsReader}
 
 -- a thread that runs on has a row
 row-running : (c : Configuration) (n : ℕ) (x : Thread) → x.stop ≡ None → has_row c n x ≡ true

@@ -1,25 +1,6 @@
 -- Two kernels of a run, thread by thread.
-use Rattle.std.proofs.Common.{ℕ, zero, suc, ◌≡◌, ◌+◌, ◌<◌, ◌≤◌, ◌∙◌, inl, inr, Bool, true, false, List, [], ◌∷◌, length, map, Option, Some, None, refl, sym, ap, subst, arith}
-use Rattle.std.specs.Prelude.{slice_get, is_some, nat_lt, option_map}
-use Rattle.std.specs.List.{list_any}
-use Rattle.std.proofs.lemmas.Bool.{cases_Bool, cases_eq}
-use Rattle.std.proofs.Math.Bool.{or-true}
-use Rattle.dk_config.specs.declared.TheConstants.{MAX_THREADS}
-use Rattle.dk_config.specs.Configuration.{Configuration}
-use Rattle.dk_trace.specs.declared.ThreadId.{ThreadId}
-use Rattle.dk_trace.specs.Members.{Has}
-use Rattle.dk_trace.specs.Threads.{Thread, family, is_main, threads}
-use Rattle.dk_trace.proofs.Members.{filter-has, get-has, has-filter, has-map, map-has}
-use Rattle.dk_threads.specs.declared.row.ThreadRow.{ThreadRow}
-use Rattle.dk_threads.specs.Rows.{is_stopped}
-use Rattle.dk_threads.specs.Recount.{counted_row, state_of}
-use Rattle.dk_repeat.specs.Repeat.{Standing, standing}
-use Rattle.dk_kernel.specs.Running.{Running, trace_of, world_of}
-use Rattle.dk_inspect.specs.View.{is_shown}
-use Rattle.dk_inspect.specs.Printing.{IsRowAt, IsThereIn, now_of, shown_of}
-use Rattle.dk_inspect.proofs.Lines.{thread-of-row}
-use Rattle.dk_cycle.specs.Start.{AreImagesAlike}
-use Rattle.dk_cycle_start.specs.Alike.{AreComparable, AreDifferent, HasOtherContext, HasOtherMemory, IsSameAt, IsSameImage, IsSameMemory, context_of}
+use Rattle.dk_cycle_start.proofs.Names.{ℕ, zero, suc, ◌≡◌, ◌+◌, ◌<◌, ◌≤◌, ◌∙◌, inl, inr, true, false, List, [], ◌∷◌, length, map, Option, Some, None, refl, sym, ap, subst, arith, slice_get, is_some, nat_lt, option_map, cases_Bool, cases_eq, or-true, MAX_THREADS, Configuration, ThreadId, Has, Thread, family, is_main, filter-has, get-has, has-filter, has-map, map-has, ThreadRow, is_stopped, counted_row, state_of, Standing, standing, Running, trace_of, world_of, is_shown, IsRowAt, IsThereIn, now_of, thread-of-row, AreImagesAlike, AreComparable, AreDifferent, HasOtherContext, HasOtherMemory, IsSameAt, IsSameImage, IsSameMemory, context_of}
+use Rattle.dk_inspect.specs.Printing.{shown_of}
 use Rattle.dk_cycle_start.proofs.Readers.{found-running}
 
 has-place : {X : Type 0} (xs : List X) (x : X) → Has xs x → (i : ℕ) × (i < length xs) × (slice_get xs i ≡ Some x)

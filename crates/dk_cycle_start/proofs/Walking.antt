@@ -1,22 +1,5 @@
 -- Two kernels of one run, of which one is later by the length of a cycle.
-use Rattle.std.proofs.Common.{ℕ, ◌≡◌, ◌+◌, ◌<◌, ◌≤◌, ◌∙◌, inl, inr, Bool, true, false, List, ◌∷◌, length, Option, Some, None, refl, sym, ap, subst, arith}
-use Rattle.std.specs.Prelude.{IfSome, option_map}
-use Rattle.std.proofs.lemmas.Bool.{cases_eq}
-use Rattle.dk_config.specs.Configuration.{Configuration}
-use Rattle.dk_config.specs.Checked.{IsChecked, IsAccepted}
-use Rattle.dk_trace.specs.declared.Entry.{Entry}
-use Rattle.dk_world.specs.Run.{trace}
-use Rattle.dk_loader.specs.Workload.{Workload}
-use Rattle.dk_repeat.specs.Repeat.{RunStandsAgain, ThreadsStandAlike}
-use Rattle.dk_kernel.specs.Booting.{IsLoaded}
-use Rattle.dk_kernel.specs.Running.{Running, trace_of, world_of}
-use Rattle.dk_cycle.specs.declared.Cycle.{Cycle}
-use Rattle.dk_cycle.specs.declared.run.RunSearch.{RunSearch}
-use Rattle.dk_cycle.specs.declared.start.StartSearch.{StartSearch}
-use Rattle.dk_cycle.specs.Run.{IsReader, IsRunSearch, KeepsThreadsFrom}
-use Rattle.dk_cycle.specs.Start.{AreImagesAlike, FollowsStart, IsOpen, Opens, Shuts, StartsAt, StartsFirst, with_start}
-use Rattle.dk_cycle_start.specs.Alike.{AreComparable, AreDifferent}
-use Rattle.dk_cycle_start.specs.Passes.{Answers, IsCycleOf, IsFirst, IsLater, IsSearch, IsSettled, begun}
+use Rattle.dk_cycle_start.proofs.Names.{ℕ, ◌≡◌, ◌+◌, ◌%◌, ◌<◌, ◌≤◌, ◌∙◌, inl, inr, Bool, true, false, List, ◌∷◌, Option, Some, sym, ap, subst, arith, IfSome, option_map, add-mod_right, cases_eq, cases_lt, Configuration, IsChecked, IsAccepted, Entry, trace, Workload, RunStandsAgain, ThreadsStandAlike, IsLoaded, Running, trace_of, world_of, Cycle, RunSearch, StartSearch, IsLongest, IsReader, IsRunSearch, AreImagesAlike, FollowsStart, IsOpen, Opens, Shuts, StartsAt, StartsFirst, with_start, apart, begins-longest, AreComparable, AreDifferent, Answers, HasPrograms, IsCycleOf, IsFirst, IsLater, IsSearch, IsSettled, begun}
 
 -- the search after one more tick of the later kernel
 pub search-next : (k l : Running) (s t : StartSearch) (e : Entry) (reader : Option ℕ) (tick : ℕ) → tick ≡ k.ticks → l ≡ record k { ticks = k.ticks + 1 }
@@ -37,7 +20,8 @@ search-next k l s t e reader tick now next adds checked' accepted' is reads foll
 
 -- ---- the run at both ticks
 
-module _ (k l : Running) (y : Cycle) (s : StartSearch) (early late : ℕ) (at : early ≡ k.ticks) (at-late : late ≡ l.ticks) (later : IsLater k y.length l) (is : IsSearch l s) where
+module _ (k l : Running) (y : Cycle) (s : StartSearch) (early late : ℕ) (at : early ≡ k.ticks) (at-late : late ≡ l.ticks) (later : IsLater k y.length l) (is : IsSearch l s)
+    (has : HasPrograms k) where
   ends : late ≡ k.ticks + y.length
   ends = at-late ∙ ap (λ (r : Running). r.ticks) later
 
@@ -52,6 +36,8 @@ module _ (k l : Running) (y : Cycle) (s : StartSearch) (early late : ℕ) (at : 
   pub comparable : Opens s early late → AreComparable k l
   comparable opens = record {
     config = ap (λ (r : Running). r.config) later;
+    programs = ap (λ (r : Running). r.programs) later;
+    many = has;
     threads = subst (λ (r : Running). ThreadsStandAlike k.config (trace_of k) (trace_of r)) (sym later) (open-now opens).threads;
   }
 
@@ -83,26 +69,39 @@ module _ (k l : Running) (y : Cycle) (s : StartSearch) (early late : ℕ) (at : 
             (record { memory = stands.alike.memory; contexts = stands.alike.contexts }));
       }
 
--- ---- tick by tick
+-- ---- from one start of all windows to the next
 
--- both are one tick on
-pub both-next : (k l : Running) (n : ℕ) (k' l' : Running) → IsLater k n l → k' ≡ record k { ticks = k.ticks + 1 } → l' ≡ record l { ticks = l.ticks + 1 } → IsLater k' n l'
-both-next k l n k' l' later next next' =
-    let order : k.ticks + n + 1 ≡ k.ticks + 1 + n = omega arith in
-    next' ∙ ap (λ (r : Running). record r { ticks = r.ticks + 1 }) later ∙ ap (λ m. record k { ticks = m }) order
+-- both are so many ticks on
+pub both-next : (k l : Running) (n more : ℕ) (k' l' : Running) → IsLater k n l → k' ≡ record k { ticks = k.ticks + more } → l' ≡ record l { ticks = l.ticks + more }
+    → IsLater k' n l'
+both-next k l n more k' l' later next next' =
+    let order : k.ticks + n + more ≡ k.ticks + more + n = omega arith in
+    next' ∙ ap (λ (r : Running). record r { ticks = r.ticks + more }) later ∙ ap (λ m. record k { ticks = m }) order
     ∙ sym (ap (λ (r : Running). record r { ticks = r.ticks + n }) next)
 
-pub none-more : (k : Running) (y : Cycle) (start : ℕ) → ((t : ℕ) → t < start → RunStandsAgain k.config k.programs t y.length → ⊥)
-    → (RunStandsAgain k.config k.programs start y.length → ⊥) → (t : ℕ) → t < start + 1 → RunStandsAgain k.config k.programs t y.length → ⊥
-none-more k y start before here t less =
-    elim (cases_eq start t) [
-      | inl same ↦ subst (λ n. RunStandsAgain k.config k.programs n y.length → ⊥) same here
-      | inr other ↦ before t (omega (arith, less, other))
-    ]
+-- the next start of all windows comes not before the start that was found
+pub room : (c : Configuration) (programs : List (List ℕ)) (y : Cycle) (longest start : ℕ) → IsLongest c longest → RunStandsAgain c programs y.start y.length → start % longest ≡ 0
+    → start < y.start → start + longest ≤ y.start
+room c programs y longest start is stands begins less = apart longest start y.start begins (begins-longest c longest y.start is stands.begins) less
 
-pub both-if : {P Q : Bool → Type 0} (o : Option Bool) (R : Bool → Type 0) → IfSome o P → IfSome o Q → ((b : Bool) → P b → Q b → R b) → IfSome o R
-both-if None R one other gives = tt
-both-if (Some b) R one other gives = gives b one other
+pub next-begins : (longest start : ℕ) → start % longest ≡ 0 → (start + longest) % longest ≡ 0
+next-begins longest start begins = add-mod_right start longest ∙ begins
+
+-- between two of them not all windows begin
+pub none-more : (k : Running) (y : Cycle) (longest start : ℕ) → IsLongest k.config longest → start % longest ≡ 0
+    → ((t : ℕ) → t < start → RunStandsAgain k.config k.programs t y.length → ⊥) → (RunStandsAgain k.config k.programs start y.length → ⊥)
+    → (t : ℕ) → t < start + longest → RunStandsAgain k.config k.programs t y.length → ⊥
+none-more k y longest start is begins before here t less =
+    elim (cases_lt t start) [
+      | inl early ↦ before t early
+      | inr late ↦
+          elim (cases_eq start t) [
+            | inl same ↦ subst (λ n. RunStandsAgain k.config k.programs n y.length → ⊥) same here
+            | inr other ↦ λ stands.
+                let far = apart longest start t begins (begins-longest k.config longest t is stands.begins) (omega (arith, late, other)) in
+                absurd (omega (arith, far, less))
+          ]
+    ]
 
 -- a search whose cycle was moved to its first start
 pub settled : (w : Workload) (tick : ℕ) (before after : RunSearch) (y : Cycle) (start : ℕ) → IsLoaded w → IsRunSearch w.config w.programs tick before
@@ -113,5 +112,6 @@ settled w tick before after y start loaded is cycle first moves new =
     record {
       is = moves w.config w.programs tick y loaded.checked loaded.accepted is cycle first.early first.stands;
       first = subst (λ (o : Option Cycle). IfSome o (StartsFirst w.config w.programs)) (sym found) first.first;
-      had = λ none. absurd (let both : None ≡ Some (with_start start y) = sym none ∙ found in cc);
+      start = start;
+      cycle = new;
     }

@@ -1,5 +1,5 @@
 -- Whether two kernels of a run are alike in memories and contexts.
-use Rattle.std.specs.Prelude.{ℕ, ◌≡◌, ◌<◌, length, Some, None, slice_get}
+use Rattle.std.specs.Prelude.{ℕ, ◌≡◌, length, Some, None, slice_get}
 use Rattle.dk_trace.specs.declared.ThreadId.{ThreadId}
 use Rattle.dk_trace.specs.Members.{Has}
 use Rattle.dk_trace.specs.Threads.{Thread, family}
@@ -9,9 +9,11 @@ use Rattle.dk_kernel.specs.Running.{Running, trace_of, world_of}
 use Rattle.dk_inspect.specs.Printing.{shown_of}
 use Rattle.dk_cycle.specs.Start.{AreImagesAlike}
 
--- they are of one configuration, and their threads stand alike
+-- they are of one configuration with its programs, one of each process, and their threads stand alike
 pub record AreComparable (k l : Running) : Type 0 where
   pub config : l.config ≡ k.config
+  pub programs : l.programs ≡ k.programs
+  pub many : length k.programs ≡ length k.config.processes
   pub threads : ThreadsStandAlike k.config (trace_of k) (trace_of l)
 
 abbrev pub context_of : Running → ThreadId → Context

@@ -1,5 +1,5 @@
 -- The second pass over a run, with two kernels.
-use Rattle.std.specs.Prelude.{ℕ, ◌≡◌, ◌+◌, ◌<◌, ◌≤◌, None, Bool, true, false, IfSome}
+use Rattle.std.specs.Prelude.{ℕ, ◌≡◌, ◌+◌, ◌<◌, ◌≤◌, Bool, true, false, length, option_map, IfSome}
 use Rattle.dk_loader.specs.Workload.{Workload}
 use Rattle.dk_repeat.specs.Repeat.{RunStandsAgain}
 use Rattle.dk_kernel.specs.Booting.{IsLoaded}
@@ -8,12 +8,16 @@ use Rattle.dk_cycle.specs.declared.Cycle.{Cycle}
 use Rattle.dk_cycle.specs.declared.run.RunSearch.{RunSearch}
 use Rattle.dk_cycle.specs.declared.start.StartSearch.{StartSearch}
 use Rattle.dk_cycle.specs.Run.{IsRunSearch, KeepsThreadsFrom}
-use Rattle.dk_cycle.specs.Start.{IsStartSearch, StartsFirst}
+use Rattle.dk_cycle.specs.Start.{IsStartSearch, StartsFirst, with_start}
 use Rattle.dk_cycle_start.specs.declared.pass.SecondPass.{SecondPass}
 
 -- the second kernel is of the run of the first, so many ticks later
 abbrev pub IsLater : Running → ℕ → Running → Type 0
 IsLater early ticks late = late ≡ record early { ticks = early.ticks + ticks }
+
+-- each process has a program
+abbrev pub HasPrograms : Running → Type 0
+HasPrograms k = length k.programs ≡ length k.config.processes
 
 -- the run of a configuration with its programs, before its first tick
 abbrev pub begun : Workload → Running
@@ -44,8 +48,9 @@ pub record IsPass (s : SecondPass) : Type 0 where
   pub late : s.late ≡ s.early
   pub programs : s.programs.items ≡ s.early.programs
 
--- the search after the pass is of the run, its cycle starts at its first tick, and it has one where it had one
+-- the search after the pass is of the run, its cycle starts at its first tick, and is the one that it had but for the start
 pub record IsSettled (w : Workload) (tick : ℕ) (before after : RunSearch) : Type 0 where
   pub is : IsRunSearch w.config w.programs tick after
   pub first : IfSome after.cycle (StartsFirst w.config w.programs)
-  pub had : after.cycle ≡ None → before.cycle ≡ None
+  pub start : ℕ
+  pub cycle : after.cycle ≡ option_map (with_start start) before.cycle

@@ -1,5 +1,5 @@
 //! Whether two kernels of a run are alike in the memories, and in the contexts of the threads that run on.
-ghost use Rattle.std.specs.Prelude.{◌≡◌, ◌<◌, true, false, length, IfSome};
+ghost use Rattle.std.specs.Prelude.{◌≡◌, ◌<◌, true, false, length};
 ghost use Rattle.dk_config.specs.declared.TheConstants.{MAX_THREADS};
 ghost use Rattle.dk_threads.specs.Rows.{is_stopped};
 ghost use Rattle.dk_trace.specs.declared.ThreadId.{ThreadId};
@@ -69,45 +69,44 @@ fn same_threads(early: &Kernel, late: &Kernel, process: u8) -> bool
     true
 }
 
-/// Whether the process has the same memory in both. None where it has no program: there is none such.
-fn same_memory(early: &Kernel, late: &Kernel, process: u8) -> Option<bool>
-    ensures same { IfSome result (λ b. b ≡ true → IsSameMemory early.now late.now process) }
-    ensures only { IfSome result (λ b. b ≡ false → HasOtherMemory early.now late.now process) }
+/// Whether the process has the same memory in both.
+fn same_memory(early: &Kernel, late: &Kernel, process: u8) -> bool
+    requires known { process < length early.now.config.processes }
+    requires comparable { AreComparable early.now late.now }
+    ensures same { result ≡ true → IsSameMemory early.now late.now process }
+    ensures only { result ≡ false → HasOtherMemory early.now late.now process }
 {
-    let one = early.memory(process)?;
-    let other = late.memory(process)?;
-    Some(one == other)
+    let Some(one) = early.memory(process) else {
+        return false;
+    };
+    let Some(other) = late.memory(process) else {
+        return false;
+    };
+    one == other
 }
 
 /// Whether the process has the same memory in both, and its threads that run on the same contexts.
-fn same_process(early: &Kernel, late: &Kernel, process: u8) -> Option<bool>
+fn same_process(early: &Kernel, late: &Kernel, process: u8) -> bool
     requires known { process < length early.now.config.processes }
     requires comparable { AreComparable early.now late.now }
-    ensures memory { IfSome result (λ b. b ≡ true → IsSameMemory early.now late.now process) }
-    ensures image { IfSome result (λ b. b ≡ true → IsSameImage early.now late.now process) }
-    ensures only { IfSome result (λ b. b ≡ false → AreDifferent early.now late.now) }
+    ensures memory { result ≡ true → IsSameMemory early.now late.now process }
+    ensures image { result ≡ true → IsSameImage early.now late.now process }
+    ensures only { result ≡ false → AreDifferent early.now late.now }
 {
-    match same_memory(early, late, process) {
-        None => None,
-        Some(false) => Some(false),
-        Some(true) => Some(same_threads(early, late, process)),
-    }
+    same_memory(early, late, process) && same_threads(early, late, process)
 }
 
-/// Whether the processes have the same memories in both, and their threads that run on the same contexts. None where one has
-/// no program.
-pub(crate) fn are_alike(early: &Kernel, late: &Kernel, processes: u8) -> Option<bool>
+/// Whether the processes have the same memories in both, and their threads that run on the same contexts.
+pub(crate) fn are_alike(early: &Kernel, late: &Kernel, processes: u8) -> bool
     requires all { processes ≡ length early.now.config.processes }
     requires comparable { AreComparable early.now late.now }
-    ensures same { IfSome result (λ b. b ≡ true → AreImagesAlike early.now.config (world_of early.now) (world_of late.now)) }
-    ensures only { IfSome result (λ b. b ≡ false → AreDifferent early.now late.now) }
+    ensures same { result ≡ true → AreImagesAlike early.now.config (world_of early.now) (world_of late.now) }
+    ensures only { result ≡ false → AreDifferent early.now late.now }
 {
     for process in 0..processes {
-        match same_process(early, late, process) {
-            None => return None,
-            Some(false) => return Some(false),
-            Some(true) => {}
+        if !same_process(early, late, process) {
+            return false;
         }
     }
-    Some(true)
+    true
 }

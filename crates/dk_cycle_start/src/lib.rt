@@ -4,9 +4,11 @@
 mod alike;
 mod copies;
 mod pass;
+mod quiet;
 mod reading;
 mod walk;
 
 pub use copies::programs_of;
 pub use pass::SecondPass;
+pub use quiet::{go_on, go_quietly};
 pub use reading::reader_of;

@@ -3,7 +3,7 @@ ghost use Rattle.std.specs.Prelude.{◌≡◌, ◌+◌, ◌<◌, ◌≤◌, leng
 ghost use Rattle.dk_config.specs.declared.TheConstants.{MAX_TICKS};
 ghost use Rattle.dk_kernel.specs.Booting.{IsLoaded};
 ghost use Rattle.dk_cycle.specs.Run.{IsRunSearch};
-ghost use Rattle.dk_cycle_start.specs.Passes.{IsCycleOf, IsFirst, IsPass, IsSearch, IsSettled, begun};
+ghost use Rattle.dk_cycle_start.specs.Passes.{HasPrograms, IsCycleOf, IsFirst, IsPass, IsSearch, IsSettled, begun};
 
 use crate::copies::{copy_of, programs_of};
 use crate::walk::{first_start, lead};
@@ -43,22 +43,19 @@ fn walked<L: Ledger>(
     processes: u8,
     cycle: Cycle,
     steps: &mut Steps<L>,
-) -> Result<u32, NoMemory>
+) -> u32
     requires all { processes ≡ length early.old.config.processes }
+    requires has { HasPrograms early.old }
     requires begun { early.old.ticks ≡ 0 }
     requires same { late.old ≡ early.old }
     requires room { cycle.start + cycle.length ≤ MAX_TICKS }
     requires programs { programs.now ≡ early.old.programs }
     requires is { IsSearch early.old search.old }
     requires cycle { IsCycleOf early.old cycle }
-    ensures { IfOk result (IsFirst early.old cycle) }
+    ensures { IsFirst early.old cycle result }
 {
     lead(search, late, programs, cycle.length, steps);
-    match first_start(search, early, late, programs, processes, cycle, steps) {
-        Some(start) => Ok(start),
-        // It never comes so: each process has a program.
-        None => Err(NoMemory),
-    }
+    first_start(search, early, late, programs, processes, cycle, steps)
 }
 
 /// The same, before the kernels are booted.
@@ -83,7 +80,7 @@ fn least_start<L: Ledger>(
     } = pass;
     let mut early = booted(alloc, early)?;
     let mut late = booted(alloc, late)?;
-    walked(
+    Ok(walked(
         search,
         &mut early,
         &mut late,
@@ -91,7 +88,7 @@ fn least_start<L: Ledger>(
         processes,
         cycle,
         steps,
-    )
+    ))
 }
 
 impl SecondPass {

@@ -20,6 +20,7 @@ fn bytes_of(programs: &[Code], process: usize) -> &[u8]
 }
 
 /// The process whose thread read the tick in the kernel's last tick, which has this entry.
+#[inline(always)]
 pub fn reader_of(programs: &[Code], kernel: &Kernel, entry: &Entry) -> Option<u8>
     requires { programs.now ≡ kernel.now.programs }
     ensures { (n : ℕ) → kernel.now.ticks ≡ n + 1

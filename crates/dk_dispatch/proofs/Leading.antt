@@ -68,7 +68,7 @@ module _ (d : Tables) (first : First) (level : ℕ) (lead : Lead) (computes : Is
     (left : (c : Configuration) (past : List Entry) (d : Tables) (x : ThreadId) → TellsOf d c past → hold_left x d.mutexes ≡ innermost_left c (held_by x past))
     (thread : lead.thread ≡ first.thread)
     (slot : (s : ℕ) → s ≤ MAX_CHILDREN → first.node ≡ MAX_THREADS * first.thread.process + s → lead.slot ≡ s)
-    (free : lead.is_free ≡ true → hold_left first.thread d.mutexes ≡ 0) where
+    (holds : lead.left ≡ hold_left first.thread d.mutexes) where
   on-node : (c : Configuration) (past : List Entry) → IsReady c past d → first.node ≡ node_in d.threads first.thread
   on-node c past stands =
       let at = computes.stands in
@@ -98,6 +98,6 @@ module _ (d : Tables) (first : First) (level : ℕ) (lead : Lead) (computes : Is
     slot = λ c past stands. ap (slots d) thread ∙ first-slot c past stands;
     fits = λ c past stands. (told-slot c past stands).fits;
     own = λ c past stands. subst (λ x. HasOwn (slots d) x lead.slot) (sym thread) (told-slot c past stands).own;
-    free = λ c past stands on.
-        ap (λ x. innermost_left c (held_by x past)) thread ∙ sym (left c past d first.thread (ready stands)) ∙ free on;
+    left = λ c past stands.
+        holds ∙ left c past d first.thread (ready stands) ∙ sym (ap (λ x. innermost_left c (held_by x past)) thread);
   }

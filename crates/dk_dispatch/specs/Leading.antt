@@ -1,5 +1,5 @@
 -- By the tables: who has the next tick, or the next ticks, where nobody has to be searched for.
-use Rattle.std.specs.Prelude.{ℕ, ◌≡◌, ◌≤◌, true, List, Some}
+use Rattle.std.specs.Prelude.{ℕ, ◌≡◌, ◌≤◌, List, Some}
 use Rattle.dk_config.specs.declared.TheConstants.{MAX_CHILDREN}
 use Rattle.dk_config.specs.Configuration.{Configuration}
 use Rattle.dk_trace.specs.declared.Phase.{Phase}
@@ -16,15 +16,15 @@ use Rattle.dk_dispatch.specs.declared.tables.lending.Borrower.{Borrower}
 use Rattle.dk_dispatch.specs.declared.tables.running.Runner.{Runner}
 
 -- By every past of which the tables are the recount the thread computes in the next tick, the slot is its own, and
--- where it is told to be free it holds no mutex.
+-- it may hold the mutex that it locked last for so many ticks more.
 pub record Leads (lead : Lead) (d : Tables) : Type 0 where
   pub chosen : (c : Configuration) (past : List Entry) → IsReady c past d
       → Choice.Budget lead.thread Phase.Body ≡ past_choice c past
   pub slot : (c : Configuration) (past : List Entry) → IsReady c past d → slots d lead.thread ≡ Some lead.slot
   pub fits : (c : Configuration) (past : List Entry) → IsReady c past d → lead.slot ≤ MAX_CHILDREN
   pub own : (c : Configuration) (past : List Entry) → IsReady c past d → HasOwn (slots d) lead.thread lead.slot
-  pub free : (c : Configuration) (past : List Entry) → IsReady c past d → lead.is_free ≡ true
-      → innermost_left c (held_by lead.thread past) ≡ 0
+  pub left : (c : Configuration) (past : List Entry) → IsReady c past d
+      → lead.left ≡ innermost_left c (held_by lead.thread past)
 
 -- The thread computes in so many ticks from now on, and in any fewer, before a window begins. The slot is its own.
 pub record Runs (runner : Runner) (d : Tables) : Type 0 where

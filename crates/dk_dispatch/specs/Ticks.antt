@@ -35,13 +35,14 @@ pub record IsShut (p : Past) : Type 0 where
   pub entry : Entry
   pub closed : p.tick ≡ Closed entry
 
--- the thread computes in the next tick, the slot is its own, and where it is told to be free it holds no mutex
+-- the thread computes in the next tick, the slot is its own, and it may hold the mutex that it locked last for so many
+-- ticks more
 pub record Leads (lead : Lead) (d : Dispatched) : Type 0 where
   pub chosen : Choice.Budget lead.thread Phase.Body ≡ choice_at d.past
   pub slot : slots d lead.thread ≡ Some lead.slot
   pub fits : lead.slot ≤ MAX_CHILDREN
   pub own : HasOwn (slots d) lead.thread lead.slot
-  pub free : lead.is_free ≡ true → innermost_left d.past.config (held_by lead.thread d.past.entries) ≡ 0
+  pub left : lead.left ≡ innermost_left d.past.config (held_by lead.thread d.past.entries)
 
 -- each of so many ticks goes to the choice, and whoever it names holds no mutex
 pub record Goes (choice : Choice) (n : ℕ) (p : Past) : Type 0 where

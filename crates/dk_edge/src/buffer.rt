@@ -1,19 +1,20 @@
 //! Bytes that wait to be handed on.
-ghost use Rattle.std.specs.Prelude.{◌≡◌, ◌<◌, ◌≤◌, ◌++◌, [], false, true, IfOk, drop, length, take, vec_len, vec_capacity};
+ghost use Rattle.std.specs.Prelude.{◌≡◌, ◌+◌, ◌<◌, ◌≤◌, ◌++◌, [], false, true, IfOk, drop, length, take, vec_len};
 
 use std::alloc::{AllocError, Global};
 
 /// The most bytes that wait.
 const ROOM: usize = 65_536;
 
-/// Bytes that wait to be handed on, in a block that is taken once.
+/// Bytes that wait to be handed on, in a block that is taken once: those from `start` up to before `end`.
 #[derive(Drop)]
 pub(crate) struct Buffer {
     bytes: Vec<u8>,
     start: usize,
-    ghost reserved: { 65536 ≤ vec_capacity bytes },
-    ghost within: { vec_len bytes ≤ 65536 },
-    ghost begun: { start ≤ vec_len bytes },
+    end: usize,
+    ghost whole: { vec_len bytes ≡ 65536 },
+    ghost within: { end ≤ 65536 },
+    ghost begun: { start ≤ end },
 }
 
 impl Buffer {
@@ -22,21 +23,37 @@ impl Buffer {
     pub(crate) fn reserve(alloc: Global) -> Result<Buffer, AllocError>
         ensures { IfOk result (λ b. waiting_in b ≡ []) }
     {
-        let bytes = Vec::with_capacity(alloc, ROOM)?;
-        Ok(Buffer { bytes, start: 0 })
+        let mut bytes = Vec::with_capacity(alloc, ROOM)?;
+        bytes.resize(ROOM, 0)?;
+        Ok(Buffer {
+            bytes,
+            start: 0,
+            end: 0,
+        })
     }
 
     /// What waits.
     pub(crate) fn waiting(&self) -> &[u8]
         ensures { result.now ≡ waiting_in self.now }
     {
-        &self.bytes[self.start..]
+        &self.bytes[self.start..self.end]
     }
 
     pub(crate) fn is_full(&self) -> bool
         ensures { result ≡ false → HasRoom self.now }
     {
-        self.bytes.len() == ROOM
+        self.end == ROOM
+    }
+
+    /// Takes a piece for which there is room.
+    #[inline(always)]
+    fn put(&mut self, piece: &[u8])
+        requires { self.old.end + length piece.now ≤ 65536 }
+        ensures { waiting_in self.new ≡ waiting_in self.old ++ piece.now }
+    {
+        let end = self.end + piece.len();
+        self.bytes[self.end..end].copy_from_slice(piece);
+        self.end = end;
     }
 
     /// Takes a piece whole, where there is room for it.
@@ -45,27 +62,22 @@ impl Buffer {
         ensures taken { result ≡ true → waiting_in self.new ≡ waiting_in self.old ++ piece.now }
         ensures left { result ≡ false → self.new ≡ self.old }
     {
-        if piece.len() > ROOM - self.bytes.len() {
+        if piece.len() > ROOM - self.end {
             return false;
         }
-        match self.bytes.extend_from_slice(piece) {
-            Ok(()) => true,
-            Err(_) => unreachable!(),
-        }
+        self.put(piece);
+        true
     }
 
     /// Takes the first bytes of a piece, as many as there is room for.
-    #[inline(never)]
     pub(crate) fn take(&mut self, piece: &[u8]) -> usize
         ensures part { result ≤ length piece.now }
         ensures some { HasRoom self.old → 0 < length piece.now → 0 < result }
         ensures taken { waiting_in self.new ≡ waiting_in self.old ++ take result piece.now }
     {
-        let n = piece.len().min(ROOM - self.bytes.len());
-        match self.bytes.extend_from_slice(&piece[..n]) {
-            Ok(()) => n,
-            Err(_) => unreachable!(),
-        }
+        let n = piece.len().min(ROOM - self.end);
+        self.put(&piece[..n]);
+        n
     }
 
     /// The first bytes wait no more.
@@ -81,7 +93,7 @@ impl Buffer {
         ensures rest { waiting_in self.new ≡ [] }
         ensures room { HasRoom self.new }
     {
-        self.bytes.clear();
         self.start = 0;
+        self.end = 0;
     }
 }

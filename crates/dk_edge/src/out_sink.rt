@@ -55,6 +55,27 @@ impl<S: Sink + Drop> OutSink<S> {
         Ok(())
     }
 
+    /// Takes the first bytes of a piece, once what is held back was handed on where there is no room. Apart, so that a write
+    /// that has room is short.
+    #[inline(never)]
+    fn write_part(&mut self, piece: &[u8]) -> Result<usize, SinkError>
+        ensures fails { OnOk result ((out_view S.seen self.new).faults ≡ (out_view S.seen self.old).faults) }
+        ensures part { IfOk result (λ n. n ≤ length piece.now) }
+        ensures appended { IfOk result (λ n. Appends (out_view S.seen self.old).written (out_view S.seen self.new).written
+            (take n piece.now)) }
+        ensures err { OnErr result ((out_view S.seen self.new).written ≡ (out_view S.seen self.old).written) }
+        ensures cause { IsErr result → Rises (out_view S.seen self.old).faults (out_view S.seen self.new).faults }
+        ensures none_taken { result ≡ Ok 0 → 0 < length piece.now
+            → Rises (out_view S.seen self.old).faults (out_view S.seen self.new).faults }
+        ensures faults { (out_view S.seen self.old).faults ≤ (out_view S.seen self.new).faults }
+        ensures same { (out_view S.seen self.new).capacity ≡ (out_view S.seen self.old).capacity }
+    {
+        if self.held.is_full() {
+            self.hand_on()?;
+        }
+        Ok(self.held.take(piece))
+    }
+
     /// Hands on what is still held back, and gives the output back. A failure may show only here.
     pub fn finish(self) -> (S, Result<(), SinkError>)
         // The output took all that was written, or the front of it where it failed.
@@ -98,9 +119,6 @@ impl<S: Sink + Drop> Sink for OutSink<S> {
         if self.held.take_whole(piece) {
             return Ok(piece.len());
         }
-        if self.held.is_full() {
-            self.hand_on()?;
-        }
-        Ok(self.held.take(piece))
+        self.write_part(piece)
     }
 }

@@ -7,17 +7,16 @@ use Rattle.dk_trace.specs.declared.Source.{Source}
 use Rattle.dk_trace.specs.declared.Label.{Label}
 use Rattle.dk_trace.specs.declared.Event.{Event}
 use Rattle.dk_trace.specs.Entries.{thread_of}
-use Rattle.dk_trace.specs.Says.{arguments_of, word_of}
 use Rattle.dk_ledger.specs.declared.line.LedgerLine.{LedgerLine}
 use Rattle.dk_ledger.specs.Heading.{Heading, IsPrintable}
-use Rattle.dk_ledger.specs.LineText.{argument_words, event_text, joined, line_body, thread_text}
+use Rattle.dk_ledger.specs.LineText.{event_text, line_body, thread_text}
 use Rattle.dk_ledger.specs.Words.{event_words, is_spelled, label_words, line_words}
 use Rattle.dk_ledger.specs.Readable.{IsReadableHeading}
 use Rattle.dk_ledger.proofs.EntryLists.{IsReadableLine}
 use Rattle.dk_ledger.proofs.NextItem.{names_fit}
 use Rattle.dk_ledger.proofs.OneText.{one_line}
 use Rattle.dk_ledger.proofs.Spelled.{line_spelled}
-use Rattle.dk_ledger.proofs.Split.{line_joined}
+use Rattle.dk_ledger.proofs.Split.{line_parted}
 use Rattle.dk_groups.proofs.ListParts.{first_same, rest_same}
 use Rattle.dk_groups.proofs.Until.{until}
 use Rattle.dk_entry_words.specs.Works.{work_words}
@@ -25,15 +24,11 @@ use Rattle.dk_entry_words.specs.Parted.{behind, parted}
 
 -- ---- with blanks as a ledger has them
 
-blanks : (w : List ℕ) (ws : List (List ℕ)) → parted 32 (w ∷ ws) ≡ joined (w ∷ ws)
-blanks w [] = append-nil w
-blanks w (v ∷ ws) = ap (λ t. w ++ 32 ∷ t) (blanks v ws)
-
 pub line_blanks : (h : Heading) (l : LedgerLine) → parted 32 (line_words h l) ≡ line_body h l
-line_blanks h l = blanks (decimal l.start) (decimal l.count ∷ label_words h l.label (event_words l.event)) ∙ sym (line_joined h l)
+line_blanks h l = sym (line_parted h l)
 
 pub event_blanks : (event : Event) → parted 32 (event_words (Some event)) ≡ event_text event
-event_blanks event = blanks (word_of event) (argument_words (arguments_of event))
+event_blanks event = refl
 
 -- ---- words behind others
 
@@ -118,7 +113,7 @@ module _ (sep stop : ℕ) (parts : is_spelled sep ≡ false) (stops : is_spelled
       → (line_body h a ≡ line_body h b) × (x ≡ y)
   line_same h a b x y is e =
       let words = parted_same is_spelled sep stop parts stops other (decimal a.start) (decimal b.start) (decimal a.count ∷ label_words h a.label (event_words a.event)) (decimal b.count ∷ label_words h b.label (event_words b.event)) x y (line_spelled h is.names a) (line_spelled h is.names b) e in
-      (line_joined h a ∙ ap joined words.0 ∙ sym (line_joined h b), words.1)
+      (line_parted h a ∙ ap (parted 32) words.0 ∙ line_blanks h b, words.1)
 
 -- ---- of a header that can be read
 

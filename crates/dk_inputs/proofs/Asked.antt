@@ -1,16 +1,7 @@
 -- What words find, by what they ask for.
-use Rattle.std.proofs.Common.{ℕ, ◌≡◌, ap, List, refl, subst, add-zero, sym}
-use Rattle.std.specs.Prelude.{Option, Some, None, Result, Ok, Err, IsErrOf, option_map}
-use Rattle.dk_outside.specs.Views.{DepotView}
-use Rattle.dk_request.specs.declared.request.Request.{Request}
-use Rattle.dk_request.specs.Meaning.{meaning}
-use Rattle.dk_inputs.specs.declared.refusal.Refusal.{Refusal}
+use Rattle.dk_inputs.proofs.Names.{ℕ, ◌≡◌, ap, List, refl, subst, add-zero, sym, Option, Some, None, Result, Ok, Err, IsErrOf, option_map, DepotView, Request, meaning, Refusal, Inputs, Finds, Refuses, Tells, job_of, Job, plan_for, plan_of, some_found, Reads}
+use Rattle.dk_inputs.specs.Plan.{planned}
 use Rattle.dk_inputs.specs.declared.refusal.Refusal.TheVariants as why
-use Rattle.dk_inputs.specs.declared.inputs.Inputs.{Inputs}
-use Rattle.dk_inputs.specs.Follows.{Finds, Refuses, Tells}
-use Rattle.dk_inputs.specs.Inputs.{job_of}
-use Rattle.dk_inputs.specs.Plan.{Job, plan_for, plan_of, planned, some_found}
-use Rattle.dk_inputs.specs.Reads.{Reads}
 use Rattle.dk_inputs.proofs.FollowLemmas.{Never, Same, made, some_map}
 
 planned_for : (words : List (List ℕ)) (o : Option Request) → o ≡ meaning words → plan_for o ≡ planned words

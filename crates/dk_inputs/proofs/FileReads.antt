@@ -1,13 +1,6 @@
 -- A file, as the depot reads it and as a step.
-use Rattle.std.proofs.Common.{ℕ, ◌≡◌, ◌≤◌, ◌<◌, ◌+◌, ◌∙◌, List, length, take, min, true, false, refl, sym, ap, subst, arith}
-use Rattle.std.specs.Prelude.{◌≢◌, IfSome, Option, Some, None, Ok, Err, nat_lt}
-use Rattle.std.proofs.lemmas.Bool.Decides.{nat_tests}
-use Rattle.std.proofs.lemmas.List.{length-take, take_all}
-use Rattle.dk_outside.specs.Files.{CountsStray, IsReading}
-use Rattle.dk_inputs.specs.declared.refusal.Refusal.{Refusal}
+use Rattle.dk_inputs.proofs.Names.{ℕ, ◌≡◌, ◌≤◌, ◌<◌, ◌+◌, ◌∙◌, List, length, take, min, true, false, refl, sym, ap, subst, arith, ◌≢◌, IfSome, Option, Some, None, Ok, Err, nat_lt, nat_tests, length-take, take_all, CountsStray, IsReading, Refusal, Refuses, Tells, Files, Reads, file_at, read}
 use Rattle.dk_inputs.specs.declared.refusal.Refusal.TheVariants as why
-use Rattle.dk_inputs.specs.Follows.{Refuses, Tells}
-use Rattle.dk_inputs.specs.Reads.{Files, Reads, file_at, read}
 use Rattle.dk_inputs.proofs.FollowLemmas.{some_map}
 
 module _ (most : ℕ) (long : Refusal) (file bytes : List ℕ) (is : bytes ≡ take (most + 1) file) where

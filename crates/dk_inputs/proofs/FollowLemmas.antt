@@ -1,13 +1,6 @@
 -- The parts of a plan, one after another.
-use Rattle.std.proofs.Common.{ℕ, ◌≡◌, ◌<◌, ◌+◌, ◌∙◌, true, refl, sym, ap, subst, arith, add-zero}
-use Rattle.std.proofs.lemmas.Bool.{false≢true}
-use Rattle.std.specs.Prelude.{◌≢◌, Option, Some, None, Result, Ok, Err, IfSome, IsErrOf}
-use Rattle.dk_outside.specs.Views.{DepotView}
-use Rattle.dk_inputs.specs.declared.refusal.Refusal.{Refusal}
+use Rattle.dk_inputs.proofs.Names.{ℕ, ◌≡◌, ◌<◌, ◌+◌, ◌∙◌, true, refl, sym, ap, subst, arith, add-zero, false≢true, ◌≢◌, Option, Some, None, Result, Ok, Err, IfSome, IsErrOf, DepotView, Refusal, is_failed_read, is_silent, Files, Reads, ◌>>=◌, done, given_more, on_found, test, Finds, Gives, Goes, Refuses, Tells}
 use Rattle.dk_inputs.specs.declared.refusal.Refusal.TheVariants as why
-use Rattle.dk_inputs.specs.Answer.{is_failed_read, is_silent}
-use Rattle.dk_inputs.specs.Reads.{Files, Reads, ◌>>=◌, done, given_more, on_found, test}
-use Rattle.dk_inputs.specs.Follows.{Finds, Gives, Goes, Refuses, Tells}
 
 pub some_map : {A : Type 0} (P Q : A → Type 0) (o : Option A) → ((x : A) → P x → Q x) → IfSome o P → IfSome o Q
 some_map P Q None g h = tt

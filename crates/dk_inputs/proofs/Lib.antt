@@ -1,3 +1,4 @@
+pub mod Names
 pub mod FollowLemmas
 pub mod FileReads
 pub mod ProgramReads

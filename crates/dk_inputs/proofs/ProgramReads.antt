@@ -1,22 +1,8 @@
 -- The programs, as the loader reads them and as parts of a plan.
-use Rattle.std.proofs.Common.{ℕ, zero, suc, ◌≡◌, ◌+◌, ◌∙◌, List, [], ◌∷◌, length, map, subst, drop, refl, sym, ap, arith, inl, inr}
-use Rattle.std.specs.Prelude.{◌≢◌, IfSome, Option, Some, None, Result, Ok, Err, nat_lt, slice_get}
-use Rattle.std.specs.Option.{option_map_or}
-use Rattle.std.proofs.lemmas.Bool.{cases_Bool}
-use Rattle.dk_config.specs.declared.TheConstants.{MAX_PROGRAM_BYTES}
-use Rattle.dk_config.specs.declared.rows.ProcessRow.{ProcessRow}
-use Rattle.dk_config.specs.Configuration.{Configuration}
-use Rattle.dk_config.specs.Windows.{process_name}
-use Rattle.dk_loader.specs.declared.fault.LoadFault.{LoadFault}
+use Rattle.dk_inputs.proofs.Names.{ℕ, zero, suc, ◌≡◌, ◌+◌, ◌∙◌, List, [], ◌∷◌, length, map, subst, drop, refl, sym, ap, arith, inl, inr, ◌≢◌, IfSome, Option, Some, None, Result, Ok, Err, nat_lt, slice_get, option_map_or, cases_Bool, MAX_PROGRAM_BYTES, ProcessRow, Configuration, process_name, LoadFault, before_others, bytes_before, bytes_read, loading, program_from, programs_from, with_config, Workload, Refusal, line_of_row, Refuses, Tells, Files, Reads, ◌>>=◌, done, on_found, programs_at, read}
 use Rattle.dk_loader.specs.declared.fault.LoadFault.TheVariants as fault
-use Rattle.dk_loader.specs.Programs.{before_others, bytes_before, bytes_read, loading, program_from, programs_from, with_config}
-use Rattle.dk_loader.specs.Workload.{Workload}
-use Rattle.dk_inputs.specs.declared.refusal.Refusal.{Refusal}
 use Rattle.dk_inputs.specs.declared.refusal.Refusal.TheVariants as why
-use Rattle.dk_ledger.specs.Heading.{line_of_row}
-use Rattle.dk_inputs.specs.Follows.{Refuses, Tells}
 use Rattle.dk_inputs.proofs.FollowLemmas.{both_some, some_map}
-use Rattle.dk_inputs.specs.Reads.{Files, Reads, ◌>>=◌, done, on_found, programs_at, read}
 
 abbrev pub refused_as : (ℕ → List ℕ) → LoadFault → Refusal
 refused_as names fault.Depot = why.Depot

@@ -1,5 +1,7 @@
 -- What contracts see of a stretch of ticks.
-use Rattle.std.specs.Prelude.{ℕ, ◌-◌, List, ◌∷◌, ◌++◌, replicate}
+use Rattle.std.specs.Prelude.{ℕ, ◌≡◌, ◌-◌, List, ◌∷◌, ◌++◌, replicate, Bool, true, false, None}
+use Rattle.dk_trace.specs.declared.Work.{Work}
+use Rattle.dk_trace.specs.declared.Label.{Label}
 use Rattle.dk_trace.specs.declared.Entry.{Entry}
 use Rattle.dk_trace.specs.Entries.{quiet}
 use Rattle.dk_kernel.specs.declared.stretch.Stretch.{Stretch}
@@ -20,3 +22,14 @@ gone_on n e past = (e ∷ replicate (n - 1) (quiet e.label)) ++ past
 -- before the last tick
 abbrev pub before_last : Running → Running
 before_last k = record k { ticks = k.ticks - 1 }
+
+-- somebody is at a kernel call in a tick with this label
+abbrev pub calls : Label → Bool
+calls (Label.Call x) = true
+calls (Label.Slack x source Work.Call) = true
+calls _ = false
+
+-- nobody is at a kernel call in its ticks, and nothing happens in them
+pub record IsComputed (s : Stretch) : Type 0 where
+  pub quiet : s.event ≡ None
+  pub label : calls s.label ≡ false

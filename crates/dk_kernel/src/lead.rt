@@ -1,5 +1,5 @@
 //! The turn of the thread that leads, for which nobody has to be searched.
-ghost use Rattle.std.specs.Prelude.{◌≡◌, ◌≤◌, true};
+ghost use Rattle.std.specs.Prelude.{◌≡◌, ◌≤◌};
 ghost use Rattle.dk_trace.specs.declared.Phase.{Phase as Part};
 ghost use Rattle.dk_trace.specs.declared.Choice.{Choice as Chosen};
 ghost use Rattle.dk_trace.specs.Holds.{held_by, innermost_left};
@@ -15,11 +15,11 @@ use dk_steps::Steps;
 use dk_trace::{Choice, Entry, Phase, ThreadId};
 use std::sync::ledger::Ledger;
 
-/// The turn of a thread that leads where somebody holds a mutex: its own hold may break. It stands apart, so
-/// that its calls take no registers from the turns where nobody holds. Thread and slot come apart, and so in
-/// registers: an `Executor` is passed in memory where a call isn't inlined.
+/// The turn of a thread that leads where its innermost hold has its last tick, and so may break. It stands apart, so
+/// that its calls take no registers from the other turns. Thread and slot come apart, and so in registers: an
+/// `Executor` is passed in memory where a call isn't inlined.
 #[inline(never)]
-fn run_holder<L: Ledger>(
+fn run_last<L: Ledger>(
     tables: &mut Dispatcher,
     image: &mut Image,
     cost: u8,
@@ -46,36 +46,28 @@ fn run_holder<L: Ledger>(
     take_turn(tables, image, cost, turn, breaks, entry, steps)
 }
 
-/// The turn of the thread that leads. No hold can break where nobody holds a mutex.
+/// The turn of the thread that leads, which may hold the mutex that it locked last for `left` ticks more. Its hold can
+/// break where that is one tick alone. The charge follows `Dispatcher::lead` at once: what was found there isn't looked
+/// for again.
 #[inline(always)]
 pub fn run_lead<L: Ledger>(
     tables: &mut Dispatcher,
     image: &mut Image,
     cost: u8,
     executor: Executor,
-    is_free: bool,
+    left: u32,
     entry: &mut Entry,
     steps: &mut Steps<L>,
 )
     requires chosen { Chosen.Budget executor.thread Part.Body ≡ choice_at tables.old.past }
     requires may { MayTurn executor cost tables.old.past image.old }
     requires cost { 1 ≤ cost }
-    requires free { is_free ≡ true
-        → innermost_left tables.old.past.config (held_by executor.thread tables.old.past.entries) ≡ 0 }
+    requires left { left ≡ innermost_left tables.old.past.config (held_by executor.thread tables.old.past.entries) }
     ensures { HasTurned executor cost (snapshot tables.old image.old steps.old)
         (snapshot tables.new image.new steps.new) entry.new }
 {
-    if is_free {
-        let turn = Turn {
-            choice: Choice::Budget {
-                thread: executor.thread,
-                phase: Phase::Body,
-            },
-            executor,
-        };
-        take_turn(tables, image, cost, turn, false, entry, steps)
-    } else {
-        run_holder(
+    if left == 1 {
+        run_last(
             tables,
             image,
             cost,
@@ -84,5 +76,14 @@ pub fn run_lead<L: Ledger>(
             entry,
             steps,
         )
+    } else {
+        let turn = Turn {
+            choice: Choice::Budget {
+                thread: executor.thread,
+                phase: Phase::Body,
+            },
+            executor,
+        };
+        take_turn(tables, image, cost, turn, false, entry, steps)
     }
 }

@@ -13,7 +13,7 @@ use Rattle.dk_ledger.specs.LineText.{line_body}
 use Rattle.dk_ledger.specs.ReadSoFar.{end_body}
 use Rattle.dk_ledger.proofs.NameLemmas.{both_left}
 use Rattle.dk_ledger.proofs.WordBytes.{own}
-use Rattle.dk_ledger.proofs.Split.{line_joined}
+use Rattle.dk_ledger.proofs.Split.{line_parted}
 
 pub heads : {x y : ℕ} {xs ys : List ℕ} → x ∷ xs ≡ y ∷ ys → x ≡ y
 heads e = cc
@@ -37,7 +37,7 @@ begins_with_digit n b text small other more e = go (decimal n) (digits_decimal o
         cc
 
 pub process_is_no_line : (p : ProcessLine) (h : Heading) (l : LedgerLine) → l.start < 2 ^ 32 → process_body p ≡ line_body h l → ⊥
-process_is_no_line p h l small e = begins_with_digit l.start 112 _ small refl _ (sym (line_joined h l) ∙ sym e)
+process_is_no_line p h l small e = begins_with_digit l.start 112 _ small refl _ (sym (line_parted h l) ∙ sym e)
 
 pub line_is_no_end : (h : Heading) (l : LedgerLine) (n : ℕ) → l.start < 2 ^ 32 → line_body h l ≡ end_body n → ⊥
-line_is_no_end h l n small e = begins_with_digit l.start 101 _ small refl _ (sym (line_joined h l) ∙ e)
+line_is_no_end h l n small e = begins_with_digit l.start 101 _ small refl _ (sym (line_parted h l) ∙ e)

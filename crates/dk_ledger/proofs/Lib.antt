@@ -20,6 +20,6 @@ pub mod InPlace
 pub mod Readings
 mod NumberText
 mod Drafts
-mod NextLine
+pub mod NextLine
 mod Stretching
 mod SameEvent

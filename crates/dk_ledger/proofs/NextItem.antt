@@ -38,16 +38,16 @@ part_printable p part = record { levels = part.few_levels; processes = part.few_
 
 module _ (p : Kept) (line : List ℕ) (words : List (Bor (List ℕ))) (split : texts words ≡ words_of line) where
   pub level_found : (row : TableRow) → LevelFits p row → line ≡ level_body (length p.heading.levels) row → texts words ≡ level_words (length p.heading.levels) row
-  level_found row fits is = split ∙ ap words_of is ∙ cut_level (length p.heading.levels) row fits.room fits.numbers
+  level_found row fits is = split ∙ ap words_of is ∙ cut_level (length p.heading.levels) row
 
   pub process_found : (q : ProcessLine) → IsKept p → ProcessFits p q → line ≡ process_body q → texts words ≡ process_words q
-  process_found q part fits is = split ∙ ap words_of is ∙ cut_process (length p.heading.levels) q part.few_levels fits.readable
+  process_found q part fits is = split ∙ ap words_of is ∙ cut_process q fits.readable.name
 
   pub ticks_found : (l : LedgerLine) → IsKept p → TicksFit p l → line ≡ line_body p.heading l → texts words ≡ line_words p.heading l
   ticks_found l part fits is = grind (arith, nat_tests, cut_line, part_printable)
 
   pub end_found : IsKept p → line ≡ end_body p.ticks → texts words ≡ end_words p.ticks
-  end_found part is = split ∙ ap words_of is ∙ cut_end p.ticks part.short
+  end_found part is = split ∙ ap words_of is ∙ cut_end p.ticks
 
 -- whether a header has a process of the name
 pub unnamed : (ps : List ProcessLine) (name : List ℕ) → list_any (λ line. bytes_eq line.name name) ps ≡ false

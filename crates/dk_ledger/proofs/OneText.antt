@@ -43,7 +43,7 @@ rows_alike j a b ha hb e = grind (arith, nat_tests, same_row, same_number)
 
 pub one_level : (j : ℕ) (a b : TableRow) → j < 12 → IsLevelRow a → IsLevelRow b → level_body j a ≡ level_body j b → a ≡ b
 one_level j a b few ha hb e =
-    rows_alike j a b ha hb (sym (cut_level j a few ha) ∙ ap words_of e ∙ cut_level j b few hb)
+    rows_alike j a b ha hb (sym (cut_level j a) ∙ ap words_of e ∙ cut_level j b)
 
 same_process : (a b : ProcessLine) → a.name ≡ b.name → a.level ≡ b.level → a.budget ≡ b.budget → a ≡ b
 same_process a b name level budget = grind (arith, nat_tests)
@@ -53,7 +53,7 @@ processes_alike levels a b few ha hb e = grind (arith, nat_tests, same_process, 
 
 pub one_process : (levels : ℕ) (a b : ProcessLine) → levels ≤ 12 → IsProcessLine levels a → IsProcessLine levels b → process_body a ≡ process_body b → a ≡ b
 one_process levels a b few ha hb e =
-    processes_alike levels a b few ha hb (sym (cut_process levels a few ha) ∙ ap words_of e ∙ cut_process levels b few hb)
+    processes_alike levels a b few ha hb (sym (cut_process a ha.name) ∙ ap words_of e ∙ cut_process b hb.name)
 
 abbrev is_dot : ℕ → Bool
 is_dot b = b == 46

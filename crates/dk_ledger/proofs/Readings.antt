@@ -9,22 +9,22 @@ use Rattle.std.specs.Result.{IsErrAnd}
 use Rattle.std.specs.Borrow.{Bor}
 use Rattle.std.specs.List.{AllByRecursion, list_all, position, prefix_len}
 use Rattle.std.proofs.lemmas.List.{append_cancel_left}
+use Rattle.dk_config.specs.Rules.{is_name}
 use Rattle.dk_trace.specs.declared.Entry.{Entry}
-use Rattle.dk_trace.specs.Ranges.{HasEntry}
 use Rattle.dk_certify.specs.declared.table.TableRow.{TableRow}
 use Rattle.dk_ledger.specs.declared.header.ProcessLine.{ProcessLine}
 use Rattle.dk_ledger.specs.declared.line.LedgerLine.{LedgerLine}
-use Rattle.dk_ledger.specs.Heading.{IsPrintable, process_body, ended}
+use Rattle.dk_ledger.specs.Heading.{Heading, IsPrintable, process_body, ended}
 use Rattle.dk_ledger.specs.LineText.{line_body}
 use Rattle.dk_ledger.specs.Lines.{lines_of}
 use Rattle.dk_ledger.specs.Cuts.{entries_of, AreFilled}
-use Rattle.dk_ledger.specs.Readable.{Journal, IsReadable, IsLevelRow, IsProcessLine, ShareLines, IsWrongLine, IsNoText, lines_in, text_of, size_in}
+use Rattle.dk_ledger.specs.Readable.{Journal, IsReadable, IsProcessLine, ShareLines, IsWrongLine, IsNoText, lines_in, text_of}
 use Rattle.dk_ledger.specs.ReadSoFar.{Part, Kept, Item, IsPart, Takes, TakesNone, Reading, HasRead, HasReadAll, GoesFurther, IsGiven, ComesNext, IsFrontOf, TicksFit, kept, part_of, keeping, entries_in, item_body, Fits, with_item, end_body, end_bodies, level_bodies, bodies_of, whole, fed}
 use Rattle.dk_ledger.proofs.NameLemmas.{take_all}
 use Rattle.dk_ledger.proofs.OneCut.{is_cut}
-use Rattle.dk_ledger.proofs.EntryLists.{all_both, lines_readable, length-entries, IsReadableLine}
+use Rattle.dk_ledger.proofs.EntryLists.{all_both, length-entries}
 use Rattle.dk_ledger.proofs.PrintedLines.{is_plain, level_plain, process_plain, line_plain, end_plain}
-use Rattle.dk_ledger.proofs.NextItem.{nothing, one_side, part_printable, goes_past}
+use Rattle.dk_ledger.proofs.NextItem.{names_fit, nothing, one_side, part_printable, goes_past}
 use Rattle.dk_ledger.proofs.Continuing.{Goes, continues, first_of}
 use Rattle.dk_ledger.proofs.LineCuts.{text_fed, lines_before, no_line, one_line_before}
 use Rattle.dk_ledger.proofs.OneItemMore.{goes_on, as_journal, is_part, is_kept, bodies_more, kept_more}
@@ -40,25 +40,19 @@ as_part j is = grind (arith, nat_tests)
 abbrev ArePlain : List (List ℕ) → Type 0
 ArePlain bodies = AllByRecursion (λ b. list_all is_plain b ≡ true) bodies
 
-plain_levels : (j : ℕ) (rows : List TableRow) → j + length rows ≤ 12 → AllByRecursion IsLevelRow rows → ArePlain (level_bodies j rows)
-plain_levels j [] few all = tt
-plain_levels j (row ∷ rows) few all = (level_plain j row (omega arith) all.0, plain_levels (suc j) rows (omega arith) all.1)
+plain_levels : (j : ℕ) (rows : List TableRow) → ArePlain (level_bodies j rows)
+plain_levels j [] = tt
+plain_levels j (row ∷ rows) = (level_plain j row, plain_levels (suc j) rows)
 
-plain_processes : (levels : ℕ) (ps : List ProcessLine) → levels ≤ 12 → AllByRecursion (IsProcessLine levels) ps → ArePlain (map process_body ps)
-plain_processes levels [] few all = tt
-plain_processes levels (p ∷ ps) few all = (process_plain levels p few all.0, plain_processes levels ps few all.1)
+plain_processes : (levels : ℕ) (ps : List ProcessLine) → AllByRecursion (IsProcessLine levels) ps → ArePlain (map process_body ps)
+plain_processes levels [] all = tt
+plain_processes levels (p ∷ ps) all = (process_plain p all.0.name, plain_processes levels ps all.1)
+
+plain_lines : (h : Heading) → list_all (λ p. is_name p.name) h.processes ≡ true → (ls : List LedgerLine) → ArePlain (map (line_body h) ls)
+plain_lines h names [] = tt
+plain_lines h names (l ∷ ls) = (line_plain h names l, plain_lines h names ls)
 
 module _ (p : Part) (part : IsPart p) where
-  part_lines : AllByRecursion (IsReadableLine p.heading) (lines_of p.entries)
-  part_lines =
-      let cut = is_cut p.entries in
-      lines_readable p.heading 0 (lines_of p.entries) cut.filled cut.in_turn (let short = part.short in let same = ap length cut.whole in omega (arith, short, same))
-      (subst (AllByRecursion (HasEntry (size_in p.heading))) (sym cut.whole) part.entries)
-
-  plain_lines : (ls : List LedgerLine) → AllByRecursion (IsReadableLine p.heading) ls → ArePlain (map (line_body p.heading) ls)
-  plain_lines [] all = tt
-  plain_lines (l ∷ ls) all = (line_plain (kept p) (is_kept p part) l all.0, plain_lines ls all.1)
-
   plain_end : (b : Bool) → ArePlain (if b then (end_body (length p.entries) ∷ []) else [])
   plain_end b = grind (arith, nat_tests, end_plain)
 
@@ -68,9 +62,9 @@ module _ (p : Part) (part : IsPart p) where
       let levels = level_bodies 0 p.heading.levels in
       let processes = map process_body p.heading.processes in
       let lines = map (line_body p.heading) (lines_of p.entries) in
-      all_both P levels (processes ++ (lines ++ end_bodies p)) (plain_levels 0 p.heading.levels (let few = part.few_levels in omega (arith, few)) part.levels)
-      (all_both P processes (lines ++ end_bodies p) (plain_processes (length p.heading.levels) p.heading.processes part.few_levels part.processes)
-      (all_both P lines (end_bodies p) (plain_lines (lines_of p.entries) part_lines) (plain_end p.ended)))
+      all_both P levels (processes ++ (lines ++ end_bodies p)) (plain_levels 0 p.heading.levels)
+      (all_both P processes (lines ++ end_bodies p) (plain_processes (length p.heading.levels) p.heading.processes part.processes)
+      (all_both P lines (end_bodies p) (plain_lines p.heading (names_fit (length p.heading.levels) p.heading.processes part.processes) (lines_of p.entries)) (plain_end p.ended)))
 
 lines_of_text : (j : Journal) → IsReadable j → lines_in (text_of j) ≡ bodies_of (whole j)
 lines_of_text j is =

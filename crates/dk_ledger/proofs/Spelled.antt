@@ -15,11 +15,13 @@ use Rattle.dk_trace.specs.declared.Label.{Label}
 use Rattle.dk_trace.specs.declared.Event.{Event}
 use Rattle.dk_trace.specs.declared.says.Arguments.{Arguments}
 use Rattle.dk_trace.specs.Says.{arguments_of, word_of}
+use Rattle.dk_certify.specs.declared.table.TableRow.{TableRow}
 use Rattle.dk_ledger.specs.declared.header.ProcessLine.{ProcessLine}
 use Rattle.dk_ledger.specs.declared.line.LedgerLine.{LedgerLine}
 use Rattle.dk_ledger.specs.Heading.{Heading, name_of}
 use Rattle.dk_ledger.specs.LineText.{argument_words, fault_text, thread_text, work_text}
-use Rattle.dk_ledger.specs.Words.{AreSpelled, IsSpelled, event_words, is_spelled, label_words, line_words}
+use Rattle.dk_ledger.specs.Parted.{behind, parted}
+use Rattle.dk_ledger.specs.Words.{AreSpelled, IsSpelled, end_words, event_words, is_spelled, label_words, level_words, line_words, process_words}
 use Rattle.dk_ledger.proofs.NameLemmas.{both_left, both_right}
 use Rattle.dk_ledger.proofs.WordBytes.{all_more}
 
@@ -27,8 +29,25 @@ pub all_append : (f : ℕ → Bool) (xs ys : List ℕ) → list_all f xs ≡ tru
 all_append f [] ys h k = k
 all_append f (x ∷ xs) ys h k = grind (arith, nat_tests, all_append f xs)
 
+-- what holds of the bytes of words, and of the byte between them, holds of all
+module _ (p : ℕ → Bool) (spelled : (b : ℕ) → is_spelled b ≡ true → p b ≡ true) where
+  pub word_all : (w : List ℕ) → IsSpelled w → list_all p w ≡ true
+  word_all w is = all_more is_spelled p spelled w is
+
+  pub behind_all : (sep : ℕ) → p sep ≡ true → (ws : List (List ℕ)) → AreSpelled ws → list_all p (behind sep ws) ≡ true
+  behind_all sep own [] all = refl
+  behind_all sep own (w ∷ ws) all =
+      ap (λ b. b && list_all p (w ++ behind sep ws)) own ∙ all_append p w (behind sep ws) (word_all w all.0) (behind_all sep own ws all.1)
+
+  pub parted_all : (sep : ℕ) → p sep ≡ true → (ws : List (List ℕ)) → AreSpelled ws → list_all p (parted sep ws) ≡ true
+  parted_all sep own [] all = refl
+  parted_all sep own (w ∷ ws) all = all_append p w (behind sep ws) (word_all w all.0) (behind_all sep own ws all.1)
+
 word_spelled : (b : ℕ) → is_word b ≡ true → is_spelled b ≡ true
 word_spelled b h = grind (arith, nat_tests)
+
+own_name_spelled : (name : List ℕ) → is_name name ≡ true → IsSpelled name
+own_name_spelled name is = all_more is_word is_spelled word_spelled name (both_right _ (list_all is_word name) is)
 
 -- ---- the digits of any number
 
@@ -53,7 +72,19 @@ pub number_spelled : (n : ℕ) → IsSpelled (decimal n)
 unfolding digits
 number_spelled n = onto_spelled 64 n [] refl
 
--- ---- the words of a line
+-- ---- the words of a header's lines, and of the last
+
+pub level_spelled : (j : ℕ) (row : TableRow) → AreSpelled (level_words j row)
+level_spelled j row =
+    (refl, (number_spelled j, (refl, (number_spelled row.period, (refl, (number_spelled row.demand, (refl, (number_spelled row.blocking, (refl, (number_spelled row.spare, tt))))))))))
+
+pub process_line_spelled : (p : ProcessLine) → is_name p.name ≡ true → AreSpelled (process_words p)
+process_line_spelled p is = (refl, (own_name_spelled p.name is, (refl, (number_spelled p.level, (refl, (number_spelled p.budget, tt))))))
+
+pub end_spelled : (n : ℕ) → AreSpelled (end_words n)
+end_spelled n = (refl, (number_spelled n, tt))
+
+-- ---- the words of a line of entries
 
 pub fault_spelled : (kind : FaultKind) → IsSpelled (fault_text kind)
 fault_spelled FaultKind.Fetch = refl
@@ -83,7 +114,7 @@ event_spelled (Some e) = (word_of_spelled e, arguments_spelled (arguments_of e))
 
 name_spelled : (ps : List ProcessLine) (p : ℕ) → list_all (λ line. is_name line.name) ps ≡ true → IsSpelled (option_map_or (λ line. line.name) (slice_get ps p) [])
 name_spelled [] p names = refl
-name_spelled (q ∷ ps) zero names = all_more is_word is_spelled word_spelled q.name (both_right _ (list_all is_word q.name) (both_left (is_name q.name) (list_all (λ line. is_name line.name) ps) names))
+name_spelled (q ∷ ps) zero names = own_name_spelled q.name (both_left (is_name q.name) (list_all (λ line. is_name line.name) ps) names)
 name_spelled (q ∷ ps) (suc p) names = name_spelled ps p (both_right (is_name q.name) (list_all (λ line. is_name line.name) ps) names)
 
 module _ (h : Heading) (names : list_all (λ p. is_name p.name) h.processes ≡ true) where

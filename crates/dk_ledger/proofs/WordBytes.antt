@@ -1,6 +1,6 @@
 -- Which bytes the words of a line have, and where a name stands in a header.
 use Rattle.std.proofs.Common.{◌≡◌, ◌≢◌, ◌∙◌, sym, ap, refl, subst, ◌<◌, ◌≤◌, ◌+◌, ◌^◌, ℕ, zero, suc, Bool, true, false, List, [], ◌∷◌, length, get_or, arith}
-use Rattle.std.specs.Prelude.{◌&&◌, ◌==◌, not, cond, nat_lt, Option, Some, None, slice_get, decimal}
+use Rattle.std.specs.Prelude.{◌==◌, not, cond, nat_lt, Option, Some, None, slice_get, decimal}
 use Rattle.std.specs.List.{list_all, position, prefix_len}
 use Rattle.std.specs.Option.{option_map_or}
 use Rattle.std.specs.Str.{bytes_eq, all_ascii_digits}
@@ -16,10 +16,6 @@ use Rattle.dk_ledger.specs.Heading.{Heading, name_of}
 use Rattle.dk_ledger.specs.Readable.{HaveOwnNames}
 use Rattle.dk_ledger.proofs.NameLemmas.{both_left, both_right}
 
--- a printed byte that is no blank
-abbrev pub is_glyph : ℕ → Bool
-is_glyph b = nat_lt 32 b && nat_lt b 127
-
 abbrev pub is_no_dot : ℕ → Bool
 is_no_dot b = not (b == 46)
 
@@ -27,14 +23,8 @@ pub all_more : (f g : ℕ → Bool) → ((b : ℕ) → f b ≡ true → g b ≡ 
 all_more f g more [] h = refl
 all_more f g more (b ∷ bs) h = grind (arith, nat_tests, all_more f g more bs)
 
-word_glyph : (b : ℕ) → is_word b ≡ true → is_glyph b ≡ true
-word_glyph b h = grind (arith, nat_tests)
-
 word_no_dot : (b : ℕ) → is_word b ≡ true → is_no_dot b ≡ true
 word_no_dot b h = grind (arith, nat_tests)
-
-pub name_glyphs : (n : List ℕ) → is_name n ≡ true → list_all is_glyph n ≡ true
-name_glyphs n h = all_more is_word is_glyph word_glyph n (both_right _ (list_all is_word n) h)
 
 pub name_no_dots : (n : List ℕ) → is_name n ≡ true → list_all is_no_dot n ≡ true
 name_no_dots n h = all_more is_word is_no_dot word_no_dot n (both_right _ (list_all is_word n) h)
@@ -51,13 +41,6 @@ all_no_dots (b ∷ bs) h (suc i) d l = all_no_dots bs (both_right (is_no_dot b) 
 
 pub own : IsNumeralModel (λ ds. all_ascii_digits ds ≡ true) (digits_value 10)
 own = numerals_by_value _ tells_all_ascii_digits
-
-digit_glyphs : (ds : List ℕ) → all_ascii_digits ds ≡ true → list_all is_glyph ds ≡ true
-digit_glyphs [] h = refl
-digit_glyphs (d ∷ ds) h = grind (arith, nat_tests, digit_glyphs ds)
-
-pub decimal_glyphs : (n : ℕ) → n < 2 ^ 64 → list_all is_glyph (decimal n) ≡ true
-decimal_glyphs n h = digit_glyphs (decimal n) (digits_decimal own n h)
 
 digits_no_dots : (ds : List ℕ) → all_ascii_digits ds ≡ true → list_all is_no_dot ds ≡ true
 digits_no_dots [] h = refl
@@ -114,6 +97,3 @@ module _ (h : Heading) where
   -- no name has a dot
   pub name_at_no_dots : (p : ℕ) → list_all (λ line. is_name line.name) h.processes ≡ true → p < length h.processes → list_all is_no_dot (name_of h p) ≡ true
   name_at_no_dots p names l = name_no_dots (name_of h p) (name_at p names l)
-
-  pub name_at_glyphs : (p : ℕ) → list_all (λ line. is_name line.name) h.processes ≡ true → p < length h.processes → list_all is_glyph (name_of h p) ≡ true
-  name_at_glyphs p names l = name_glyphs (name_of h p) (name_at p names l)

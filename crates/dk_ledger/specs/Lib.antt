@@ -1,6 +1,7 @@
 pub mod Heading
 pub mod Lines
 pub mod Cuts
+pub mod Parted
 pub mod LineText
 pub mod Ledgers
 pub mod Words

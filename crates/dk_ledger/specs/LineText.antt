@@ -10,6 +10,7 @@ use Rattle.dk_trace.specs.Entries.{thread_of}
 use Rattle.dk_trace.specs.declared.says.Arguments.{Arguments}
 use Rattle.dk_trace.specs.Says.{arguments_of, word_of}
 use Rattle.dk_ledger.specs.Heading.{Heading, name_of, ended}
+use Rattle.dk_ledger.specs.Parted.{parted}
 use Rattle.dk_ledger.specs.declared.line.LedgerLine.{LedgerLine}
 
 -- the process of the label's thread, where it has one, is on a line of the header
@@ -56,14 +57,8 @@ argument_words (Arguments.Kind kind) = fault_text kind ∷ []
 argument_words (Arguments.One n) = decimal n ∷ []
 argument_words (Arguments.Three a b c) = decimal a ∷ decimal b ∷ decimal c ∷ []
 
--- words with a blank between each two
-abbrev pub joined : List (List ℕ) → List ℕ
-joined [] = []
-joined (w ∷ []) = w
-joined (w ∷ v ∷ ws) = w ++ 32 ∷ joined (v ∷ ws)
-
 abbrev pub event_text : Event → List ℕ
-event_text event = joined (word_of event ∷ argument_words (arguments_of event))
+event_text event = parted 32 (word_of event ∷ argument_words (arguments_of event))
 
 -- the event, parted from the label by a blank
 abbrev pub event_part : Option Event → List ℕ

@@ -227,7 +227,7 @@ pub(crate) fn push_rest(text: &mut TextLine, header: &Header, line: &LedgerLine)
 }
 
 /// The text of a line, without its line feed.
-pub(crate) fn text_of(header: &Header, line: LedgerLine) -> TextLine
+pub fn text_of(header: &Header, line: LedgerLine) -> TextLine
     requires printable { IsPrintable header.now }
     requires named { IsNamed header.now line.label }
     ensures text { result ≡ line_body header.now line }

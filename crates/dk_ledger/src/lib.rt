@@ -19,14 +19,14 @@ mod text_line;
 mod words;
 mod writing;
 
-pub use entry_text::push_thread;
+pub use entry_text::{push_thread, text_of};
 pub use header::{Header, ProcessLine};
 pub use header_text::write_header;
 pub use laws::{one_cut, one_to_one, read_in_order};
 pub use ledger::{Ledger, LedgerFault};
 pub use ledger_reader::LedgerReader;
-pub use line::LedgerLine;
+pub use line::{LedgerLine, first_of, goes_on};
 pub use reading::{check_ledger, read_ledger};
 pub use run_writer::RunWriter;
 pub use text_line::TextLine;
-pub use writing::{LedgerWriter, end_of};
+pub use writing::end_of;

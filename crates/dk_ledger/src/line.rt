@@ -36,14 +36,14 @@ fn is_same(a: &Label, b: &Label) -> bool
 }
 
 /// Whether an entry of this label goes on the line.
-pub(crate) fn goes_on(line: &LedgerLine, label: &Label) -> bool
+pub fn goes_on(line: &LedgerLine, label: &Label) -> bool
     ensures { result ≡ joins line.now.label line.now.event label.now }
 {
     line.event.is_none() && is_same(&line.label, label)
 }
 
 /// The line of one entry.
-pub(crate) fn first_of(start: u32, entry: Entry) -> LedgerLine
+pub fn first_of(start: u32, entry: Entry) -> LedgerLine
     ensures { result ≡ single start entry }
 {
     LedgerLine {

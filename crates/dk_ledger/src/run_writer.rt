@@ -123,14 +123,6 @@ impl RunWriter {
         Ok(())
     }
 
-    /// Forgets the text that is ready, which is that of one header.
-    pub(crate) fn forget(&mut self)
-        ensures same { self.new.progress ≡ self.old.progress }
-        ensures draft { self.new.draft ≡ None }
-    {
-        self.is_ready = false;
-    }
-
     /// The entry begins a line. It is copied here and nowhere else.
     #[inline(never)]
     fn begin(&mut self, entry: &Entry)

@@ -3,6 +3,7 @@ use Rattle.std.proofs.Common.{ℕ, suc, ◌≡◌, ◌+◌, ◌*◌, ◌^◌, �
 use Rattle.std.specs.Prelude.{decimal, codes, Option, Some, None}
 use Rattle.std.specs.List.{AllByRecursion, list_all}
 use Rattle.std.proofs.lemmas.Bool.{cases_lt}
+use Rattle.std.proofs.lemmas.Bool.Decides.{nat_tests}
 use Rattle.std.proofs.lemmas.Fmt.{length-decimal-le}
 use Rattle.dk_config.specs.declared.TheConstants.{MAX_LEDGER_BYTES}
 use Rattle.dk_config.specs.Rules.{is_name}
@@ -73,46 +74,13 @@ module _ (h : Heading) (few : length h.levels ≤ 12) (names : list_all (λ p. i
   labels Label.Idle has = omega arith
 
   faults : (kind : FaultKind) → length (fault_text kind) ≤ 6
-  faults FaultKind.Fetch = omega arith
-  faults FaultKind.Decode = omega arith
-  faults FaultKind.Memory = omega arith
-  faults FaultKind.Divide = omega arith
-  faults FaultKind.Call = omega arith
-  faults FaultKind.Hold = omega arith
+  faults kind = grind (arith, nat_tests)
 
   numbers : (why : Refusal) → number why < 100
-  numbers Refusal.NotMain = omega arith
-  numbers Refusal.Level = omega arith
-  numbers Refusal.Entry = omega arith
-  numbers Refusal.Slots = omega arith
-  numbers Refusal.TooSmall = omega arith
-  numbers Refusal.Budget = omega arith
-  numbers Refusal.NoThread = omega arith
-  numbers Refusal.NotUser = omega arith
-  numbers Refusal.Holding = omega arith
-  numbers Refusal.TooLittle = omega arith
-  numbers Refusal.NotHeld = omega arith
-  numbers Refusal.HoldsWait = omega arith
-  numbers Refusal.NoRight = omega arith
-  numbers Refusal.Amount = omega arith
-  numbers Refusal.NotLast = omega arith
+  numbers why = grind (arith, nat_tests)
 
   events : (event : Event) → HasEvent (size_in h) event → length (event_text event) ≤ 31
-  events Event.Wait has = omega arith
-  events Event.Exit has = omega arith
-  events (Event.Fault kind) has = let part = two (codes "fault ") (fault_text kind) 6 6 (omega arith) (faults kind) in omega (arith, part)
-  events (Event.Create serial level quota) has =
-      let one = word serial has.0 in
-      let below = has.1 in
-      let at = short level (omega (arith, below, few)) in
-      let share = word quota has.2 in
-      simp length-append (omega (arith, one, at, share))
-  events (Event.Delete serial) has = let part = two (codes "delete ") (decimal serial) 7 10 (omega arith) (word serial has) in omega (arith, part)
-  events (Event.Lock m) has = let part = two (codes "lock ") (decimal m) 5 2 (omega arith) (short m (omega (arith, has))) in omega (arith, part)
-  events (Event.Unlock m) has = let part = two (codes "unlock ") (decimal m) 7 2 (omega arith) (short m (omega (arith, has))) in omega (arith, part)
-  events (Event.Slack amount) has = let part = two (codes "slack ") (decimal amount) 6 10 (omega arith) (word amount has) in omega (arith, part)
-  events (Event.Put value) has = let part = two (codes "put ") (decimal value) 4 10 (omega arith) (word value has) in omega (arith, part)
-  events (Event.Refused why) has = let part = two (codes "refused ") (decimal (number why)) 8 2 (omega arith) (short (number why) (numbers why)) in omega (arith, part)
+  events event has = grind (arith, nat_tests, length-append, faults, numbers, word, short)
 
   parts : (label : Label) (event : Option Event) → HasOwnEvent (size_in h) label event → length (event_part event) ≤ 32
   parts label None has = omega arith

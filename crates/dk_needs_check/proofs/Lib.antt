@@ -1,4 +1,2 @@
 pub mod Told
 pub mod Listed
-pub mod Plain
-pub mod Escapes

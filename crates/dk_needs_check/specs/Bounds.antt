@@ -1,5 +1,6 @@
 -- A number of a configuration, and what is asked of it.
-use Rattle.std.specs.Prelude.{ℕ, ◌≡◌, ◌≤◌, ◌↔◌, Bool, true, false, nat_le, if◌then◌else◌, IsTrue, Option, Some, None}
+use Rattle.std.specs.Prelude.{ℕ, ◌≡◌, ◌≤◌, ◌↔◌, Bool, true, false, nat_le, if◌then◌else◌, IsTrue, List, Option, Some, None}
+use Rattle.std.specs.List.{list_all}
 use Rattle.dk_margins.specs.Margins.{IsGreatest}
 use Rattle.dk_config_report.specs.Pages.{IsLeast}
 use Rattle.dk_needs_check.specs.declared.row.Answer.{Answer}
@@ -7,6 +8,7 @@ use Rattle.dk_needs_check.specs.declared.row.Audit.{Audit}
 use Rattle.dk_needs_check.specs.declared.row.Bound.{Bound}
 use Rattle.dk_needs_check.specs.declared.row.Measure.{Measure}
 use Rattle.dk_needs_check.specs.declared.row.Repeating.{Repeating}
+use Rattle.dk_needs_check.specs.declared.row.Row.{Row}
 use Rattle.dk_needs_check.specs.declared.row.Verdict.{Verdict}
 use Rattle.dk_needs_check.specs.declared.row.Waiting.{Waiting}
 
@@ -72,3 +74,14 @@ pub record IsAtLeast (P : ℕ → Type 0) (measure : Measure) (asked : ℕ) (b :
   pub greatest : IsGreatest P most
   pub told : b ≡ record { measure = measure; number = most; asked = asked }
   pub truth : IsTrue (is_met b) ↔ Reaches P asked
+
+abbrev pub is_verdict_met : Verdict → Bool
+is_verdict_met Verdict.Met = true
+is_verdict_met _ = false
+
+abbrev pub is_met_row : Row → Bool
+is_met_row row = is_verdict_met (verdict_of row.answer)
+
+-- all that was asked for is met
+abbrev pub are_met : List Row → Bool
+are_met rows = list_all is_met_row rows

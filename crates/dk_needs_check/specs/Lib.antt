@@ -1,9 +1,4 @@
 pub mod Bounds
 pub mod Meaning
 pub mod Rows
-pub mod Names
-pub mod Text
 pub mod Unknown
-pub mod Csv
-pub mod Junit
-pub mod Escapes

@@ -1,11 +1,11 @@
 //! Whether a bound is kept.
 ghost use Rattle.std.specs.Prelude.{◌≡◌};
-ghost use Rattle.dk_needs_check.specs.Bounds.{audit_verdict, is_met, is_upper, keeps, repeating_verdict, verdict_of, waiting_verdict};
+ghost use Rattle.dk_needs_check.specs.Bounds.{are_met, audit_verdict, is_met, is_met_row, is_upper, keeps, repeating_verdict, verdict_of, waiting_verdict};
 
-use crate::{Answer, Audit, Bound, Measure, Repeating, Verdict, Waiting};
+use crate::{Answer, Audit, Bound, Measure, Repeating, Row, Verdict, Waiting};
 
 /// Whether at most so much is asked.
-pub(crate) fn is_upper(measure: Measure) -> bool
+pub fn is_upper(measure: Measure) -> bool
     ensures { result ≡ is_upper measure }
 {
     match measure {
@@ -77,4 +77,20 @@ pub fn verdict_of(answer: Answer) -> Verdict
         Answer::Repeats(repeating) => repeating_verdict(repeating),
         Answer::Open(_) => Verdict::Open,
     }
+}
+
+fn is_met_row(row: &Row) -> bool
+    ensures { result ≡ is_met_row row.now }
+{
+    match verdict_of(row.answer) {
+        Verdict::Met => true,
+        _ => false,
+    }
+}
+
+/// Whether all that was asked for is met.
+pub fn are_met(rows: &[Row]) -> bool
+    ensures { result ≡ are_met rows.now }
+{
+    rows.iter().all(is_met_row)
 }

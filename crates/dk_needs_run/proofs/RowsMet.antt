@@ -13,8 +13,7 @@ use Rattle.dk_audit.specs.Findings.{IsFinding, IsFoundOnce, whole_past}
 use Rattle.dk_needs_check.specs.declared.row.Audit.{Audit}
 use Rattle.dk_needs_check.specs.declared.row.Measure.{Measure}
 use Rattle.dk_needs_check.specs.declared.row.Verdict.{Verdict}
-use Rattle.dk_needs_check.specs.Bounds.{audit_verdict, is_upper, keeps}
-use Rattle.dk_needs_check.specs.Text.{is_met_row, is_verdict_met}
+use Rattle.dk_needs_check.specs.Bounds.{audit_verdict, is_met_row, is_upper, is_verdict_met, keeps}
 use Rattle.dk_needs_run.specs.declared.found.RunFound.{RunFound}
 use Rattle.dk_needs_run.specs.Rows.{IsExact, bound_row, run_rows}
 use Rattle.dk_needs_run.specs.Run.{IsRunMet, IsRunOf, IsWithin, finding_of}

@@ -11,7 +11,7 @@ use Rattle.dk_needs_check.specs.declared.row.Reason.{Reason}
 use Rattle.dk_needs_check.specs.declared.row.Row.{Row}
 use Rattle.dk_needs_check.specs.declared.unknown.Checking.{Checking}
 use Rattle.dk_needs_check.specs.Rows.{AreRows}
-use Rattle.dk_needs_check.specs.Text.{are_met}
+use Rattle.dk_needs_check.specs.Bounds.{are_met}
 use Rattle.dk_needs_check.specs.Unknown.{unknown_of}
 use Rattle.dk_needs_run.specs.declared.found.RunFound.{RunFound}
 use Rattle.dk_needs_run.specs.Run.{IsRunIn, IsRunMet}

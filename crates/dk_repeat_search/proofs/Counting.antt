@@ -1,17 +1,5 @@
 -- What is counted from the start of a cycle on.
-use Rattle.std.proofs.Common.{ℕ, suc, ◌≡◌, ◌+◌, ◌-◌, ◌*◌, ◌/◌, ◌%◌, ◌<◌, ◌≤◌, ◌∙◌, List, [], ◌∷◌, take, ap, sym, subst, arith}
-use Rattle.std.proofs.Math.Nat.{div-add-mod}
-use Rattle.std.proofs.lemmas.Nat.{mod_below}
-use Rattle.dk_config.specs.Configuration.{Configuration}
-use Rattle.dk_trace.specs.declared.Entry.{Entry}
-use Rattle.dk_world.specs.Run.{trace}
-use Rattle.dk_kernel.specs.Running.{Running, trace_of}
-use Rattle.dk_cycle.specs.declared.Cycle.{Cycle}
-use Rattle.dk_cycle_counts.specs.declared.process.MainShare.{MainShare}
-use Rattle.dk_cycle_counts.specs.declared.counts.CycleCounts.{CycleCounts}
-use Rattle.dk_cycle_counts.specs.Counts.{AreCountsOf}
-use Rattle.dk_repeat_report.specs.Cycles.{CountsOne, entries_from, shares_of}
-use Rattle.dk_repeat_search.specs.Counting.{CountsSome, StartsCycle}
+use Rattle.dk_repeat_search.proofs.Names.{ℕ, suc, ◌≡◌, ◌+◌, ◌-◌, ◌*◌, ◌/◌, ◌%◌, ◌<◌, ◌≤◌, ◌∙◌, List, [], ◌∷◌, take, ap, sym, subst, arith, div-add-mod, mod_below, Configuration, Entry, trace, Running, trace_of, Cycle, MainShare, CycleCounts, AreCountsOf, CountsOne, entries_from, shares_of, CountsSome, StartsCycle}
 
 pub starts-now : (y : Cycle) (now : ℕ) → y.start ≤ now → (now - y.start) % y.length ≡ 0 → StartsCycle y (now + 0)
 starts-now y now within none =

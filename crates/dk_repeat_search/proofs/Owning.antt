@@ -1,46 +1,26 @@
 -- What is counted of a cycle of a process by itself.
-use Rattle.std.proofs.Common.{ℕ, ◌≡◌, ◌+◌, ◌*◌, ◌<◌, ◌≤◌, ◌∙◌, List, [], ◌∷◌, ◌++◌, length, get_or, map, take, Option, Some, None, refl, sym, ap, subst, arith}
-use Rattle.std.specs.Prelude.{All, IfSome, slice_index_or}
-use Rattle.std.proofs.lemmas.List.FromFn.{get_or-map-range_with_len, length-map-range_with_len}
-use Rattle.std.proofs.lemmas.List.{map-append, map_more, take_all}
-use Rattle.dk_config.specs.Configuration.{Configuration}
-use Rattle.dk_alone.specs.Again.{ProcessStandsAgain}
-use Rattle.dk_cycle.specs.declared.Cycle.{Cycle}
-use Rattle.dk_cycle.specs.declared.keeping.Keeping.{Keeping}
+use Rattle.dk_repeat_search.proofs.Names.{ℕ, ◌≡◌, ◌+◌, ◌*◌, ◌<◌, ◌≤◌, ◌∙◌, List, [], ◌∷◌, ◌++◌, length, get_or, map, take, Option, Some, None, refl, sym, ap, subst, arith, All, IfSome, slice_index_or, get_or-map-range_with_len, length-map-range_with_len, map-append, map_more, take_all, Configuration, ProcessStandsAgain, Cycle, Keeping, OwnSearch, OwnTold, IsOwnSearch, own_told, MainShare, ProcessUse, CycleCounts, use_of, OwnFound, entries_from, share_at, shares_of, IsOneFound, IsOneUse, IsSameOwn, UsesOne, cycle_by, own_cycle, AreOwn, process_of, AreOwnFound, CountsSome}
 use Rattle.dk_cycle.specs.declared.keeping.Keeping.TheVariants as kind
-use Rattle.dk_cycle.specs.declared.own.OwnSearch.{OwnSearch}
-use Rattle.dk_cycle.specs.declared.told.OwnTold.{OwnTold}
-use Rattle.dk_cycle.specs.Own.{IsOwnSearch}
-use Rattle.dk_cycle.specs.Told.{own_told}
-use Rattle.dk_cycle_counts.specs.declared.process.MainShare.{MainShare}
-use Rattle.dk_cycle_counts.specs.declared.process.ProcessUse.{ProcessUse}
-use Rattle.dk_cycle_counts.specs.declared.counts.CycleCounts.{CycleCounts}
-use Rattle.dk_cycle_counts.specs.Process.{use_of}
-use Rattle.dk_repeat_report.specs.declared.own.OwnFound.{OwnFound}
-use Rattle.dk_repeat_report.specs.Cycles.{entries_from, share_at, shares_of}
-use Rattle.dk_repeat_report.specs.OwnUses.{IsOneFound, IsOneUse, IsSameOwn, UsesOne, cycle_by, own_cycle}
 use Rattle.dk_repeat_report.specs.Lines as lines
-use Rattle.dk_repeat_search.specs.Searching.{AreOwn, process_of}
-use Rattle.dk_repeat_search.specs.Counting.{AreOwnFound, CountsSome}
 
-still-within : (n : ℕ) (o : Option Cycle) → IfSome o (λ y. y.start + y.length ≤ n) → IfSome o (λ y. y.start + y.length ≤ n + 1)
-still-within n None is = tt
-still-within n (Some y) is = omega (arith, is)
+still-within : (n more : ℕ) (o : Option Cycle) → IfSome o (λ y. y.start + y.length ≤ n) → IfSome o (λ y. y.start + y.length ≤ n + more)
+still-within n more None is = tt
+still-within n more (Some y) is = omega (arith, is)
 
--- a search up to a tick is one up to the next
-pub search-later : (c : Configuration) (programs : List (List ℕ)) (n : ℕ) (s : OwnSearch) → IsOwnSearch c programs n s → IsOwnSearch c programs (n + 1) s
-search-later c programs n s is = record {
+-- a search up to a tick is one up to a later one
+pub search-later : (c : Configuration) (programs : List (List ℕ)) (n more : ℕ) (s : OwnSearch) → IsOwnSearch c programs n s → IsOwnSearch c programs (n + more) s
+search-later c programs n more s is = record {
   known = is.known;
   period = is.period;
   some = is.some;
   keeping = is.keeping;
   saved = is.saved;
   cycle = is.cycle;
-  within = still-within n s.cycle is.within;
+  within = still-within n more s.cycle is.within;
 }
 
-pub searches-later : (c : Configuration) (programs : List (List ℕ)) (n : ℕ) (own : List OwnSearch) → All (IsOwnSearch c programs n) own → All (IsOwnSearch c programs (n + 1)) own
-searches-later c programs n own all = λ k d less. search-later c programs n (slice_index_or own k d) (all k d less)
+pub searches-later : (c : Configuration) (programs : List (List ℕ)) (n more : ℕ) (own : List OwnSearch) → All (IsOwnSearch c programs n) own → All (IsOwnSearch c programs (n + more)) own
+searches-later c programs n more own all = λ k d less. search-later c programs n more (slice_index_or own k d) (all k d less)
 
 -- what holds of the cycle that was found holds of that of a process that keeps to itself
 pub found-cycle : (keeping : Keeping) (o : Option Cycle) (y : Cycle) (P : Cycle → Type 0) → cycle_by keeping o ≡ Some y → IfSome o P → P y

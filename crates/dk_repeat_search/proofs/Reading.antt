@@ -1,14 +1,5 @@
--- The searches of a kernel's run after one more tick.
-use Rattle.std.proofs.Common.{ℕ, ◌≡◌, ◌+◌, ◌∙◌, ◌∷◌, Option, sym, ap, subst}
-use Rattle.dk_config.specs.Configuration.{Configuration}
-use Rattle.dk_config.specs.Checked.{IsChecked, IsAccepted}
-use Rattle.dk_trace.specs.declared.Entry.{Entry}
-use Rattle.dk_world.specs.Run.{trace}
-use Rattle.dk_kernel.specs.Running.{Running, trace_of}
-use Rattle.dk_cycle.specs.declared.run.RunSearch.{RunSearch}
-use Rattle.dk_cycle.specs.Run.{Follows, IsReader}
-use Rattle.dk_repeat_search.specs.declared.search.Searches.{Searches}
-use Rattle.dk_repeat_search.specs.Searching.{IsSearching}
+-- The searches of a kernel's run after more ticks.
+use Rattle.dk_repeat_search.proofs.Names.{ℕ, ◌≡◌, ◌+◌, ◌∙◌, ◌∷◌, Option, sym, ap, subst, Configuration, IsChecked, IsAccepted, Entry, trace, Running, trace_of, RunSearch, Follows, IsReader, GoQuietly, SearchesStay, Searches, IsSearching}
 use Rattle.dk_repeat_search.proofs.Owning.{searches-later}
 
 -- the searches after one more tick
@@ -29,6 +20,17 @@ searching-next k l s e reader run next adds checked' accepted' is reads follows 
     subst (λ (r : Running). IsSearching r (record s { run = run })) (sym next)
     (record {
       run = follows k.config k.programs k.ticks checked accepted is.run more read;
-      own = record { all = searches-later k.config k.programs k.ticks s.own.items is.own.all; processes = is.own.processes };
+      own = record { all = searches-later k.config k.programs k.ticks 1 s.own.items is.own.all; processes = is.own.processes };
+      programs = is.programs;
+    })
+
+-- and after some in which nobody is at a kernel call
+pub searching-quiet : (k l : Running) (s : Searches) (n : ℕ) → SearchesStay → l ≡ record k { ticks = k.ticks + n } → IsChecked k.config → IsAccepted k.config
+    → GoQuietly k.config k.programs k.ticks n → IsSearching k s → IsSearching l s
+searching-quiet k l s n law next checked accepted go is =
+    subst (λ (r : Running). IsSearching r s) (sym next)
+    (record {
+      run = law k.config k.programs k.ticks n s.run checked accepted go is.run;
+      own = record { all = searches-later k.config k.programs k.ticks n s.own.items is.own.all; processes = is.own.processes };
       programs = is.programs;
     })

@@ -1,35 +1,6 @@
 -- The threads of a process, with their contexts.
-use Rattle.std.proofs.Common.{ℕ, ◌≡◌, ◌+◌, ◌≤◌, ◌∙◌, ◌==◌, inl, inr, true, List, [], ◌∷◌, ◌++◌, length, Option, Some, None, refl, sym, ap, subst, arith}
-use Rattle.std.specs.Prelude.{slice_get, is_some, nat_lt, option_map}
-use Rattle.std.proofs.lemmas.Bool.{cases_eq, cases_Bool}
-use Rattle.std.proofs.lemmas.Bool.Decides.{nat_tests}
-use Rattle.std.proofs.Math.Bool.{or-true}
-use Rattle.std.proofs.lemmas.List.{append-nil}
-use Rattle.dk_config.specs.declared.TheConstants.{MAX_THREADS}
-use Rattle.dk_config.specs.Configuration.{Configuration}
-use Rattle.dk_trace.specs.declared.ThreadId.{ThreadId}
-use Rattle.dk_trace.specs.Members.{Has}
-use Rattle.dk_trace.specs.Entries.{is_same}
-use Rattle.dk_trace.specs.Threads.{Thread, family, is_main}
-use Rattle.dk_trace.proofs.Members.{has-filter}
-use Rattle.dk_bound.specs.Rows.{FamilyStands}
-use Rattle.dk_threads.specs.declared.row.ThreadRow.{ThreadRow}
-use Rattle.dk_threads.specs.Rows.{is_stopped}
-use Rattle.dk_threads.specs.Recount.{counted_row, state_of, unplaced}
-use Rattle.dk_cpu.specs.declared.Context.{Context}
-use Rattle.dk_world.specs.Run.{world, trace}
-use Rattle.dk_alone.specs.Again.{main_is_stopped}
-use Rattle.dk_kernel.specs.Running.{Running, world_of, trace_of}
-use Rattle.dk_inspect.specs.View.{is_shown}
-use Rattle.dk_inspect.specs.Printing.{IsRowAt, now_of, shown_of}
-use Rattle.dk_inspect.proofs.Lines.{thread-of-row}
-use Rattle.dk_cycle.specs.declared.run.ThreadState.{ThreadState}
-use Rattle.dk_cycle.specs.declared.run.ProcessState.{ProcessState}
-use Rattle.dk_cycle.specs.declared.run.RunState.{RunState}
-use Rattle.dk_cycle.specs.declared.own.MainState.{MainState}
-use Rattle.dk_cycle.specs.Own.{IsMainState}
-use Rattle.dk_cycle.specs.Run.{AreProcessStates, IsProcessState, IsRunState}
-use Rattle.dk_repeat_search.specs.States.{AreThreads, HasContext, IsThreadAt, listed}
+use Rattle.dk_repeat_search.proofs.Names.{ℕ, ◌≡◌, ◌+◌, ◌≤◌, ◌∙◌, ◌==◌, inl, inr, true, List, [], ◌∷◌, ◌++◌, length, Option, Some, None, refl, sym, ap, subst, arith, slice_get, is_some, nat_lt, option_map, cases_eq, cases_Bool, nat_tests, or-true, append-nil, MAX_THREADS, Configuration, ThreadId, Has, is_same, Thread, family, is_main, has-filter, FamilyStands, ThreadRow, is_stopped, counted_row, state_of, unplaced, Context, world, trace, main_is_stopped, Running, world_of, trace_of, is_shown, IsRowAt, now_of, thread-of-row, ThreadState, ProcessState, RunState, MainState, IsMainState, AreProcessStates, IsProcessState, IsRunState, AreThreads, HasContext, IsThreadAt, listed}
+use Rattle.dk_inspect.specs.Printing.{shown_of}
 use Rattle.dk_repeat_search.specs.States as states
 use Rattle.dk_repeat_search.proofs.Places.{has-place, get-before, get-last, each-more}
 

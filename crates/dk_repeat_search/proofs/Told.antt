@@ -1,58 +1,43 @@
 -- What was found, told as text.
-use Rattle.std.proofs.Common.{ℕ, ◌≡◌, ◌∙◌, Bool, List, Option, Some, None, ap, sym, subst}
-use Rattle.dk_config.specs.Configuration.{Configuration}
-use Rattle.dk_loader.specs.Workload.{Workload}
-use Rattle.dk_kernel.specs.Booting.{IsLoaded}
-use Rattle.dk_kernel.specs.Running.{Running}
-use Rattle.dk_cycle.specs.declared.Cycle.{Cycle}
-use Rattle.dk_cycle.specs.declared.told.RunTold.{RunTold}
-use Rattle.dk_cycle.specs.declared.run.RunSearch.{RunSearch}
-use Rattle.dk_cycle.specs.Run.{IsLastReader, IsRunSearch}
-use Rattle.dk_cycle.specs.Told.{OwnIsTold, RunIsTold, reader_by, run_told}
-use Rattle.dk_cycle_counts.specs.declared.counts.CycleCounts.{CycleCounts}
-use Rattle.dk_repeat_report.specs.declared.own.OwnFound.{OwnFound}
-use Rattle.dk_repeat_report.specs.Cycles.{CyclesAreAlike, IsOneCounted}
-use Rattle.dk_repeat_report.specs.OwnUses.{OwnCyclesAreAlike}
-use Rattle.dk_repeat_report.specs.Lines.{names_of}
-use Rattle.dk_repeat_report.specs.Found.{AreOf, found_text}
-use Rattle.dk_repeat_report.proofs.Told.{repeats-text}
-use Rattle.dk_repeat_search.specs.declared.count.Found.{Found}
-use Rattle.dk_cycle_start.specs.Passes.{IsSettled}
-use Rattle.dk_repeat_search.specs.Counting.{AreOwnFound, IsFound}
-use Rattle.dk_repeat_search.specs.Repeats.{IsRepeatsOf, KnowsReader, repeats, searched_ticks}
+use Rattle.dk_repeat_search.proofs.Names.{ℕ, ◌≡◌, ◌∙◌, Bool, List, Option, Some, None, refl, ap, sym, subst, option_map, Configuration, Workload, IsLoaded, Running, Cycle, RunTold, RunSearch, IsLastReader, IsRunSearch, OwnIsTold, RunIsTold, reader_by, run_told, with_start, CycleCounts, OwnFound, CyclesAreAlike, IsOneCounted, OwnCyclesAreAlike, names_of, AreOf, found_text, repeats-text, Found, IsSettled, Searches, HasSettled, IsSearching, loaded_of, AreOwnFound, IsFound, IsRepeatsOf, KnowsReader, repeats, searched_ticks}
 
--- the search of a kernel's run, which is that of this configuration with its programs
-pub search-of : (w v : Workload) (k : Running) (run : RunSearch) (tick : ℕ) → v ≡ w → tick ≡ k.ticks → k.config ≡ w.config → k.programs ≡ w.programs
-    → IsRunSearch k.config k.programs k.ticks run → IsRunSearch v.config v.programs tick run
-search-of w v k run tick same now config programs is =
-    subst (λ (u : Workload). IsRunSearch u.config u.programs tick run) (sym same)
-    (subst (λ n. IsRunSearch w.config w.programs n run) (sym now)
-    (subst (λ (c : Configuration). IsRunSearch c w.programs k.ticks run) config (subst (λ (ps : List (List ℕ)). IsRunSearch k.config ps k.ticks run) programs is)))
+-- the search of a kernel's run is one of its configuration with its programs
+pub search-of : (k : Running) (v : Workload) (run : RunSearch) (tick : ℕ) → v ≡ loaded_of k → tick ≡ k.ticks → IsRunSearch k.config k.programs k.ticks run
+    → IsRunSearch v.config v.programs tick run
+search-of k v run tick of now is =
+    subst (λ (w : Workload). IsRunSearch w.config w.programs tick run) (sym of) (subst (λ n. IsRunSearch k.config k.programs n run) (sym now) is)
 
--- and back
-pub search-back : (w : Workload) (k : Running) (run : RunSearch) (tick : ℕ) → tick ≡ k.ticks → k.config ≡ w.config → k.programs ≡ w.programs
-    → IsRunSearch w.config w.programs tick run → IsRunSearch k.config k.programs k.ticks run
-search-back w k run tick now config programs is =
-    subst (λ (c : Configuration). IsRunSearch c k.programs k.ticks run) (sym config)
-    (subst (λ (ps : List (List ℕ)). IsRunSearch w.config ps k.ticks run) (sym programs) (subst (λ n. IsRunSearch w.config w.programs n run) now is))
+had : (o : Option Cycle) (start : ℕ) → option_map (with_start start) o ≡ None → o ≡ None
+had None start is = refl
+had (Some y) start is = absurd (cc)
 
-pub settled-of : (w v : Workload) (tick : ℕ) (before after : RunSearch) → v ≡ w → IsSettled v tick before after → IsSettled w tick before after
-settled-of w v tick before after same is = subst (λ (u : Workload). IsSettled u tick before after) same is
+-- the searches after a second pass
+pub has-settled : (k : Running) (v : Workload) (s : Searches) (run : RunSearch) (tick : ℕ) → v ≡ loaded_of k → tick ≡ k.ticks → IsSearching k s → IsSettled v tick s.run run
+    → HasSettled k s (record s { run = run })
+has-settled k v s run tick of now is settled =
+    let there : IsSettled (loaded_of k) k.ticks s.run run =
+    subst (λ (w : Workload). IsSettled w k.ticks s.run run) of (subst (λ n. IsSettled v n s.run run) now settled) in
+    record {
+      is = record { run = there.is; own = is.own; programs = is.programs };
+      first = there.first;
+      had = λ none. had s.run.cycle there.start (sym there.cycle ∙ none);
+    }
 
-pub are-of : (w : Workload) (k : Running) (tick : ℕ) (before run : RunSearch) (counts : Option CycleCounts) (own : List OwnFound) → k.config ≡ w.config → k.programs ≡ w.programs
-    → IsSettled w tick before run → IsOneCounted k.config k.programs run.cycle counts → AreOwnFound k.config k.programs own → AreOf w.config w.programs run counts own
-are-of w k tick before run counts own config programs is counted found =
-    let counted' : IsOneCounted w.config w.programs run.cycle counts =
-    subst (λ (c : Configuration). IsOneCounted c w.programs run.cycle counts) config
-    (subst (λ (ps : List (List ℕ)). IsOneCounted k.config ps run.cycle counts) programs counted) in
-    let found' : AreOwnFound w.config w.programs own =
-    subst (λ (c : Configuration). AreOwnFound c w.programs own) config (subst (λ (ps : List (List ℕ)). AreOwnFound k.config ps own) programs found) in
-    record { tick = tick; run_is = is.is; first = is.first; counts_are = counted'; own_are = found'.all; processes = found'.processes }
+-- what was found by the searches up to a tick of a kernel, with what is counted of cycles up to a later one
+pub found-all : (w : Workload) (k l : Running) (before after : Searches) (counts : Option CycleCounts) (own : List OwnFound) → loaded_of k ≡ w → l ≡ record k { ticks = l.ticks }
+    → HasSettled k before after → IsOneCounted k.config k.programs after.run.cycle counts → AreOwnFound l.config l.programs own
+    → AreOf w.config w.programs after.run counts own
+found-all w k l before after counts own of same settled counted found =
+    let there : AreOwnFound k.config k.programs own = subst (λ (r : Running). AreOwnFound r.config r.programs own) same found in
+    subst (λ (v : Workload). AreOf v.config v.programs after.run counts own) of
+    (record { tick = k.ticks; run_is = settled.is.run; first = settled.first; counts_are = counted; own_are = there.all; processes = there.processes })
 
 -- a search that found no cycle took all ticks, and knows who read the tick last in them
-pub knows-reader : (w : Workload) (tick ticks : ℕ) (before run : RunSearch) → IsSettled w tick before run → (before.cycle ≡ None → tick ≡ ticks) → KnowsReader w ticks run
-knows-reader w tick ticks before run is all = λ none.
-    subst (λ n. IsLastReader w.config w.programs n run.reader) (all (is.had none)) is.is.reader
+pub knows-reader : (w : Workload) (k : Running) (ticks : ℕ) (before after : Searches) → loaded_of k ≡ w → HasSettled k before after → (before.run.cycle ≡ None → k.ticks ≡ ticks)
+    → KnowsReader w ticks after.run
+knows-reader w k ticks before after of settled all = λ none.
+    subst (λ (v : Workload). IsLastReader v.config v.programs ticks after.run.reader) of
+    (subst (λ n. IsLastReader k.config k.programs n after.run.reader) (all (settled.had none)) settled.is.run.reader)
 
 told-reader : (c : Configuration) (programs : List (List ℕ)) (ticks : ℕ) (o : Option Cycle) (reader : Option ℕ) → (o ≡ None → IsLastReader c programs ticks reader)
     → o ≡ None → IsLastReader c programs ticks (reader_by o reader)

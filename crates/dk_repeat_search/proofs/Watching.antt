@@ -1,29 +1,6 @@
 -- What is told of each process's windows.
-use Rattle.std.proofs.Common.{ℕ, zero, suc, ◌≡◌, ◌+◌, ◌<◌, ◌≤◌, ◌≢◌, ◌∙◌, ◌∷◌, ◌++◌, inl, inr, List, [], length, get_or, set, map, false, None, refl, sym, ap, subst, arith}
-use Rattle.std.specs.Prelude.{slice_index_or}
-use Rattle.std.specs.List.{range_with_len}
-use Rattle.std.proofs.lemmas.Bool.{cases_eq}
-use Rattle.std.proofs.lemmas.List.{get_or-set_other, get_or-set_same, get_or_append_left, length-map, length-set, length_push}
-use Rattle.std.proofs.lemmas.List.FromFn.{get_or-range_with_len, length-range_with_len}
-use Rattle.std.proofs.lemmas.Option.{get_or_from_slice_get, slice_get_within}
-use Rattle.std.proofs.Math.Seq.{get_or-append_seam}
-use Rattle.dk_config.specs.Configuration.{Configuration}
-use Rattle.dk_config.specs.Checked.{IsChecked, IsAccepted}
-use Rattle.dk_loader.specs.Workload.{Workload}
-use Rattle.dk_kernel.specs.Booting.{IsLoaded}
-use Rattle.dk_kernel.specs.Running.{Running}
-use Rattle.dk_cycle.specs.declared.run.RunSearch.{RunSearch}
-use Rattle.dk_cycle_start.specs.Passes.{IsSettled}
+use Rattle.dk_repeat_search.proofs.Names.{ℕ, zero, suc, ◌≡◌, ◌+◌, ◌<◌, ◌≤◌, ◌≢◌, ◌∙◌, ◌∷◌, ◌++◌, inl, inr, List, [], length, get_or, set, map, false, None, refl, sym, ap, subst, arith, slice_index_or, range_with_len, cases_eq, get_or-set_other, get_or-set_same, get_or_append_left, length-map, length-set, length_push, get_or-range_with_len, length-range_with_len, get_or_from_slice_get, slice_get_within, get_or-append_seam, Configuration, IsChecked, IsAccepted, Workload, IsLoaded, Running, OwnSearch, RunTold, IsRunTold, RunIsTold, run_told, Waits, WaitWatch, IsWaits, WaitsAreTold, waits_told, Searches, AreOwn, HasSettled, loaded_of, process_of, AreTold, AreWaits, AreWatches, watched_process}
 use Rattle.dk_cycle.specs.declared.keeping.Keeping.TheVariants as kind
-use Rattle.dk_cycle.specs.declared.own.OwnSearch.{OwnSearch}
-use Rattle.dk_cycle.specs.declared.told.RunTold.{RunTold}
-use Rattle.dk_cycle.specs.Told.{IsRunTold, RunIsTold, run_told}
-use Rattle.dk_cycle.specs.declared.waiting.Waits.{Waits}
-use Rattle.dk_cycle.specs.declared.waiting.WaitWatch.{WaitWatch}
-use Rattle.dk_cycle.specs.Waiting.{IsWaits, WaitsAreTold, waits_told}
-use Rattle.dk_repeat_search.specs.Searching.{AreOwn, process_of}
-use Rattle.dk_repeat_search.specs.Always.{AreTold, AreWaits, AreWatches, IsWatching, watched_process}
-use Rattle.dk_repeat_search.specs.declared.always.Watching.{Watching}
 use Rattle.dk_repeat_search.proofs.Places.{many-own}
 
 abbrev pub no_search : OwnSearch
@@ -89,18 +66,18 @@ are-waits law c programs tick own watches waits checked accepted are seen told =
     wide = many-watches c programs tick watches seen
 
 -- what a kernel's searches and watches tell of its run
-pub always-of : (w : Workload) (k : Running) (s : Watching) (tick : ℕ) (before after : RunSearch) (run : RunTold) (waits : List Waits) → RunIsTold → WaitsAreTold
-    → k.config ≡ w.config → k.programs ≡ w.programs → IsLoaded w → IsWatching k s → IsSettled w tick before after → run ≡ run_told after → AreTold s.searches.own.items s.watches.items (length s.searches.own.items) waits
-    → IsRunTold w.config w.programs run × AreWaits w.config w.programs waits
-always-of w k s tick before after run waits run-law waits-law config programs loaded is settled run-is told =
-    let checked = subst (λ (z : Configuration). IsChecked z) (sym config) loaded.checked in
-    let accepted = subst (λ (z : Configuration). IsAccepted z) (sym config) loaded.accepted in
-    let of-run : IsRunTold w.config w.programs run =
-    subst (IsRunTold w.config w.programs) (sym run-is) (run-law w.config w.programs tick after loaded.checked loaded.accepted settled.is settled.first) in
+pub always-of : (w : Workload) (k : Running) (watches : List WaitWatch) (before after : Searches) (run : RunTold) (waits : List Waits) → RunIsTold → WaitsAreTold → loaded_of k ≡ w
+    → IsLoaded w → HasSettled k before after → AreWatches k.config k.programs k.ticks watches → run ≡ run_told after.run
+    → AreTold after.own.items watches (length after.own.items) waits → IsRunTold w.config w.programs run × AreWaits w.config w.programs waits
+always-of w k watches before after run waits run-law waits-law of loaded settled seen run-is told =
+    let checked : IsChecked k.config = subst (λ (v : Workload). IsChecked v.config) (sym of) loaded.checked in
+    let accepted : IsAccepted k.config = subst (λ (v : Workload). IsAccepted v.config) (sym of) loaded.accepted in
+    let of-run : IsRunTold k.config k.programs run =
+    subst (IsRunTold k.config k.programs) (sym run-is) (run-law k.config k.programs k.ticks after.run checked accepted settled.is.run settled.first) in
     let of-waits : AreWaits k.config k.programs waits =
-    are-waits waits-law k.config k.programs k.ticks s.searches.own.items s.watches.items waits checked accepted is.searches.own is.watches told in (
-      of-run,
-      subst (λ (z : Configuration). AreWaits z w.programs waits) config (subst (λ (ps : List (List ℕ)). AreWaits k.config ps waits) programs of-waits),
+    are-waits waits-law k.config k.programs k.ticks after.own.items watches waits checked accepted settled.is.own seen told in (
+      subst (λ (v : Workload). IsRunTold v.config v.programs run) of of-run,
+      subst (λ (v : Workload). AreWaits v.config v.programs waits) of of-waits,
     )
 
 -- ---- a watch after the other sees an entry

@@ -1,5 +1,5 @@
 -- The searches of a run and of each of its processes.
-use Rattle.std.specs.Prelude.{ℕ, ◌≡◌, List, length, map, All}
+use Rattle.std.specs.Prelude.{ℕ, ◌≡◌, List, None, length, map, All, IfSome}
 use Rattle.std.specs.List.{range_with_len}
 use Rattle.dk_config.specs.Configuration.{Configuration}
 use Rattle.dk_loader.specs.Workload.{Workload}
@@ -7,6 +7,7 @@ use Rattle.dk_kernel.specs.Running.{Running}
 use Rattle.dk_cycle.specs.declared.own.OwnSearch.{OwnSearch}
 use Rattle.dk_cycle.specs.Own.{IsOwnSearch}
 use Rattle.dk_cycle.specs.Run.{IsRunSearch}
+use Rattle.dk_cycle.specs.Start.{StartsFirst}
 use Rattle.dk_repeat_search.specs.declared.search.Searches.{Searches}
 
 -- the run of a configuration with its programs, before its first tick
@@ -26,6 +27,12 @@ pub record IsSearching (k : Running) (s : Searches) : Type 0 where
   pub own : AreOwn k.config k.programs k.ticks s.own.items
   pub programs : s.programs.items ≡ k.programs
 
--- after some ticks of the run of this configuration with these programs
-abbrev pub IsSearched : Workload → Searches → Type 0
-IsSearched w s = (ticks : ℕ) × IsSearching (record { config = w.config; programs = w.programs; ticks = ticks }) s
+-- the configuration of a kernel with its programs
+abbrev pub loaded_of : Running → Workload
+loaded_of k = record { config = k.config; programs = k.programs }
+
+-- the searches after a second pass: the cycle of the run starts where it first can, and there is one where there was one
+pub record HasSettled (k : Running) (before after : Searches) : Type 0 where
+  pub is : IsSearching k after
+  pub first : IfSome after.run.cycle (StartsFirst k.config k.programs)
+  pub had : after.run.cycle ≡ None → before.run.cycle ≡ None

@@ -2,8 +2,9 @@
 ghost use Rattle.std.specs.Prelude.{◌≡◌, ◌+◌, ◌<◌, ◌≤◌, length, IfOk, OnOk};
 ghost use Rattle.dk_config.specs.declared.TheConstants.{MAX_RUN_TICKS, MAX_TICKS};
 ghost use Rattle.dk_kernel.specs.Booting.{IsLoaded};
-ghost use Rattle.dk_repeat_search.specs.Always.{AreTold, AreWatches, IsAlways};
-ghost use Rattle.dk_repeat_search.specs.Searching.{begun};
+ghost use Rattle.dk_cycle_start.specs.Passes.{IsPass};
+ghost use Rattle.dk_repeat_search.specs.Always.{AreTold, AreWatches, IsAlways, IsWatching};
+ghost use Rattle.dk_repeat_search.specs.Searching.{begun, loaded_of};
 
 use crate::search::Searches;
 use dk_config::{MAX_RUN_TICKS, MAX_TICKS, NoMemory};
@@ -77,7 +78,8 @@ impl Watching {
         requires { IsWatching kernel.now self.old }
         ensures { OnOk result (IsWatching kernel.now self.new) }
     {
-        self.searches.look(alloc, kernel)
+        self.searches.look(alloc, kernel)?;
+        Ok(())
     }
 
     /// Does up to so many ticks, until all cycles are found. `Err` is want of memory.
@@ -91,8 +93,7 @@ impl Watching {
         requires room { kernel.old.ticks + ticks ≤ MAX_TICKS }
         requires is { IsWatching kernel.old self.old }
         ensures is { OnOk result (IsWatching kernel.new self.new) }
-        ensures config { kernel.new.config ≡ kernel.old.config }
-        ensures programs { kernel.new.programs ≡ kernel.old.programs }
+        ensures same { kernel.new ≡ record kernel.old { ticks = kernel.new.ticks } }
         ensures ticks { kernel.new.ticks ≤ kernel.old.ticks + ticks }
     {
         self.look(alloc, kernel)?;
@@ -123,7 +124,35 @@ fn all_waits(
     Ok(waits)
 }
 
-/// The ticks of the kernels, whose steps aren't counted.
+/// What is so for ever in the run of a kernel that has done no tick yet, by what is seen in so many.
+fn told_by<L: Ledger>(
+    alloc: Global,
+    kernel: &mut Kernel,
+    mut watching: Watching,
+    pass: SecondPass,
+    ticks: u32,
+    steps: &mut Steps<L>,
+) -> Result<Always, NoMemory>
+    requires begun { kernel.old.ticks ≡ 0 }
+    requires few { ticks ≤ MAX_RUN_TICKS }
+    requires is { IsWatching kernel.old watching }
+    requires pass { IsPass pass }
+    requires of { pass.early ≡ loaded_of kernel.old }
+    ensures { IfOk result (IsAlways (loaded_of kernel.old)) }
+{
+    told_law();
+    waits_law();
+    watching.watch(alloc, kernel, ticks, steps)?;
+    watching.searches.settle(alloc, kernel, pass, steps)?;
+    let own = watching.searches.own.as_slice();
+    let waits = all_waits(alloc, own, watching.watches.as_slice())?;
+    Ok(Always {
+        run: run_told(&watching.searches.run),
+        waits,
+    })
+}
+
+/// The same, of a kernel that is booted for it. Nobody reads how many steps it takes.
 fn watched_by<L: Ledger>(
     alloc: Global,
     loaded: Loaded,
@@ -137,23 +166,11 @@ fn watched_by<L: Ledger>(
     requires some { 0 < L.parts }
     ensures { IfOk result (IsAlways loaded) }
 {
-    told_law();
-    waits_law();
-    let mut watching = Watching::of(alloc, &loaded)?;
+    let watching = Watching::of(alloc, &loaded)?;
     let pass = SecondPass::of(alloc, &loaded)?;
     let mut steps = Steps::<L>::new(blank);
     match Kernel::boot(alloc, loaded) {
-        Ok(mut kernel) => {
-            watching.watch(alloc, &mut kernel, ticks, &mut steps)?;
-            let reached = kernel.now();
-            pass.settle(alloc, &mut watching.searches.run, reached, &mut steps)?;
-            let own = watching.searches.own.as_slice();
-            let waits = all_waits(alloc, own, watching.watches.as_slice())?;
-            Ok(Always {
-                run: run_told(&watching.searches.run),
-                waits,
-            })
-        }
+        Ok(mut kernel) => told_by(alloc, &mut kernel, watching, pass, ticks, &mut steps),
         Err(_) => Err(NoMemory),
     }
 }

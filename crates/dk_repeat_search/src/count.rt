@@ -13,6 +13,7 @@ ghost use Rattle.dk_repeat_search.specs.Counting.{CountsSome, StartsCycle};
 use dk_config::{Config, MAX_RUN_TICKS, MAX_TICKS, NoMemory};
 use dk_cycle::{Cycle, RunSearch};
 use dk_cycle_counts::{CycleCounts, MainShare};
+use dk_cycle_start::go_on;
 use dk_kernel::Kernel;
 use dk_loader::Loaded;
 use dk_repeat_report::OwnFound;
@@ -88,16 +89,6 @@ fn ticks_to_start(cycle: Cycle, now: u32) -> u32
     if over == 0 { 0 } else { cycle.length - over }
 }
 
-/// Does so many ticks.
-fn go_on<L: Ledger>(kernel: &mut Kernel, ticks: u32, steps: &mut Steps<L>)
-    requires { kernel.old.ticks + ticks ≤ MAX_TICKS }
-    ensures { kernel.new ≡ record kernel.old { ticks = kernel.old.ticks + ticks } }
-{
-    for _step in 0..ticks {
-        let _entry = kernel.tick(steps);
-    }
-}
-
 /// Does so many ticks, and counts them.
 fn count<L: Ledger>(counts: &mut CycleCounts, kernel: &mut Kernel, ticks: u32, steps: &mut Steps<L>)
     requires room { kernel.old.ticks + ticks ≤ MAX_TICKS }
@@ -124,8 +115,7 @@ pub(crate) fn count_cycle<L: Ledger>(
     requires within { cycle.start ≤ kernel.old.ticks }
     requires room { kernel.old.ticks + 2 * cycle.length ≤ MAX_TICKS }
     ensures counts { IfOk result (CountsSome kernel.old.config kernel.old.programs shares.now cycle) }
-    ensures config { OnOk result (kernel.new.config ≡ kernel.old.config) }
-    ensures programs { OnOk result (kernel.new.programs ≡ kernel.old.programs) }
+    ensures same { OnOk result (kernel.new ≡ record kernel.old { ticks = kernel.new.ticks }) }
     ensures low { OnOk result (kernel.old.ticks ≤ kernel.new.ticks) }
     ensures ticks { OnOk result (kernel.new.ticks ≤ kernel.old.ticks + 2 * cycle.length) }
 {
@@ -148,8 +138,7 @@ pub(crate) fn count_run<L: Ledger>(
     requires few { kernel.old.ticks ≤ MAX_RUN_TICKS }
     requires shares { shares.now ≡ shares_of kernel.old.config }
     ensures counted { IfOk result (IsOneCounted kernel.old.config kernel.old.programs search.now.cycle) }
-    ensures config { OnOk result (kernel.new.config ≡ kernel.old.config) }
-    ensures programs { OnOk result (kernel.new.programs ≡ kernel.old.programs) }
+    ensures same { OnOk result (kernel.new ≡ record kernel.old { ticks = kernel.new.ticks }) }
     ensures low { OnOk result (kernel.old.ticks ≤ kernel.new.ticks) }
     ensures ticks { OnOk result (kernel.new.ticks ≤ 3 * MAX_RUN_TICKS) }
 {

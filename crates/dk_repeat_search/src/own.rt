@@ -43,8 +43,7 @@ fn count_own<L: Ledger>(
     requires within { cycle.start ≤ kernel.old.ticks }
     requires room { kernel.old.ticks + 2 * cycle.length ≤ MAX_TICKS }
     ensures counted { IfOk result (UsesOne kernel.old.config kernel.old.programs process cycle) }
-    ensures config { OnOk result (kernel.new.config ≡ kernel.old.config) }
-    ensures programs { OnOk result (kernel.new.programs ≡ kernel.old.programs) }
+    ensures same { OnOk result (kernel.new ≡ record kernel.old { ticks = kernel.new.ticks }) }
     ensures low { OnOk result (kernel.old.ticks ≤ kernel.new.ticks) }
     ensures ticks { OnOk result (kernel.new.ticks ≤ kernel.old.ticks + 2 * cycle.length) }
 {
@@ -68,8 +67,7 @@ fn found_of<L: Ledger>(
     requires room { kernel.old.ticks + 2 * MAX_RUN_TICKS ≤ MAX_TICKS }
     ensures found { IfOk result (IsOneFound kernel.old.config kernel.old.programs) }
     ensures process { IfOk result (λ found. found.told.process ≡ search.now.process) }
-    ensures config { OnOk result (kernel.new.config ≡ kernel.old.config) }
-    ensures programs { OnOk result (kernel.new.programs ≡ kernel.old.programs) }
+    ensures same { OnOk result (kernel.new ≡ record kernel.old { ticks = kernel.new.ticks }) }
     ensures low { OnOk result (kernel.old.ticks ≤ kernel.new.ticks) }
     ensures ticks { OnOk result (kernel.new.ticks ≤ kernel.old.ticks + 2 * MAX_RUN_TICKS) }
 {

@@ -2,8 +2,11 @@
 ghost use Rattle.std.specs.Prelude.{◌≡◌, ◌≤◌, ◌<◌, IfOk};
 ghost use Rattle.dk_config.specs.declared.TheConstants.{MAX_RUN_TICKS};
 ghost use Rattle.dk_kernel.specs.Booting.{IsLoaded};
+ghost use Rattle.dk_cycle_start.specs.Passes.{IsPass};
+ghost use Rattle.dk_repeat_report.specs.Cycles.{shares_of};
 ghost use Rattle.dk_repeat_report.specs.Lines.{names_of};
 ghost use Rattle.dk_repeat_search.specs.Repeats.{IsRepeatsOf, KnowsReader, repeats, searched_ticks};
+ghost use Rattle.dk_repeat_search.specs.Searching.{IsSearching, loaded_of};
 ghost use Rattle.dk_repeat_search.specs.Counting.{IsFound};
 
 use crate::count::{Found, count_run, shares_of};
@@ -12,6 +15,7 @@ use crate::search::Searches;
 use dk_config::{Config, MAX_RUN_TICKS, NoMemory, Text};
 use dk_config_report::Page;
 use dk_cycle::{RunTold, run_told, told_law};
+use dk_cycle_counts::MainShare;
 use dk_cycle_start::SecondPass;
 use dk_kernel::Kernel;
 use dk_loader::Loaded;
@@ -46,8 +50,46 @@ fn names_of(alloc: Global, config: &Config) -> Result<Vec<Text>, NoMemory>
     Ok(names)
 }
 
-/// The ticks of the kernels, whose steps aren't counted: those of the searches, of the second pass, and of the cycles that are
-/// counted.
+/// What is found in so many ticks of a kernel that has done none yet: by the searches, by a second pass, and in the cycles that
+/// are counted.
+fn found_by<L: Ledger>(
+    alloc: Global,
+    kernel: &mut Kernel,
+    mut searches: Searches,
+    pass: SecondPass,
+    shares: &[MainShare],
+    ticks: u32,
+    steps: &mut Steps<L>,
+) -> Result<Found, NoMemory>
+    requires begun { kernel.old.ticks ≡ 0 }
+    requires few { ticks ≤ MAX_RUN_TICKS }
+    requires is { IsSearching kernel.old searches }
+    requires pass { IsPass pass }
+    requires of { pass.early ≡ loaded_of kernel.old }
+    requires shares { shares.now ≡ shares_of kernel.old.config }
+    ensures found { IfOk result (IsFound (loaded_of kernel.old)) }
+    ensures reader { IfOk result (λ found. KnowsReader (loaded_of kernel.old) ticks found.run) }
+{
+    searches.search(alloc, kernel, ticks, steps)?;
+    let reached = kernel.now();
+    searches.settle(alloc, kernel, pass, steps)?;
+    let counts = count_run(alloc, kernel, &searches.run, shares, steps)?;
+    let own = all_found(
+        alloc,
+        kernel,
+        searches.own.as_slice(),
+        shares,
+        reached,
+        steps,
+    )?;
+    Ok(Found {
+        run: searches.run,
+        counts,
+        own,
+    })
+}
+
+/// The same, of a kernel that is booted for it. Nobody reads how many steps it takes.
 fn searched_by<L: Ledger>(
     alloc: Global,
     loaded: Loaded,
@@ -62,36 +104,20 @@ fn searched_by<L: Ledger>(
     ensures found { IfOk result (IsFound loaded) }
     ensures reader { IfOk result (λ found. KnowsReader loaded ticks found.run) }
 {
-    let mut searches = Searches::of(alloc, &loaded)?;
+    let searches = Searches::of(alloc, &loaded)?;
     let shares = shares_of(alloc, &loaded)?;
     let pass = SecondPass::of(alloc, &loaded)?;
     let mut steps = Steps::<L>::new(blank);
     match Kernel::boot(alloc, loaded) {
-        Ok(mut kernel) => {
-            searches.search(alloc, &mut kernel, ticks, &mut steps)?;
-            let reached = kernel.now();
-            pass.settle(alloc, &mut searches.run, reached, &mut steps)?;
-            let counts = count_run(
-                alloc,
-                &mut kernel,
-                &searches.run,
-                shares.as_slice(),
-                &mut steps,
-            )?;
-            let own = all_found(
-                alloc,
-                &mut kernel,
-                searches.own.as_slice(),
-                shares.as_slice(),
-                reached,
-                &mut steps,
-            )?;
-            Ok(Found {
-                run: searches.run,
-                counts,
-                own,
-            })
-        }
+        Ok(mut kernel) => found_by(
+            alloc,
+            &mut kernel,
+            searches,
+            pass,
+            shares.as_slice(),
+            ticks,
+            &mut steps,
+        ),
         Err(_) => Err(NoMemory),
     }
 }

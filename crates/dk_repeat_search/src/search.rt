@@ -1,5 +1,5 @@
 //! The searches for the cycles of a run and of each of its processes, tick by tick.
-ghost use Rattle.std.specs.Prelude.{[], ◌∷◌, ◌≡◌, ◌+◌, ◌≤◌, ◌<◌, All, map, slice_index_or, true, None, is_some, IfOk, OnOk};
+ghost use Rattle.std.specs.Prelude.{[], ◌∷◌, ◌≡◌, ◌+◌, ◌%◌, ◌≤◌, ◌<◌, All, map, slice_index_or, true, None, is_some, IfOk, OnOk};
 ghost use Rattle.dk_config.specs.declared.TheConstants.{MAX_TICKS};
 ghost use Rattle.dk_cycle.specs.Own.{IsOwnSearch};
 ghost use Rattle.dk_kernel.specs.Booting.{IsLoaded};
@@ -7,12 +7,12 @@ ghost use Rattle.dk_repeat_search.specs.Searching.{AreOwn, process_of};
 
 use crate::states::{main_state, run_state};
 use dk_config::{MAX_TICKS, NoMemory};
-use dk_cycle::{OwnSearch, RunSearch};
-use dk_cycle_start::{programs_of, reader_of};
+use dk_cycle::{OwnSearch, ProcessState, RunSearch, stretch_law};
+use dk_cycle_start::{SecondPass, go_quietly, programs_of, reader_of};
 use dk_kernel::Kernel;
 use dk_loader::{Code, Loaded};
 use dk_steps::Steps;
-use dk_trace::Entry;
+use dk_trace::{Entry, ThreadId};
 use std::alloc::Global;
 use std::sync::ledger::Ledger;
 
@@ -49,8 +49,31 @@ fn own_searches(alloc: Global, loaded: &Loaded) -> Result<Vec<OwnSearch>, NoMemo
     Ok(own)
 }
 
-/// Looks at what the process is now, where a window of its main begins and its cycle isn't found.
-fn look_at(
+fn lesser(one: u32, other: u32) -> u32
+    ensures one { result ≤ one }
+    ensures other { result ≤ other }
+    ensures some { 1 ≤ one → 1 ≤ other → 1 ≤ result }
+{
+    if one < other { one } else { other }
+}
+
+/// Whether the process may be what it was at the tick that is kept, or is to be kept as it is now: nothing is copied for it.
+fn is_worth(search: &OwnSearch, kernel: &Kernel, tick: u32) -> bool {
+    let process = search.process;
+    if search.is_due(tick) {
+        return true;
+    }
+    let Some(context) = kernel.context(ThreadId { process, serial: 0 }) else {
+        return true;
+    };
+    let Some(words) = kernel.memory(process) else {
+        return true;
+    };
+    search.had(&context, words)
+}
+
+/// Looks at what the process is now, where a window of its main begins.
+fn look_now(
     search: &mut OwnSearch,
     alloc: Global,
     kernel: &Kernel,
@@ -58,10 +81,11 @@ fn look_at(
 ) -> Result<(), NoMemory>
     requires own { IsOwnSearch kernel.now.config kernel.now.programs kernel.now.ticks search.old }
     requires tick { tick ≡ kernel.now.ticks }
+    requires begins { tick % search.old.period ≡ 0 }
     ensures own { OnOk result (IsOwnSearch kernel.now.config kernel.now.programs kernel.now.ticks search.new) }
     ensures same { OnOk result (search.new.process ≡ search.old.process) }
 {
-    if search.is_done() || !search.begins(tick) {
+    if !is_worth(search, kernel, tick) {
         return Ok(());
     }
     if let Some(now) = main_state(alloc, kernel, search.process)? {
@@ -70,27 +94,78 @@ fn look_at(
     Ok(())
 }
 
-/// Looks at the present tick, process by process.
+/// The same, where its cycle isn't found and one begins. Answers in how many ticks the next one begins, or many where nothing is
+/// looked for.
+fn look_at(
+    search: &mut OwnSearch,
+    alloc: Global,
+    kernel: &Kernel,
+    tick: u32,
+) -> Result<u32, NoMemory>
+    requires own { IsOwnSearch kernel.now.config kernel.now.programs kernel.now.ticks search.old }
+    requires tick { tick ≡ kernel.now.ticks }
+    ensures own { OnOk result (IsOwnSearch kernel.now.config kernel.now.programs kernel.now.ticks search.new) }
+    ensures same { OnOk result (search.new.process ≡ search.old.process) }
+    ensures later { IfOk result (λ wait. 1 ≤ wait) }
+{
+    if search.is_done() {
+        return Ok(MAX_TICKS);
+    }
+    let wait = search.wait(tick);
+    if wait == search.period {
+        look_now(search, alloc, kernel, tick)?;
+    }
+    Ok(wait)
+}
+
+/// Looks at the present tick, process by process. Answers in how many ticks the next window begins in which something is looked
+/// for.
 fn look_all(
     own: &mut Vec<OwnSearch>,
     alloc: Global,
     kernel: &Kernel,
     tick: u32,
-) -> Result<(), NoMemory>
+) -> Result<u32, NoMemory>
     requires own { All (IsOwnSearch kernel.now.config kernel.now.programs kernel.now.ticks) own.old.items }
     requires tick { tick ≡ kernel.now.ticks }
     ensures own { OnOk result (All (IsOwnSearch kernel.now.config kernel.now.programs kernel.now.ticks) own.new.items) }
     ensures same { OnOk result (map process_of own.new.items ≡ map process_of own.old.items) }
+    ensures later { IfOk result (λ wait. 1 ≤ wait) }
 {
+    let mut least = MAX_TICKS;
     for search in own.iter_mut() {
-        look_at(search, alloc, kernel, tick)?;
+        least = lesser(least, look_at(search, alloc, kernel, tick)?);
     }
-    Ok(())
+    Ok(least)
+}
+
+/// Whether the process may be what it was then: its memory, and the context of its main.
+fn may_be(state: &ProcessState, kernel: &Kernel, process: u8) -> bool {
+    let Some(context) = kernel.context(ThreadId { process, serial: 0 }) else {
+        return true;
+    };
+    let Some(words) = kernel.memory(process) else {
+        return true;
+    };
+    state.had(&context, words)
+}
+
+/// Whether each process may be what it was then.
+fn all_may_be(states: &[ProcessState], kernel: &Kernel, processes: u8) -> bool {
+    for process in 0..processes {
+        if let Some(state) = states.get(process as usize) {
+            if !may_be(state, kernel, process) {
+                return false;
+            }
+        }
+    }
+    true
 }
 
 impl Searches {
     ghost use Rattle.dk_kernel.specs.Running.{trace_of};
-    ghost use Rattle.dk_repeat_search.specs.Searching.{IsSearching, begun};
+    ghost use Rattle.dk_repeat_search.specs.Searching.{HasSettled, IsSearching, begun, loaded_of};
+    ghost use Rattle.dk_cycle_start.specs.Passes.{IsPass};
 
     /// The searches before the first tick.
     pub(crate) fn of(alloc: Global, loaded: &Loaded) -> Result<Searches, NoMemory>
@@ -104,30 +179,65 @@ impl Searches {
         })
     }
 
-    /// Looks at what the run is now, where the windows of all levels begin and its cycle isn't found.
-    fn look_at_run(&mut self, alloc: Global, kernel: &Kernel, tick: u32) -> Result<(), NoMemory>
+    /// Whether the run may be what it was at the tick that is kept, or is to be kept as it is now: nothing is copied for it.
+    fn is_worth(&self, kernel: &Kernel, tick: u32, processes: u8) -> bool {
+        if self.run.is_due(tick) {
+            return true;
+        }
+        match &self.run.saved {
+            None => true,
+            Some(saved) => {
+                self.run.kept && all_may_be(saved.processes.as_slice(), kernel, processes)
+            }
+        }
+    }
+
+    /// Looks at what the run is now, where the windows of all levels begin.
+    fn look_now(&mut self, alloc: Global, kernel: &Kernel, tick: u32) -> Result<(), NoMemory>
         requires is { IsSearching kernel.now self.old }
         requires tick { tick ≡ kernel.now.ticks }
+        requires begins { tick % self.old.run.longest ≡ 0 }
         ensures { OnOk result (IsSearching kernel.now self.new) }
     {
-        if self.run.is_done() || !self.run.begins(tick) {
+        kernel.dispatcher();
+        let processes = self.own.len() as u8;
+        if !self.is_worth(kernel, tick, processes) {
             return Ok(());
         }
-        kernel.dispatcher();
-        if let Some(now) = run_state(alloc, kernel, self.own.len() as u8)? {
+        if let Some(now) = run_state(alloc, kernel, processes)? {
             self.run.look(now);
         }
         Ok(())
     }
 
-    /// Looks at the present tick.
-    pub(crate) fn look(&mut self, alloc: Global, kernel: &Kernel) -> Result<(), NoMemory>
+    /// The same, where its cycle isn't found and they begin. Answers in how many ticks they begin next, or many where nothing is
+    /// looked for.
+    fn look_at_run(&mut self, alloc: Global, kernel: &Kernel, tick: u32) -> Result<u32, NoMemory>
+        requires is { IsSearching kernel.now self.old }
+        requires tick { tick ≡ kernel.now.ticks }
+        ensures is { OnOk result (IsSearching kernel.now self.new) }
+        ensures later { IfOk result (λ wait. 1 ≤ wait) }
+    {
+        if self.run.is_done() {
+            return Ok(MAX_TICKS);
+        }
+        let wait = self.run.wait(tick);
+        if wait == self.run.longest {
+            self.look_now(alloc, kernel, tick)?;
+        }
+        Ok(wait)
+    }
+
+    /// Looks at the present tick. Answers in how many ticks the next one comes at which something is looked for.
+    pub(crate) fn look(&mut self, alloc: Global, kernel: &Kernel) -> Result<u32, NoMemory>
         requires { IsSearching kernel.now self.old }
-        ensures { OnOk result (IsSearching kernel.now self.new) }
+        ensures is { OnOk result (IsSearching kernel.now self.new) }
+        ensures later { IfOk result (λ wait. 1 ≤ wait) }
     {
         let tick = kernel.now();
-        self.look_at_run(alloc, kernel, tick)?;
-        look_all(&mut self.own, alloc, kernel, tick)
+        let run = self.look_at_run(alloc, kernel, tick)?;
+        let own = look_all(&mut self.own, alloc, kernel, tick)?;
+        Ok(lesser(run, own))
     }
 
     /// Whether nothing is looked for any more.
@@ -138,6 +248,7 @@ impl Searches {
     }
 
     /// Does one tick, and hands its entry back.
+    #[inline(always)]
     pub(crate) fn follow<L: Ledger>(&mut self, kernel: &mut Kernel, steps: &mut Steps<L>) -> Entry
         requires room { kernel.old.ticks < MAX_TICKS }
         requires is { IsSearching kernel.old self.old }
@@ -152,6 +263,39 @@ impl Searches {
         entry
     }
 
+    /// Does some ticks, at least one and at most so many: at once where nobody is at a kernel call in them.
+    #[inline(always)]
+    fn advance<L: Ledger>(&mut self, kernel: &mut Kernel, most: u32, steps: &mut Steps<L>) -> u32
+        requires some { 1 ≤ most }
+        requires room { kernel.old.ticks + most ≤ MAX_TICKS }
+        requires is { IsSearching kernel.old self.old }
+        ensures some { 1 ≤ result }
+        ensures few { result ≤ most }
+        ensures next { kernel.new ≡ record kernel.old { ticks = kernel.old.ticks + result } }
+        ensures is { IsSearching kernel.new self.new }
+    {
+        stretch_law();
+        let quiet = go_quietly(kernel, most, steps);
+        if quiet > 0 {
+            return quiet;
+        }
+        self.follow(kernel, steps);
+        1
+    }
+
+    /// Does so many ticks.
+    fn go_on<L: Ledger>(&mut self, kernel: &mut Kernel, ticks: u32, steps: &mut Steps<L>)
+        requires room { kernel.old.ticks + ticks ≤ MAX_TICKS }
+        requires is { IsSearching kernel.old self.old }
+        ensures next { kernel.new ≡ record kernel.old { ticks = kernel.old.ticks + ticks } }
+        ensures is { IsSearching kernel.new self.new }
+    {
+        let mut left = ticks;
+        while left > 0 {
+            left -= self.advance(kernel, left, steps);
+        }
+    }
+
     /// Does up to so many ticks, and looks for the cycles that end in them. `Err` is want of memory.
     pub(crate) fn search<L: Ledger>(
         &mut self,
@@ -163,19 +307,40 @@ impl Searches {
         requires room { kernel.old.ticks + ticks ≤ MAX_TICKS }
         requires is { IsSearching kernel.old self.old }
         ensures is { OnOk result (IsSearching kernel.new self.new) }
-        ensures config { kernel.new.config ≡ kernel.old.config }
-        ensures programs { kernel.new.programs ≡ kernel.old.programs }
+        ensures same { kernel.new ≡ record kernel.old { ticks = kernel.new.ticks } }
         ensures ticks { kernel.new.ticks ≤ kernel.old.ticks + ticks }
         ensures all { OnOk result (self.new.run.cycle ≡ None → kernel.new.ticks ≡ kernel.old.ticks + ticks) }
     {
-        self.look(alloc, kernel)?;
-        for step in 0..ticks {
+        let mut wait = self.look(alloc, kernel)?;
+        let mut left = ticks;
+        while left > 0 {
             if self.is_done() {
                 return Ok(());
             }
-            let _entry = self.follow(kernel, steps);
-            self.look(alloc, kernel)?;
+            let few = lesser(wait, left);
+            self.go_on(kernel, few, steps);
+            left -= few;
+            wait = self.look(alloc, kernel)?;
         }
+        Ok(())
+    }
+
+    /// Lets the cycle of the run start where it first can. `Err` is want of memory.
+    pub(crate) fn settle<L: Ledger>(
+        &mut self,
+        alloc: Global,
+        kernel: &Kernel,
+        pass: SecondPass,
+        steps: &mut Steps<L>,
+    ) -> Result<(), NoMemory>
+        requires pass { IsPass pass }
+        requires of { pass.early ≡ loaded_of kernel.now }
+        requires few { kernel.now.ticks ≤ MAX_TICKS }
+        requires is { IsSearching kernel.now self.old }
+        ensures { OnOk result (HasSettled kernel.now self.old self.new) }
+    {
+        let reached = kernel.now();
+        pass.settle(alloc, &mut self.run, reached, steps)?;
         Ok(())
     }
 }

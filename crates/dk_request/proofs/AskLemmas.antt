@@ -1,15 +1,6 @@
 -- Asks, as words spell them and as the planner takes them.
-use Rattle.std.proofs.Common.{ℕ, ◌≡◌, ◌≤◌, ◌↔◌, Bool, true, false, List, [], ◌∷◌, ◌++◌, length, refl, sym, ap, arith, append_assoc, inl, inr}
-use Rattle.std.specs.Prelude.{◌&&◌, nat_le, IsTrue, Option, Some, None, option_map, slice_index_or}
-use Rattle.std.specs.List.{list_all}
-use Rattle.std.proofs.lemmas.Bool.{cases_Bool, and_parts, and_from, false≢true}
-use Rattle.std.proofs.lemmas.Bool.Decides.{nat_tests}
-use Rattle.std.proofs.lemmas.List.Sums.{AllPass-from_list_all, list_all-from_AllPass}
-use Rattle.dk_config.specs.declared.TheConstants.{MAX_SPAN}
-use Rattle.dk_plan.specs.declared.TheConstants.{MAX_ASKS}
-use Rattle.dk_plan.specs.declared.harmonising.Ask.{Ask}
-use Rattle.dk_plan.specs.Base.{AreAsks, IsAsk}
-use Rattle.dk_request.specs.Meaning.{are_asks, ask_in, asks_in, is_ask}
+use Rattle.dk_request.proofs.Names.{ℕ, ◌≡◌, ◌≤◌, ◌↔◌, Bool, true, false, List, [], ◌∷◌, ◌++◌, length, refl, sym, ap, arith, append_assoc, inl, inr, nat_le, IsTrue, None, option_map, slice_index_or, list_all, cases_Bool, and_parts, and_from, false≢true, nat_tests, AllPass-from_list_all, list_all-from_AllPass, MAX_SPAN, MAX_ASKS, Ask, AreAsks, IsAsk, are_asks, ask_in, asks_in, is_ask}
+use Rattle.std.specs.Prelude.{◌&&◌, Option, Some}
 
 is_ask_so : (hi : ℕ) (a : Ask) → is_ask hi a ≡ true → IsAsk hi a
 is_ask_so hi a h =

@@ -1,17 +1,6 @@
 -- What `clap` has found of the words so far.
-use Rattle.std.proofs.Common.{ℕ, zero, suc, ◌+◌, ◌≤◌, ◌<◌, ◌==◌, ◌&&◌, ◌≡◌, ◌∙◌, Bool, true, false, List, [], ◌∷◌, ◌++◌, Option, Some, None, length, drop, refl, sym, ap, subst, arith, codes, inl, inr, length-append, drop_of_length-le}
-use Rattle.std.specs.Prelude.{if◌then◌else◌}
-use Rattle.std.specs.Str.{bytes_eq}
-use Rattle.std.proofs.lemmas.Bool.{cases_Bool, and_parts, cases_order, cases_eq}
-use Rattle.std.proofs.lemmas.Bool.Decides.{nat_tests}
-use Rattle.std.proofs.lemmas.List.{drop-append-le, drop_at, length-drop, take-append-le}
-use Rattle.std.proofs.lemmas.Slice.Eq.{bytes_eq-Decides}
-use Rattle.clap.specs.Words.{Row as Entry, Text}
-use Rattle.clap.specs.Walk.{Held, arg_by_id, arg_by_index, arg_by_long, nothing_held, pushed, reacted, settled, used, with_values}
-use Rattle.clap.specs.Takes.{settle_passes, use_passes}
-use Rattle.clap.specs.declared.builder.value_parser.Reading.TheVariants.{AsWritten}
-use Rattle.clap.specs.declared.parser.matches.ValueSource.TheVariants.{CommandLine}
-use Rattle.dk_request.specs.Synopsis.{Synopsis, are_apart, is_synopsis, words_at}
+use Rattle.dk_request.proofs.Names.{ℕ, zero, suc, ◌+◌, ◌≤◌, ◌<◌, ◌==◌, ◌&&◌, ◌≡◌, ◌∙◌, Bool, true, false, List, [], ◌∷◌, ◌++◌, Option, Some, length, drop, refl, sym, ap, subst, arith, codes, inl, inr, length-append, drop_of_length-le, if◌then◌else◌, bytes_eq, cases_Bool, and_parts, cases_order, cases_eq, nat_tests, drop-append-le, drop_at, length-drop, take-append-le, bytes_eq-Decides, Entry, Text, Held, arg_by_id, arg_by_index, arg_by_long, nothing_held, pushed, reacted, settled, used, with_values, settle_passes, use_passes, AsWritten, CommandLine, Synopsis, are_apart, is_synopsis, words_at}
+use Rattle.std.proofs.Common.{None}
 use Rattle.dk_request.proofs.ClapRules.{apart_at, filled_flag, find_index, find_name, is_many, name_at, placed, placed_from, rest_for, rules_for, same_name}
 use Rattle.dk_request.proofs.ClapRows.{first_row, new_row, next_row, no_row, none_without, other_row, row_at}
 

@@ -1,24 +1,6 @@
 -- The words that a row takes are taken by `clap`, and its matches are these words.
-use Rattle.std.proofs.Common.{ℕ, suc, ◌+◌, ◌≤◌, ◌<◌, ◌==◌, ◌&&◌, ◌||◌, not, ◌≡◌, ◌∙◌, Bool, true, false, cond, List, [], ◌∷◌, ◌++◌, Some, length, drop, take, refl, sym, ap, subst, arith, codes, inl, inr}
-use Rattle.std.specs.Prelude.{if◌then◌else◌, fold, nat_lt, nat_le, option_and_then, option_map}
-use Rattle.std.specs.Option.{option_map_or}
-use Rattle.std.proofs.lemmas.List.{length-drop, length-take, take-append-drop, take_all}
-use Rattle.std.proofs.Math.Seq.{take-add}
-use Rattle.clap.specs.Facts.{explicit_source}
-use Rattle.clap.proofs.TakesLemmas.{leaf_takes}
-use Rattle.std.specs.List.{list_all}
-use Rattle.std.specs.Str.{bytes_eq}
-use Rattle.std.proofs.lemmas.Bool.{cases_Bool, and_parts, and_from, and_right}
-use Rattle.std.proofs.lemmas.Bool.Decides.{nat_tests}
-use Rattle.clap.specs.Words.{Row as Entry, Rule, Text, all_of, built, is_simple, matches_of, one_of, takes}
-use Rattle.dk_plan.specs.declared.TheConstants.{MAX_ASKS}
+use Rattle.dk_request.proofs.Names.{ℕ, suc, ◌+◌, ◌≤◌, ◌<◌, ◌==◌, ◌&&◌, ◌||◌, not, ◌≡◌, ◌∙◌, Bool, true, false, cond, List, [], ◌∷◌, ◌++◌, Some, length, drop, take, refl, sym, ap, subst, arith, codes, inl, inr, if◌then◌else◌, fold, nat_lt, nat_le, option_and_then, option_map, option_map_or, length-drop, length-take, take-append-drop, take_all, take-add, explicit_source, leaf_takes, list_all, bytes_eq, cases_Bool, and_parts, and_from, and_right, nat_tests, Entry, Rule, Text, all_of, built, is_simple, matches_of, one_of, takes, MAX_ASKS, finished, has_row, idle, nothing_held, settled, row_text, walk, with_default, with_values, default_passes, is_given, is_valid, level_passes, AsWritten, DefaultValue, Synopsis, are_taken, fits, flags, is_allowed, is_empty, is_flag, is_synopsis, positionals, words_at, words_up_to, is_last, simple_command}
 use Rattle.dk_request.proofs.ClapTurns.{resting}
-use Rattle.clap.specs.Walk.{finished, has_row, idle, nothing_held, settled, row_text, walk, with_default, with_values}
-use Rattle.clap.specs.Takes.{default_passes, is_given, is_valid, level_passes}
-use Rattle.clap.specs.declared.builder.value_parser.Reading.TheVariants.{AsWritten}
-use Rattle.clap.specs.declared.parser.matches.ValueSource.TheVariants.{DefaultValue}
-use Rattle.dk_request.specs.Synopsis.{Synopsis, are_taken, fits, flags, is_allowed, is_empty, is_flag, is_synopsis, positionals, words_at, words_up_to}
-use Rattle.dk_request.specs.SimpleCommand.{is_last, simple_command}
 use Rattle.dk_request.proofs.ClapRules.{each_rule, filled_flag, filled_help, is_many, name_at, placed, placed_from, rest_for, rules_for, rules_is, simple_is}
 use Rattle.dk_request.proofs.ClapRows.{a_row, first_row, no_row, other_row, row_at}
 use Rattle.dk_request.proofs.ClapFound.{found, flag_found, not_flag, start}

@@ -1,13 +1,6 @@
 -- What is found of an argument after it was used, and what is found of the others.
-use Rattle.std.proofs.Common.{◌≡◌, true, false, cond, List, [], ◌∷◌, ◌++◌, Option, Some, None, refl, ap, inl, inr}
-use Rattle.std.specs.Prelude.{find}
-use Rattle.std.specs.Str.{bytes_eq}
-use Rattle.std.proofs.lemmas.Bool.{cases_Bool}
-use Rattle.std.proofs.lemmas.Slice.Eq.{bytes_eq-Decides}
-use Rattle.clap.specs.Words.{Row, Text}
-use Rattle.clap.specs.Walk.{has_row, stronger, with_values, without}
-use Rattle.clap.specs.declared.builder.value_parser.Reading.{Reading}
-use Rattle.clap.specs.declared.parser.matches.ValueSource.{ValueSource}
+use Rattle.dk_request.proofs.Names.{◌≡◌, true, false, cond, List, [], ◌∷◌, ◌++◌, Option, Some, refl, ap, inl, inr, find, bytes_eq, cases_Bool, bytes_eq-Decides, Row, Text, has_row, stronger, with_values, without, Reading, ValueSource}
+use Rattle.std.proofs.Common.{None}
 
 -- the row of an id
 abbrev pub row_at : Text → List Row → Option Row

@@ -1,19 +1,6 @@
 -- The simple command of a row, as `clap` builds it: its rules, one after another.
-use Rattle.std.proofs.Common.{ℕ, zero, suc, ◌+◌, min, append_assoc, zero-add, ◌≤◌, ◌<◌, ◌==◌, ◌&&◌, not, ◌≡◌, ◌∙◌, Bool, true, false, cond, List, [], ◌∷◌, ◌++◌, Some, is_some, length, take, refl, sym, ap, ap₂, arith}
-use Rattle.std.specs.Prelude.{if◌then◌else◌, find, fold, slice_index_or}
-use Rattle.std.specs.List.{list_all, list_any}
-use Rattle.std.specs.Option.{option_map_or}
-use Rattle.std.specs.Str.{bytes_eq}
-use Rattle.std.proofs.lemmas.Bool.{and_parts, and_from}
-use Rattle.std.proofs.lemmas.List.Folds.{list_all-append}
-use Rattle.std.proofs.lemmas.Bool.Decides.{nat_tests}
-use Rattle.std.proofs.lemmas.Slice.Eq.{bytes_eq-Decides}
-use Rattle.clap.specs.Words.{App, Rule, Text, built, is_simple, with_rule}
-use Rattle.clap.specs.Walk.{is_early_multiple}
-use Rattle.clap.specs.Simple.{filled, filled_from, help_rule, is_in_order, with_index}
+use Rattle.dk_request.proofs.Names.{ℕ, zero, suc, ◌+◌, min, append_assoc, zero-add, ◌≤◌, ◌<◌, ◌==◌, ◌&&◌, not, ◌≡◌, ◌∙◌, Bool, true, false, cond, List, [], ◌∷◌, ◌++◌, Some, is_some, length, take, refl, sym, ap, ap₂, arith, if◌then◌else◌, find, fold, slice_index_or, list_all, list_any, option_map_or, bytes_eq, and_parts, and_from, list_all-append, nat_tests, bytes_eq-Decides, App, Rule, Text, built, is_simple, with_rule, is_early_multiple, filled, filled_from, help_rule, is_in_order, with_index, Synopsis, are_apart, argument, arguments, flag, flags_for, is_last, simple_command, with_rules}
 use Rattle.clap.specs.declared.builder.value_parser.ValueParser.TheVariants as vp
-use Rattle.dk_request.specs.Synopsis.{Synopsis, are_apart}
-use Rattle.dk_request.specs.SimpleCommand.{argument, arguments, flag, flags_for, is_last, simple_command, with_rules}
 
 -- an argument at its place, as `clap` fills it in
 abbrev pub placed : Bool → ℕ → Text → Rule

@@ -1,11 +1,7 @@
 -- What `clap` makes of one word that a row takes.
-use Rattle.std.proofs.Common.{ℕ, ◌+◌, ◌==◌, ◌&&◌, ◌≡◌, Bool, true, false, List, [], ◌∷◌, Some, None, min, refl, codes}
-use Rattle.std.specs.Prelude.{if◌then◌else◌}
-use Rattle.std.proofs.lemmas.Bool.{and_right, or_right}
-use Rattle.clap.specs.Words.{Rule, Text}
-use Rattle.clap.specs.Walk.{Held, Walk, Waiting, idle, option, positional, arg_by_index, arg_by_long, is_pending, pushed, reacted, settled, walked}
-use Rattle.clap.specs.Simple.{Shape}
-use Rattle.clap.specs.Takes.{settle_passes, turn_passes}
+use Rattle.dk_request.proofs.Names.{ℕ, ◌+◌, ◌==◌, ◌&&◌, ◌≡◌, Bool, true, false, List, [], ◌∷◌, Some, min, refl, codes, if◌then◌else◌, and_right, or_right, Rule, Text, Held, Walk, Waiting, idle, option, positional, arg_by_index, arg_by_long, is_pending, pushed, reacted, settled, Shape, settle_passes, turn_passes}
+use Rattle.clap.specs.Walk.{walked}
+use Rattle.std.proofs.Common.{None}
 use Rattle.dk_request.proofs.ClapRules.{placed, filled_flag}
 use Rattle.dk_request.proofs.ClapRows.{row_at, no_row}
 

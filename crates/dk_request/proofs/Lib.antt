@@ -1,3 +1,4 @@
+pub mod Names
 pub mod WordLemmas
 pub mod ClapRules
 pub mod ClapRows

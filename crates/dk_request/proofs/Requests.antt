@@ -1,18 +1,8 @@
 -- What is asked has few ticks, and its asks fit.
-use Rattle.std.proofs.Common.{ℕ, ◌≡◌, ◌≤◌, Bool, true, false, List, refl, subst, sym, arith}
-use Rattle.std.proofs.lemmas.Bool.{and_parts}
-use Rattle.std.proofs.lemmas.Bool.Decides.{nat_tests}
-use Rattle.std.specs.Prelude.{◌&&◌, nat_le, drop, Option, Some, None, IfOk, IfSome, Result, Ok, Err, option_map, if◌then◌else◌}
-use Rattle.std.specs.Str.Parse.{digits_value}
-use Rattle.dk_config.specs.declared.TheConstants.{MAX_RUN_TICKS, MAX_SPAN}
-use Rattle.dk_asm.specs.Words.{is_numeral}
-use Rattle.dk_plan.specs.declared.harmonising.Ask.{Ask}
-use Rattle.dk_request.specs.declared.commands.Command.{Command}
+use Rattle.dk_request.proofs.Names.{ℕ, ◌≡◌, ◌≤◌, Bool, true, false, List, refl, subst, sym, arith, and_parts, nat_tests, nat_le, None, IfOk, IfSome, Result, Ok, Err, option_map, if◌then◌else◌, digits_value, MAX_RUN_TICKS, MAX_SPAN, is_numeral, Ask, Command, Output, Request, are_asks, asks_in, bound_in, gen_by, harmonise_by, number_in, output_of, request_of, ticks_in, word_at, HasFewTicks, HasFitAsks}
+use Rattle.std.specs.Prelude.{◌&&◌, drop, Option, Some}
 use Rattle.dk_request.specs.declared.commands.Command.TheVariants as command
-use Rattle.dk_request.specs.declared.output.Output.{Output}
-use Rattle.dk_request.specs.declared.request.Request.{Request}
 use Rattle.dk_request.specs.declared.request.Request.TheVariants as request
-use Rattle.dk_request.specs.Meaning.{are_asks, asks_in, bound_in, gen_by, harmonise_by, number_in, output_of, request_of, ticks_in, word_at, HasFewTicks, HasFitAsks}
 use Rattle.dk_request.proofs.AskLemmas.{are_asks_so}
 
 some_if : {A : Type 0} (P : A → Type 0) (b : Bool) (x : A) → (b ≡ true → P x) → IfSome (if b then Some x else None) P

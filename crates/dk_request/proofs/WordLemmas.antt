@@ -1,15 +1,6 @@
 -- Words as the program has them, and numbers that are spelled.
-use Rattle.std.proofs.Common.{◌≡◌, ◌<◌, ◌==◌, ◌^◌, ℕ, Bool, true, false, List, [], ◌∷◌, map, length, refl, arith, String, Global, string_bytes, inl, inr}
-use Rattle.std.specs.Prelude.{filter, not, ◌&&◌, nat_le, nat_lt, None}
-use Rattle.std.specs.List.{list_all}
-use Rattle.std.specs.Str.Parse.{AllDigits, IsNumeral, digits_value, without_leading_plus}
-use Rattle.std.specs.Char.{digit_value, is_ascii_digit}
-use Rattle.std.proofs.lemmas.Bool.{cases_Bool, and_parts, and_right}
-use Rattle.std.proofs.lemmas.Bool.Decides.{nat_tests}
-use Rattle.std.proofs.lemmas.List.Folds.{list_all-map}
-use Rattle.dk_asm.specs.Words.{is_numeral}
-use Rattle.dk_request.specs.Synopsis.{Synopsis, is_allowed, is_empty, is_flag, are_taken, fits}
-use Rattle.dk_request.specs.Meaning.{number_in}
+use Rattle.dk_request.proofs.Names.{◌≡◌, ◌<◌, ◌==◌, ◌^◌, ℕ, Bool, true, false, List, [], ◌∷◌, map, length, refl, arith, String, Global, string_bytes, inl, inr, filter, nat_le, nat_lt, None, list_all, AllDigits, IsNumeral, digits_value, without_leading_plus, digit_value, is_ascii_digit, cases_Bool, and_parts, and_right, nat_tests, list_all-map, is_numeral, Synopsis, is_allowed, is_empty, is_flag, are_taken, fits, number_in}
+use Rattle.std.specs.Prelude.{not, ◌&&◌}
 
 length-filter-map : {A B : Type 0} (f : A → B) (p : B → Bool) (xs : List A) → length (filter p (map f xs)) ≡ length (filter (λ x. p (f x)) xs)
 length-filter-map f p [] = refl

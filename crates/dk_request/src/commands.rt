@@ -1,6 +1,6 @@
 //! The commands that stand, and what may follow each command word.
-ghost use Rattle.std.specs.Prelude.{◌≡◌};
-ghost use Rattle.dk_request.specs.Commands.{synopsis_of, command_named, usage_text};
+ghost use Rattle.std.specs.Prelude.{◌≡◌, map, false, true};
+ghost use Rattle.dk_request.specs.Commands.{synopsis, synopsis_of, command_named, usage_text};
 
 use std::marker::Model;
 
@@ -59,19 +59,37 @@ impl Model for Synopsis {
     } };
 }
 
-const FILE: &[&str] = &["FILE"];
+/// A command of these arguments alone.
+fn plain(word: &'static str, names: &'static [&'static str]) -> Synopsis
+    ensures { result ≡ synopsis word.now (map (λ name. name.now) names.now) false false }
+{
+    Synopsis {
+        word,
+        names,
+        repeats: false,
+        reports: false,
+    }
+}
 
-const FILE_TICKS: &[&str] = &["FILE", "TICKS"];
+/// A command with the flag `--report`.
+fn reporting(word: &'static str, names: &'static [&'static str]) -> Synopsis
+    ensures { result ≡ synopsis word.now (map (λ name. name.now) names.now) false true }
+{
+    Synopsis {
+        reports: true,
+        ..plain(word, names)
+    }
+}
 
-const NUMBER_TICKS: &[&str] = &["NUMBER", "TICKS"];
-
-const FILE_LEDGER: &[&str] = &["FILE", "LEDGER"];
-
-const FILE_NAME: &[&str] = &["FILE", "NAME"];
-
-const FILE_TICK: &[&str] = &["FILE", "TICK"];
-
-const LO_HI_ASK: &[&str] = &["LO", "HI", "ASK"];
+/// A command whose last argument stands for several words.
+fn repeating(word: &'static str, names: &'static [&'static str]) -> Synopsis
+    ensures { result ≡ synopsis word.now (map (λ name. name.now) names.now) true false }
+{
+    Synopsis {
+        repeats: true,
+        ..plain(word, names)
+    }
+}
 
 impl Command {
     /// The command's line of the table.
@@ -79,72 +97,17 @@ impl Command {
         ensures { result ≡ synopsis_of self }
     {
         match self {
-            Command::Run => Synopsis {
-                word: "run",
-                names: FILE_TICKS,
-                repeats: false,
-                reports: true,
-            },
-            Command::Certify => Synopsis {
-                word: "certify",
-                names: FILE,
-                repeats: false,
-                reports: false,
-            },
-            Command::Gen => Synopsis {
-                word: "gen",
-                names: NUMBER_TICKS,
-                repeats: false,
-                reports: false,
-            },
-            Command::Ledger => Synopsis {
-                word: "ledger",
-                names: FILE,
-                repeats: false,
-                reports: true,
-            },
-            Command::Migrate => Synopsis {
-                word: "migrate",
-                names: FILE,
-                repeats: false,
-                reports: false,
-            },
-            Command::Asm => Synopsis {
-                word: "asm",
-                names: FILE,
-                repeats: false,
-                reports: false,
-            },
-            Command::Dis => Synopsis {
-                word: "dis",
-                names: FILE,
-                repeats: false,
-                reports: false,
-            },
-            Command::Audit => Synopsis {
-                word: "audit",
-                names: FILE_LEDGER,
-                repeats: false,
-                reports: false,
-            },
-            Command::Plan => Synopsis {
-                word: "plan",
-                names: FILE_NAME,
-                repeats: false,
-                reports: false,
-            },
-            Command::Harmonise => Synopsis {
-                word: "harmonise",
-                names: LO_HI_ASK,
-                repeats: true,
-                reports: false,
-            },
-            Command::Inspect => Synopsis {
-                word: "inspect",
-                names: FILE_TICK,
-                repeats: false,
-                reports: false,
-            },
+            Command::Run => reporting("run", &["FILE", "TICKS"]),
+            Command::Certify => plain("certify", &["FILE"]),
+            Command::Gen => plain("gen", &["NUMBER", "TICKS"]),
+            Command::Ledger => reporting("ledger", &["FILE"]),
+            Command::Migrate => plain("migrate", &["FILE"]),
+            Command::Asm => plain("asm", &["FILE"]),
+            Command::Dis => plain("dis", &["FILE"]),
+            Command::Audit => plain("audit", &["FILE", "LEDGER"]),
+            Command::Plan => plain("plan", &["FILE", "NAME"]),
+            Command::Harmonise => repeating("harmonise", &["LO", "HI", "ASK"]),
+            Command::Inspect => plain("inspect", &["FILE", "TICK"]),
         }
     }
 

@@ -1,22 +1,6 @@
 -- What one writing leaves, seen as what the call leaves.
-use Rattle.std.proofs.Common.{◌≡◌, ℕ, List, sym, subst, inl, inr, true, false}
-use Rattle.std.specs.Prelude.{Option, Some, None, Result, Ok, Err, IfSome}
-use Rattle.std.proofs.lemmas.Bool.{cases_Bool}
-use Rattle.dk_outside.specs.Views.{SinkView}
-use Rattle.dk_inputs.specs.declared.refusal.Refusal.{Refusal}
-use Rattle.dk_inputs.specs.declared.status.Status.{Status}
+use Rattle.dk_session.proofs.Names.{◌≡◌, ℕ, List, sym, subst, inl, inr, true, false, Option, Some, None, Result, Ok, Err, IfSome, cases_Bool, SinkView, Refusal, Status, is_silent, refusal_status, usage_text, Comes, Says, SomeFails, Job, planned, Files, Refuses, Tells, HasText, SomeDoes, Work, some_map, IsSilent, Leaves, StandsInOutput}
 use Rattle.dk_inputs.specs.declared.status.Status.TheVariants as status
-use Rattle.dk_inputs.specs.Answer.{is_silent, refusal_status}
-use Rattle.dk_request.specs.Commands.{usage_text}
-use Rattle.dk_command.specs.Output.{Comes, Says, SomeFails}
-use Rattle.dk_inputs.specs.Plan.{Job, planned}
-use Rattle.dk_inputs.specs.Reads.{Files}
-use Rattle.dk_inputs.specs.Follows.{Refuses, Tells}
-use Rattle.dk_command.specs.Work.{HasText, SomeDoes}
-use Rattle.dk_command.specs.declared.work.Work.{Work}
-use Rattle.dk_inputs.proofs.FollowLemmas.{some_map}
-use Rattle.dk_session.specs.Leaves.{IsSilent, Leaves}
-use Rattle.dk_session.specs.Headline.{StandsInOutput}
 use Rattle.dk_session.proofs.Statuses.{answer_speaks, silent_status}
 
 module _ {S : Type 0} (seen : S → SinkView) where

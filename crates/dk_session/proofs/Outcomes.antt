@@ -1,22 +1,7 @@
 -- A job that can't be done has no text, and the refusal is of the program's status.
-use Rattle.std.proofs.Common.{◌≡◌, ◌∙◌, ℕ, List, refl, sym, ap, subst, inl, inr}
-use Rattle.std.specs.Prelude.{Option, Some, None, Result, Ok, Err}
-use Rattle.dk_inputs.specs.declared.refusal.Refusal.{Refusal}
+use Rattle.dk_session.proofs.Names.{◌≡◌, ◌∙◌, ℕ, List, refl, sym, ap, subst, inl, inr, Option, Some, None, Result, Ok, Err, Refusal, Status, refusal_status, Comes, Fails, IsFoundIn, IsText, Job, ledger, source, findings, Configuration, Journal, one_text, Finding, IsFinding, one, Outcome, one_outcome, IsRefusedFor}
 use Rattle.dk_inputs.specs.declared.refusal.Refusal.TheVariants as why
-use Rattle.dk_inputs.specs.declared.status.Status.{Status}
 use Rattle.dk_inputs.specs.declared.status.Status.TheVariants as status
-use Rattle.dk_inputs.specs.Answer.{refusal_status}
-use Rattle.dk_command.specs.Output.{Comes, Fails, IsFoundIn, IsText}
-use Rattle.dk_inputs.specs.Plan.{Job, ledger, source, findings}
-use Rattle.dk_config.specs.Configuration.{Configuration}
-use Rattle.dk_ledger.specs.Readable.{Journal}
-use Rattle.dk_ledger.proofs.Readings.{one_text}
-use Rattle.dk_audit.specs.declared.finding.Finding.{Finding}
-use Rattle.dk_audit.specs.Findings.{IsFinding}
-use Rattle.dk_audit.proofs.One.{one}
-use Rattle.dk_asm.specs.Source.{Outcome}
-use Rattle.dk_asm.proofs.Outcomes.{one_outcome}
-use Rattle.dk_session.specs.Causes.{IsRefusedFor}
 
 -- an audit of the same bytes finds one thing
 one_found : (c : Configuration) (bytes : List ℕ) (f g : Finding) → IsFoundIn c bytes f → IsFoundIn c bytes g → f ≡ g

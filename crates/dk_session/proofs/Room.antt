@@ -1,17 +1,6 @@
 -- A sink in memory with room for the output doesn't fail.
-use Rattle.std.proofs.Common.{◌≡◌, ◌∙◌, ◌<◌, ◌≤◌, ◌++◌, ℕ, zero, suc, List, length, take, refl, sym, ap, arith}
-use Rattle.std.specs.Prelude.{Some}
-use Rattle.std.proofs.lemmas.List.{length-take}
-use Rattle.dk_outside.specs.MemSink.{mem_bytes, mem_capacity, mem_sink_view, sink_faults}
-use Rattle.dk_outside.specs.Written.{Appends}
-use Rattle.dk_outside.specs.declared.mem_sink.MemSink.{MemSink}
-use Rattle.dk_inputs.specs.declared.status.Status.{Status}
+use Rattle.dk_session.proofs.Names.{◌≡◌, ◌∙◌, ◌<◌, ◌≤◌, ◌++◌, ℕ, zero, suc, List, length, take, refl, sym, ap, arith, Some, length-take, mem_bytes, mem_capacity, mem_sink_view, sink_faults, Appends, MemSink, Status, IsOutput, Files, Leaves, StandsInOutput, HasRoom}
 use Rattle.dk_inputs.specs.declared.status.Status.TheVariants as status
-use Rattle.dk_command.specs.Output.{IsOutput}
-use Rattle.dk_inputs.specs.Reads.{Files}
-use Rattle.dk_session.specs.Leaves.{Leaves}
-use Rattle.dk_session.specs.Headline.{StandsInOutput}
-use Rattle.dk_session.specs.Complete.{HasRoom}
 
 -- a sink that isn't full has no faults
 unfull : (faults filled capacity : ℕ) → (0 < faults → filled ≡ capacity) → filled < capacity → faults ≡ 0

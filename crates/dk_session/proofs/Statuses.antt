@@ -1,12 +1,7 @@
 -- What a status says of the refusal that it comes from.
-use Rattle.std.proofs.Common.{◌≡◌, true}
-use Rattle.dk_inputs.specs.declared.refusal.Refusal.{Refusal}
+use Rattle.dk_session.proofs.Names.{◌≡◌, true, Refusal, Status, is_silent, refusal_status, IsAnswer, IsSilent}
 use Rattle.dk_inputs.specs.declared.refusal.Refusal.TheVariants as why
-use Rattle.dk_inputs.specs.declared.status.Status.{Status}
 use Rattle.dk_inputs.specs.declared.status.Status.TheVariants as status
-use Rattle.dk_inputs.specs.Answer.{is_silent, refusal_status}
-use Rattle.dk_command.specs.Output.{IsAnswer}
-use Rattle.dk_session.specs.Leaves.{IsSilent}
 
 -- no refusal ends as done
 pub never_done : (e : Refusal) → status.Done ≡ refusal_status e → ⊥

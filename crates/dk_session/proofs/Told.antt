@@ -1,24 +1,6 @@
 -- What the plan and the writing tell together.
-use Rattle.std.proofs.Common.{◌≡◌, ◌∙◌, ℕ, List, refl, sym, subst, inl, inr, true}
-use Rattle.std.specs.Prelude.{Option, Some, None, Ok, Err, IfOk, IfSome}
-use Rattle.dk_outside.specs.Counts.{Rises}
-use Rattle.dk_outside.specs.Views.{SinkView}
-use Rattle.dk_inputs.specs.declared.refusal.Refusal.{Refusal}
-use Rattle.dk_inputs.specs.declared.status.Status.{Status}
+use Rattle.dk_session.proofs.Names.{◌≡◌, ◌∙◌, ℕ, List, refl, sym, subst, inl, inr, true, Option, Some, None, Ok, Err, IfOk, IfSome, Rises, SinkView, Refusal, Status, Work, is_silent, refusal_status, IsAnswer, Says, SomeFails, Job, planned, Keeps, Files, Tells, SomeDoes, Leaves, GivesExactly, StandsInOutput, WasReceivedBoundedGranted, IsExactly, HasDoneOutput, IsDoneOrNoMemory, Unfailing, some_all, some_map}
 use Rattle.dk_inputs.specs.declared.status.Status.TheVariants as status
-use Rattle.dk_command.specs.declared.work.Work.{Work}
-use Rattle.dk_inputs.specs.Answer.{is_silent, refusal_status}
-use Rattle.dk_command.specs.Output.{IsAnswer, Says, SomeFails}
-use Rattle.dk_inputs.specs.Plan.{Job, planned}
-use Rattle.dk_command.specs.Promises.{Keeps}
-use Rattle.dk_inputs.specs.Reads.{Files}
-use Rattle.dk_inputs.specs.Follows.{Tells}
-use Rattle.dk_command.specs.Work.{SomeDoes}
-use Rattle.dk_session.specs.Leaves.{Leaves}
-use Rattle.dk_session.specs.Headline.{GivesExactly, StandsInOutput, WasReceivedBoundedGranted}
-use Rattle.dk_session.specs.Causes.{IsExactly}
-use Rattle.dk_session.specs.Complete.{HasDoneOutput, IsDoneOrNoMemory, Unfailing}
-use Rattle.dk_inputs.proofs.FollowLemmas.{some_all, some_map}
 use Rattle.dk_session.proofs.Leaving.{is_loud}
 use Rattle.dk_session.proofs.Outcomes.{one_status, refused_for, status_is}
 use Rattle.dk_session.proofs.Statuses.{never_done, never_usage}

@@ -19,11 +19,13 @@ use Rattle.dk_needs_check.specs.declared.unknown.Unknown.{Unknown}
 use Rattle.dk_needs_check.specs.declared.unknown.Checking.TheVariants as checking
 use Rattle.dk_needs_always.specs.Asking.{asks_always}
 use Rattle.dk_needs_always.specs.Deciding.{AreDecided}
-use Rattle.dk_needs_check.specs.Csv.{needs_csv}
-use Rattle.dk_needs_check.specs.Junit.{needs_junit}
-use Rattle.dk_needs_check.specs.Names.{process_names}
-use Rattle.dk_needs_check.specs.Text.{are_met, needs_text}
-use Rattle.dk_needs_check.specs.Unknown.{IsCheck, unknown_page}
+use Rattle.dk_needs_check.specs.Bounds.{are_met}
+use Rattle.dk_needs_check.specs.Unknown.{IsCheck}
+use Rattle.dk_needs_text.specs.Csv.{needs_csv}
+use Rattle.dk_needs_text.specs.Junit.{needs_junit}
+use Rattle.dk_needs_text.specs.Names.{process_names}
+use Rattle.dk_needs_text.specs.Text.{needs_text}
+use Rattle.dk_needs_text.specs.Unknown.{unknown_page}
 use Rattle.dk_needs_report.specs.Telling.{IsFaultsText}
 use Rattle.dk_document_report.specs.Telling.{IsNotTomlText}
 use Rattle.dk_needs_run.specs.Rows.{IsRunCheck}

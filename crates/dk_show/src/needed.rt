@@ -3,7 +3,7 @@ ghost use Rattle.std.specs.Prelude.{◌≡◌, ◌≢◌, ◌≤◌, All, Err, f
 ghost use Rattle.dk_config.specs.declared.TheConstants.{MAX_CONFIG_BYTES};
 ghost use Rattle.dk_needs.specs.Reading.{reading};
 ghost use Rattle.dk_needs.specs.Fit.{IsFit};
-ghost use Rattle.dk_needs_check.specs.Names.{AreNamed};
+ghost use Rattle.dk_needs_text.specs.Names.{AreNamed};
 ghost use Rattle.dk_show.specs.Answers.{IsEnd, is_silent, refusal_status, refusal_text};
 ghost use Rattle.dk_show.specs.Needed.{AreRowsTold, AreUnknownTold, IsCertified, IsFound, IsLaidOut, IsNoDocument, IsOfAll, IsOfBadLedger, IsOfNeeds, IsPageOf, IsReadyOf, IsRefused, IsTold, check_end, needs_told};
 ghost use Rattle.dk_show.specs.Works.{IsMade, IsWhole, Plans};
@@ -15,12 +15,10 @@ use dk_config::{Config, NoMemory, Text};
 use dk_config_report::Page;
 use dk_needs::{Faults, Needs, NeedsError, read_needs};
 use dk_needs_always::decide_always;
-use dk_needs_check::{
-    Checking, Row, Unknown, are_met, check_needs, needs_csv, needs_junit, needs_text,
-    process_names, unknown_page,
-};
+use dk_needs_check::{Checking, Row, Unknown, are_met, check_needs};
 use dk_needs_report::{needs_faults_page, needs_not_toml_page};
 use dk_needs_run::{RunFault, check_needs_of_run};
+use dk_needs_text::{needs_csv, needs_junit, needs_text, process_names, unknown_page};
 use dk_show_request::CheckForm;
 use std::alloc::Global;
 

@@ -9,7 +9,8 @@ ghost use Rattle.dk_ledger.specs.LineText.{IsNamed};
 mod each_kind;
 
 use dk_config::{MAX_LEVELS, MAX_PROCESSES, MAX_TICKS, is_name};
-use dk_ledger::{Header, Ledger, LedgerWriter, ProcessLine, read_ledger, write_header};
+use dk_ledger::{Header, Ledger, ProcessLine, read_ledger, write_header};
+use dk_ledger_writer::LedgerWriter;
 use dk_outside::MemSink;
 use dk_trace::{Entry, Label, ThreadId};
 use each_kind::{LEDGER, LEVELS, entries};

@@ -1,6 +1,5 @@
 //! The tick is booked to whoever is chosen, by the tables: its job, holds and demand, and the unclaimed ticks.
 ghost use Rattle.std.specs.Prelude.{ℕ, ◌≡◌, ◌+◌, ◌<◌, ◌≤◌, false, length, map, slice_index};
-ghost use Rattle.dk_config.specs.declared.TheConstants.{MAX_SPAN};
 ghost use Rattle.dk_mutex.specs.Rows.{spent};
 ghost use Rattle.dk_mutex.specs.Table.{effective_level, holds_within};
 ghost use Rattle.dk_demand.specs.Cells.{held_cells};
@@ -117,15 +116,34 @@ fn spend_holds<L: Ledger>(
     requires holds { holds_within id 0 mutexes.old ≡ false }
     requires blocks { (j : ℕ) → effective_level id level mutexes.old ≤ j → j < level
         → 1 ≤ slice_index demand.old.blocking j }
-    requires few { (j : ℕ) → effective_level id level mutexes.old ≤ j → j < level
-        → slice_index demand.old.blocking j ≤ MAX_SPAN }
     ensures mutexes { mutexes.new ≡ map (spent id) mutexes.old }
     ensures demand { demand.new ≡ held_cells level (effective_level id level mutexes.old) 1 0 demand.old }
     ensures steps { steps.new ≤ steps.old + level }
 {
     if !mutexes.are_free() {
-        let first = mutexes.effective_level(id, level);
-        demand.lower_blocking(first..level, 1, steps);
-        mutexes.spend(id);
+        spend_held(mutexes, demand, id, level, steps);
     }
+}
+
+/// The same where somebody holds a mutex. It stands apart, so that it takes no registers from the ticks in which nobody
+/// does.
+#[inline(never)]
+fn spend_held<L: Ledger>(
+    mutexes: &mut Mutexes,
+    demand: &mut Demand,
+    id: ThreadId,
+    level: u8,
+    steps: &mut Steps<L>,
+)
+    requires known { level < length demand.old.windows.periods }
+    requires holds { holds_within id 0 mutexes.old ≡ false }
+    requires blocks { (j : ℕ) → effective_level id level mutexes.old ≤ j → j < level
+        → 1 ≤ slice_index demand.old.blocking j }
+    ensures mutexes { mutexes.new ≡ map (spent id) mutexes.old }
+    ensures demand { demand.new ≡ held_cells level (effective_level id level mutexes.old) 1 0 demand.old }
+    ensures steps { steps.new ≤ steps.old + level }
+{
+    let first = mutexes.effective_level(id, level);
+    mutexes.spend(id);
+    demand.lower_blocking(first..level, 1, steps);
 }

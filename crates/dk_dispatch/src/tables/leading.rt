@@ -14,12 +14,13 @@ pub struct Lead {
     pub thread: ThreadId,
     /// Its slot in its process.
     pub slot: u8,
-    /// Whether nobody holds a mutex.
-    pub is_free: bool,
+    /// For how many ticks more it may hold the mutex that it locked last; 0 where it holds none.
+    pub left: u32,
 }
 
 impl AllTables {
     ghost use Rattle.std.specs.Prelude.{◌≡◌, IfSome, true};
+    ghost use Rattle.dk_mutex.specs.Table.{hold_left};
     ghost use Rattle.dk_recount.specs.Choosing.{HasNoWish, fits_in};
     ghost use Rattle.dk_dispatch.specs.Leading.{Leads};
 
@@ -41,8 +42,19 @@ impl AllTables {
         Some(Lead {
             thread: first.thread,
             slot: slot_of(first.node),
-            is_free: self.mutexes.are_free(),
+            left: self.innermost_left(first.thread),
         })
+    }
+
+    /// For how many ticks more the thread may hold its innermost mutex, and 0 where it holds none. Mostly nobody does.
+    #[inline(always)]
+    fn innermost_left(&self, id: ThreadId) -> u32
+        ensures { result ≡ hold_left id self.now.mutexes }
+    {
+        if self.mutexes.are_free() {
+            return 0;
+        }
+        self.mutexes.hold_left(id)
     }
 
     /// Whether it is known that no wish before the level gets the next tick: there is none, or slack is denied. Mostly

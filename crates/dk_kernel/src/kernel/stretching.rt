@@ -16,7 +16,7 @@ impl Kernel {
     ghost use Rattle.dk_recount.specs.Counts.{moved};
     ghost use Rattle.dk_world.specs.Refused.{RefusalLeaves};
     ghost use Rattle.dk_kernel.specs.Running.{trace_of, world_of};
-    ghost use Rattle.dk_kernel.specs.Stretches.{before_last, entries_of, last_of};
+    ghost use Rattle.dk_kernel.specs.Stretches.{IsComputed, before_last, entries_of, last_of};
     ghost use Rattle.dk_kernel.specs.Laws.{HasOwnTime, KeepsLaws};
 
     /// Does some ticks, at least one and at most so many, that all have one label and of which the last alone
@@ -79,6 +79,7 @@ impl Kernel {
         ensures next { MatchOption result (self.new ≡ self.old)
             (λ stretch. self.new ≡ record self.old { ticks = self.old.ticks + stretch.count }) }
         ensures entries { IfSome result (λ stretch. trace_of self.new ≡ entries_of stretch ++ trace_of self.old) }
+        ensures computes { IfSome result IsComputed }
         ensures checked { IsChecked self.new.config }
         ensures accepted { IsAccepted self.new.config }
         ensures steps { steps.new ≤ steps.old + 1 }
@@ -105,6 +106,7 @@ impl Kernel {
         ensures next { MatchOption result (self.new ≡ self.old)
             (λ stretch. self.new ≡ record self.old { ticks = self.old.ticks + stretch.count }) }
         ensures entries { IfSome result (λ stretch. trace_of self.new ≡ entries_of stretch ++ trace_of self.old) }
+        ensures computes { IfSome result IsComputed }
     {
         let count = self.rest(most);
         if count == 0 {
@@ -140,6 +142,7 @@ impl Kernel {
         ensures next { MatchOption result (self.new ≡ self.old)
             (λ worked. self.new ≡ record self.old { ticks = self.old.ticks + worked.count }) }
         ensures entries { IfSome result (λ worked. trace_of self.new ≡ entries_of worked ++ trace_of self.old) }
+        ensures computes { IfSome result IsComputed }
         ensures steps { steps.new ≤ steps.old + 1 }
         ensures still { result ≡ None → steps.new ≡ steps.old }
     {
@@ -169,6 +172,7 @@ impl Kernel {
         ensures next { MatchOption result (self.new ≡ self.old)
             (λ lent. self.new ≡ record self.old { ticks = self.old.ticks + lent.count }) }
         ensures entries { IfSome result (λ lent. trace_of self.new ≡ entries_of lent ++ trace_of self.old) }
+        ensures computes { IfSome result IsComputed }
     {
         let cost = self.cost();
         let borrower = self.tables.lend_ahead(most)?;

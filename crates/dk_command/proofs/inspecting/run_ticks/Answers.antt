@@ -1,7 +1,4 @@
-use Rattle.std.proofs.Common.{◌≡◌, ◌+◌, ap, arith, refl, subst}
-use Rattle.std.specs.Prelude.{OnOk}
-use Rattle.dk_trace.specs.Ranges.{size_of}
-use Rattle.dk_command.specs.Runs.{workload_of}
+use Rattle.dk_command.proofs.Names.{◌≡◌, ◌+◌, ap, arith, refl, subst, OnOk, size_of, workload_of}
 use Rattle.dk_command.proofs.inspecting.run_ticks.Goals as goal
 
 pub run-requires-clause-begun : goal.run-requires-clause-begun

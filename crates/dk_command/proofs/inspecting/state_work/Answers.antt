@@ -1,13 +1,5 @@
-use Rattle.std.proofs.Common.{◌≡◌, ◌∙◌, ap, refl, rules, subst, sym}
-use Rattle.std.specs.Prelude.{Err}
-use Rattle.dk_loader.specs.Workload.{Workload}
+use Rattle.dk_command.proofs.Names.{◌≡◌, ◌∙◌, ap, refl, rules, subst, sym, Err, Workload, Makes, state, workload_of, Does, Fails, heading}
 use Rattle.dk_inputs.specs.declared.refusal.Refusal.TheVariants as why
-use Rattle.dk_inputs.specs.Follows.{Makes}
-use Rattle.dk_inputs.specs.Plan.{state}
-use Rattle.dk_command.specs.Runs.{workload_of}
-use Rattle.dk_command.specs.Work.{Does}
-use Rattle.dk_command.specs.Output.{Fails}
-use Rattle.dk_inputs.specs.Inputs.{heading}
 use Rattle.dk_command.proofs.Inspected.{is_header, shows}
 use Rattle.dk_command.proofs.Started.{is_loaded, run_certified}
 use Rattle.dk_command.proofs.inspecting.state_work.Goals as goal

@@ -1,10 +1,4 @@
-use Rattle.std.proofs.Common.{◌∙◌, ◌++◌, arith, subst, sym}
-use Rattle.dk_ledger.specs.Cuts.{entries_of}
-use Rattle.dk_ledger.specs.declared.ledger.LedgerFault.{LedgerFault}
-use Rattle.dk_ledger.specs.ReadSoFar.{ComesNext}
-use Rattle.dk_ledger.proofs.NextItem.{if_ok}
-use Rattle.dk_ledger.proofs.Readings.{passed_on}
-use Rattle.dk_report.specs.Counts.{StandsFor}
+use Rattle.dk_command.proofs.Names.{◌∙◌, ◌++◌, arith, subst, sym, entries_of, LedgerFault, ComesNext, if_ok, passed_on, StandsFor}
 use Rattle.dk_command.proofs.LedgerCounts.{some_entries}
 use Rattle.dk_command.proofs.ledgers.count_lines.Goals as goal
 

@@ -1,8 +1,4 @@
-use Rattle.std.proofs.Common.{List, ◌≡◌, ◌+◌, length}
-use Rattle.std.specs.Option.{option_map_or}
-use Rattle.dk_trace.specs.declared.Entry.{Entry}
-use Rattle.dk_report.specs.Counts.{StandsFor}
-use Rattle.dk_ledger.specs.ReadSoFar.{ComesNext}
+use Rattle.dk_command.proofs.Names.{List, ◌≡◌, ◌+◌, length, option_map_or, Entry, StandsFor, ComesNext}
 use Rattle.dk_command.proofs.ledgers.count_lines.Given as goal
 
 -- the totals stand for the entries before the next line

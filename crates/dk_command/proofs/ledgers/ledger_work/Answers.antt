@@ -1,4 +1,4 @@
-use Rattle.std.proofs.Common.{refl, rules}
+use Rattle.dk_command.proofs.Names.{refl, rules}
 use Rattle.dk_command.proofs.ledgers.ledger_work.Goals as goal
 
 pub returns-in-Err-Line-clause-does : goal.returns-in-Err-Line-clause-does

@@ -1,7 +1,4 @@
-use Rattle.std.proofs.Common.{◌∙◌, subst}
-use Rattle.dk_ledger.specs.declared.ledger.LedgerFault.{LedgerFault}
-use Rattle.dk_ledger.specs.Readable.{IsNoText, IsWrongLine}
-use Rattle.dk_ledger.proofs.Readings.{passed_on}
+use Rattle.dk_command.proofs.Names.{◌∙◌, subst, LedgerFault, IsNoText, IsWrongLine, passed_on}
 use Rattle.dk_command.proofs.ledgers.lines_of_ledger.Goals as goal
 
 pub returns-in_err-check_ledger-clause-line : goal.returns-in_err-check_ledger-clause-line

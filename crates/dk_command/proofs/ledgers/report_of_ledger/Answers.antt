@@ -1,7 +1,4 @@
-use Rattle.std.proofs.Common.{◌∙◌, []}
-use Rattle.dk_ledger.specs.declared.ledger.LedgerFault.{LedgerFault}
-use Rattle.dk_ledger.proofs.NextItem.{if_ok}
-use Rattle.dk_ledger.proofs.Readings.{passed_on}
+use Rattle.dk_command.proofs.Names.{◌∙◌, [], LedgerFault, if_ok, passed_on}
 use Rattle.dk_command.proofs.ledgers.report_of_ledger.Goals as goal
 
 pub returns-in_err-first-clause-line : goal.returns-in_err-first-clause-line

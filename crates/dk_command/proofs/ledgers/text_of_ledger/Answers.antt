@@ -1,5 +1,4 @@
-use Rattle.std.proofs.Common.{subst}
-use Rattle.dk_ledger.specs.Readable.{IsNoText, IsWrongLine}
+use Rattle.dk_command.proofs.Names.{subst, IsNoText, IsWrongLine}
 use Rattle.dk_command.proofs.ledgers.text_of_ledger.Goals as goal
 
 pub returns-in-Report-clause-line : goal.returns-in-Report-clause-line

@@ -1,10 +1,4 @@
-use Rattle.std.proofs.Common.{◌≡◌, rules, map, string_bytes, subst, sym}
-use Rattle.std.specs.Prelude.{Err, None, Ok, Some, option_map}
-use Rattle.dk_inputs.specs.Follows.{Finds, Follows}
-use Rattle.dk_inputs.specs.Inputs.{job_of}
-use Rattle.dk_inputs.specs.Plan.{planned}
-use Rattle.dk_command.specs.Output.{SomeFails}
-use Rattle.dk_command.specs.Work.{SomeDoes}
+use Rattle.dk_command.proofs.Names.{◌≡◌, rules, map, string_bytes, subst, sym, Err, None, Ok, Some, option_map, Finds, Follows, job_of, planned, SomeFails, SomeDoes}
 use Rattle.dk_command.proofs.Asked.{comes_to, refused_before, some_made}
 use Rattle.dk_command.proofs.planned.plan.Goals as goal
 

@@ -1,5 +1,4 @@
-use Rattle.std.proofs.Common.{◌≡◌, ◌++◌, drop, flat_map, string_bytes}
-use Rattle.dk_command.specs.Planner.{ask_line}
+use Rattle.dk_command.proofs.Names.{◌≡◌, ◌++◌, drop, flat_map, string_bytes, ask_line}
 use Rattle.dk_command.proofs.planner.push_asks.Given as goal
 
 -- the lines so far, before those of the asks that are left

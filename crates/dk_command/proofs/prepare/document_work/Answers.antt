@@ -1,6 +1,4 @@
-use Rattle.std.proofs.Common.{ap, sym, subst}
-use Rattle.dk_config.specs.Checked.{BreaksNoRule}
-use Rattle.dk_certify.specs.Laws.{migrated}
+use Rattle.dk_command.proofs.Names.{ap, sym, subst, BreaksNoRule, migrated}
 use Rattle.dk_command.proofs.Migrated.{still_unbroken}
 use Rattle.dk_command.proofs.prepare.document_work.Goals as goal
 

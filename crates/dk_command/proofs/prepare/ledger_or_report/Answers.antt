@@ -1,12 +1,5 @@
-use Rattle.std.proofs.Common.{◌≡◌, ◌∙◌, ap, refl, rules, subst, sym}
-use Rattle.std.specs.Prelude.{Err}
-use Rattle.dk_kernel.specs.Running.{Running}
+use Rattle.dk_command.proofs.Names.{◌≡◌, ◌∙◌, ap, refl, rules, subst, sym, Err, Running, Makes, Fails, heading, run, WritesFor}
 use Rattle.dk_inputs.specs.declared.refusal.Refusal.TheVariants as why
-use Rattle.dk_inputs.specs.Follows.{Makes}
-use Rattle.dk_command.specs.Output.{Fails}
-use Rattle.dk_inputs.specs.Inputs.{heading}
-use Rattle.dk_inputs.specs.Plan.{run}
-use Rattle.dk_command.specs.Work.{WritesFor}
 use Rattle.dk_command.proofs.Started.{is_loaded, run_certified, run_counts, run_ready, run_writes}
 use Rattle.dk_command.proofs.prepare.ledger_or_report.Goals as goal
 

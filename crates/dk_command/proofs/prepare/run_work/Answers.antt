@@ -1,5 +1,5 @@
 use Rattle.dk_command.proofs.Kept.{does_also}
-use Rattle.dk_inputs.specs.Plan.{run}
+use Rattle.dk_command.proofs.Names.{run}
 use Rattle.dk_command.proofs.prepare.run_work.Goals as goal
 
 pub returns-clause-does : goal.returns-clause-does

@@ -1,7 +1,4 @@
-use Rattle.std.proofs.Common.{◌≡◌, ◌∙◌, ◌+◌, arith, refl, reverse, subst, sym}
-use Rattle.std.specs.Prelude.{OnOk}
-use Rattle.dk_trace.specs.Ranges.{size_of}
-use Rattle.dk_kernel.specs.Running.{Running, trace_of}
+use Rattle.dk_command.proofs.Names.{◌≡◌, ◌∙◌, ◌+◌, arith, refl, reverse, subst, sym, OnOk, size_of, Running, trace_of}
 use Rattle.dk_command.proofs.RunEntries.{went_on}
 use Rattle.dk_command.proofs.RunLemmas.{counts_none}
 use Rattle.dk_command.proofs.prepare.totals_of_run.Goals as goal

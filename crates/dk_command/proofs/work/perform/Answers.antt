@@ -1,7 +1,4 @@
-use Rattle.std.proofs.Common.{◌++◌, codes, refl}
-use Rattle.dk_ledger.specs.Heading.{header_text}
-use Rattle.dk_ledger.specs.Ledgers.{ledger_text}
-use Rattle.dk_report.specs.Report.{numbers_text}
+use Rattle.dk_command.proofs.Names.{◌++◌, codes, refl, header_text, ledger_text, numbers_text}
 use Rattle.dk_command.proofs.work.perform.Goals as goal
 
 pub returns-in-Run : goal.returns-in-Run

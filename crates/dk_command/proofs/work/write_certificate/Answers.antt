@@ -1,6 +1,4 @@
-use Rattle.std.proofs.Common.{refl, rules, codes}
-use Rattle.std.specs.Prelude.{IsErr, Ok}
-use Rattle.dk_ledger.specs.Heading.{header_text}
+use Rattle.dk_command.proofs.Names.{refl, rules, codes, IsErr, Ok, header_text}
 use Rattle.dk_command.proofs.WritingLemmas.{goes_on, stopped}
 use Rattle.dk_command.proofs.work.write_certificate.Goals as goal
 

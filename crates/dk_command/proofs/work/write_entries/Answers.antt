@@ -1,9 +1,4 @@
-use Rattle.std.proofs.Common.{◌≤◌, ap, arith, refl, reverse, rules, subst}
-use Rattle.std.specs.Prelude.{IfSome, IsErr, Ok}
-use Rattle.dk_ledger.specs.LineText.{IsNamed}
-use Rattle.dk_ledger.specs.Ledgers.{closed_text, ending_text}
-use Rattle.dk_kernel.specs.Running.{Running, trace_of}
-use Rattle.dk_command.specs.Runs.{workload_of}
+use Rattle.dk_command.proofs.Names.{◌≤◌, ap, arith, refl, reverse, rules, subst, IfSome, IsErr, Ok, IsNamed, closed_text, ending_text, Running, trace_of, workload_of}
 use Rattle.dk_command.proofs.RunEntries.{went_on}
 use Rattle.dk_command.proofs.RunLemmas.{begins, begun_at, cut_short}
 use Rattle.dk_command.proofs.WritingLemmas.{goes_on, same_text}

@@ -1,5 +1,4 @@
-use Rattle.std.proofs.Common.{◌≡◌, ◌++◌, ◌∙◌, ap, sym, refl, append_assoc, append-nil, [], rules}
-use Rattle.std.specs.Prelude.{IsErr, Ok}
+use Rattle.dk_command.proofs.Names.{◌≡◌, ◌++◌, ◌∙◌, ap, sym, refl, append_assoc, append-nil, [], rules, IsErr, Ok}
 use Rattle.dk_command.proofs.WritingLemmas.{goes_on, none_left, nothing, same_text, stopped}
 use Rattle.dk_command.proofs.work.write_lines.Goals as goal
 

@@ -1,7 +1,4 @@
-use Rattle.std.proofs.Common.{◌≡◌, ◌++◌, ℕ, List, length}
-use Rattle.std.specs.Prelude.{Ok}
-use Rattle.dk_outside.specs.Written.{Writes}
-use Rattle.dk_outside.specs.declared.sink.SinkError.{SinkError}
+use Rattle.dk_command.proofs.Names.{◌≡◌, ◌++◌, ℕ, List, length, Ok, Writes, SinkError}
 use Rattle.dk_command.proofs.work.write_lines.Given as goal
 
 -- what comes before the rest is written

@@ -1,7 +1,4 @@
-use Rattle.std.proofs.Common.{refl, rules}
-use Rattle.std.specs.Prelude.{IsErr, Ok}
-use Rattle.dk_ledger.specs.Heading.{header_text}
-use Rattle.dk_report.specs.Report.{numbers_text}
+use Rattle.dk_command.proofs.Names.{refl, rules, IsErr, Ok, header_text, numbers_text}
 use Rattle.dk_command.proofs.WritingLemmas.{goes_on, stopped}
 use Rattle.dk_command.proofs.work.write_report.Goals as goal
 

@@ -1,8 +1,4 @@
-use Rattle.std.proofs.Common.{refl, rules}
-use Rattle.std.specs.Prelude.{IsErr, Ok}
-use Rattle.dk_ledger.specs.Heading.{header_text}
-use Rattle.dk_ledger.specs.Ledgers.{entries_text}
-use Rattle.dk_command.specs.Runs.{workload_of}
+use Rattle.dk_command.proofs.Names.{refl, rules, IsErr, Ok, header_text, entries_text, workload_of}
 use Rattle.dk_command.proofs.RunLemmas.{header_cut}
 use Rattle.dk_command.proofs.WritingLemmas.{goes_on}
 use Rattle.dk_command.proofs.work.write_run.Goals as goal

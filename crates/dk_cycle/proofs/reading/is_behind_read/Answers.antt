@@ -1,9 +1,4 @@
-use Rattle.std.proofs.Common.{ℕ, ◌≡◌, ◌+◌, ◌-◌, ◌*◌, ◌≤◌, List, length, Some, arith, subst}
-use Rattle.std.specs.Prelude.{slice_range}
-use Rattle.dk_isa.specs.declared.Instr.{Instr}
-use Rattle.dk_isa.specs.Table.{instruction_of}
-use Rattle.dk_cpu.specs.declared.Context.{Context}
-use Rattle.dk_repeat.specs.Reading.{IsBehindRead}
+use Rattle.dk_cycle.proofs.Names.{ℕ, ◌≡◌, ◌+◌, ◌-◌, ◌*◌, ◌≤◌, List, length, Some, arith, subst, slice_range, Instr, instruction_of, Context, IsBehindRead}
 use Rattle.dk_cycle.proofs.reading.is_behind_read.Goals as goal
 
 behind : (program : List ℕ) (x : Context) (next : ℕ) → next ≡ 4 * x.pc → x.left ≡ 0 → 4 ≤ next → next ≤ length program

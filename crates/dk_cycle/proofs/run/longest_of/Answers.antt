@@ -1,5 +1,4 @@
-use Rattle.std.proofs.Common.{rules, ◌≡◌, ◌-◌, ◌∙◌, length, ap}
-use Rattle.dk_config.specs.Windows.{period}
+use Rattle.dk_cycle.proofs.Names.{rules, ◌≡◌, ◌-◌, ◌∙◌, length, ap, period}
 use Rattle.dk_cycle.proofs.Stands.{last-is-longest}
 use Rattle.dk_cycle.proofs.run.longest_of.Goals as goal
 

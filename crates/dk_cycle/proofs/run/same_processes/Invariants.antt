@@ -1,4 +1,4 @@
-use Rattle.dk_cycle.specs.Run.{AreSame}
+use Rattle.dk_cycle.proofs.Names.{AreSame}
 use Rattle.dk_cycle.proofs.run.same_processes.Given as goal
 
 abbrev pub invariant-loop-process : goal.invariant-loop-process

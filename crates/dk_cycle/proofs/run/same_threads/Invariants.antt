@@ -1,4 +1,4 @@
-use Rattle.dk_cycle.specs.Run.{AreSameThreads}
+use Rattle.dk_cycle.proofs.Names.{AreSameThreads}
 use Rattle.dk_cycle.proofs.run.same_threads.Given as goal
 
 abbrev pub invariant-loop-place : goal.invariant-loop-place

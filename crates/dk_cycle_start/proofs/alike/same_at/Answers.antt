@@ -1,5 +1,4 @@
-use Rattle.std.proofs.Common.{◌≡◌, ◌∙◌, true, false, sym}
-use Rattle.dk_threads.specs.Rows.{is_stopped}
+use Rattle.dk_cycle_start.proofs.Names.{◌≡◌, ◌∙◌, false, sym, is_stopped}
 use Rattle.dk_cycle_start.proofs.Threads.{other-at, runs-at, there-later}
 use Rattle.dk_cycle_start.proofs.alike.same_at.Goals as goal
 

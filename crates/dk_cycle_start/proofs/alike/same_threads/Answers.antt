@@ -1,5 +1,4 @@
-use Rattle.std.proofs.Common.{arith}
-use Rattle.dk_inspect.proofs.Lines.{few-shown}
+use Rattle.dk_cycle_start.proofs.Names.{arith, few-shown}
 use Rattle.dk_cycle_start.proofs.Threads.{same-image}
 use Rattle.dk_cycle_start.proofs.alike.same_threads.Goals as goal
 

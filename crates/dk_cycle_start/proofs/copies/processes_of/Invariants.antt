@@ -1,4 +1,4 @@
-use Rattle.std.proofs.Common.{◌≡◌, take}
+use Rattle.dk_cycle_start.proofs.Names.{◌≡◌, take}
 use Rattle.dk_cycle_start.proofs.copies.processes_of.Given as goal
 
 abbrev pub invariant-loop-row : goal.invariant-loop-row

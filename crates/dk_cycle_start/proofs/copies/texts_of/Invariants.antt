@@ -1,4 +1,4 @@
-use Rattle.std.proofs.Common.{◌≡◌, take}
+use Rattle.dk_cycle_start.proofs.Names.{◌≡◌, take}
 use Rattle.dk_cycle_start.proofs.copies.texts_of.Given as goal
 
 abbrev pub invariant-loop-text : goal.invariant-loop-text

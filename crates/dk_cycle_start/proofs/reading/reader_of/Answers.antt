@@ -1,10 +1,4 @@
-use Rattle.std.proofs.Common.{ℕ, ◌≡◌, ◌+◌, ◌∙◌, List, [], length, None, false, rules, sym, ap, subst}
-use Rattle.std.specs.Prelude.{is_some, slice_index_or}
-use Rattle.std.specs.List.{list_any}
-use Rattle.dk_trace.specs.Threads.{threads}
-use Rattle.dk_threads.specs.Recount.{is_there}
-use Rattle.dk_world.specs.Run.{world, trace}
-use Rattle.dk_cycle.specs.Run.{IsReader}
+use Rattle.dk_cycle_start.proofs.Names.{ℕ, ◌≡◌, ◌+◌, ◌∙◌, List, [], length, None, false, rules, sym, ap, subst, is_some, slice_index_or, list_any, threads, is_there, world, trace, IsReader}
 use Rattle.dk_cycle_start.proofs.Readers.{behind, no-caller, no-context, not-behind}
 use Rattle.dk_cycle_start.proofs.reading.reader_of.Goals as goal
 

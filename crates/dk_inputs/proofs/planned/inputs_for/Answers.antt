@@ -1,10 +1,5 @@
-use Rattle.std.proofs.Common.{◌≡◌, rules, map, string_bytes, subst, sym}
-use Rattle.std.specs.Prelude.{Err, None, Ok, Some, option_map}
+use Rattle.dk_inputs.proofs.Names.{◌≡◌, rules, map, string_bytes, subst, sym, Err, None, Ok, Some, option_map, Finds, meaning, job_of, planned}
 use Rattle.dk_inputs.specs.declared.refusal.Refusal.TheVariants as why
-use Rattle.dk_inputs.specs.Follows.{Finds}
-use Rattle.dk_request.specs.Meaning.{meaning}
-use Rattle.dk_inputs.specs.Inputs.{job_of}
-use Rattle.dk_inputs.specs.Plan.{planned}
 use Rattle.dk_inputs.proofs.FollowLemmas.{out_of_memory}
 use Rattle.dk_inputs.proofs.Asked.{for_nothing, for_request}
 use Rattle.dk_inputs.proofs.planned.inputs_for.Goals as goal

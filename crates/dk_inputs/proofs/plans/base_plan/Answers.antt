@@ -1,7 +1,5 @@
-use Rattle.std.proofs.Common.{refl}
+use Rattle.dk_inputs.proofs.Names.{refl, job_of, base}
 use Rattle.dk_inputs.specs.declared.inputs.Inputs.TheVariants as inputs
-use Rattle.dk_inputs.specs.Inputs.{job_of}
-use Rattle.dk_inputs.specs.Plan.{base}
 use Rattle.dk_inputs.proofs.FollowLemmas.{made}
 use Rattle.dk_inputs.proofs.plans.base_plan.Goals as goal
 

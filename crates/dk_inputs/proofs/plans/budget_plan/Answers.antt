@@ -1,11 +1,5 @@
-use Rattle.std.proofs.Common.{ℕ, ◌≡◌, List, refl, rules, subst}
-use Rattle.std.specs.Prelude.{Err, Ok}
-use Rattle.dk_config.specs.Configuration.{Configuration}
+use Rattle.dk_inputs.proofs.Names.{ℕ, ◌≡◌, List, refl, rules, subst, Err, Ok, Configuration, Gives, job_of, budget, config_at, process_in, ◌>>=◌, done, test}
 use Rattle.dk_inputs.specs.declared.inputs.Inputs.TheVariants as inputs
-use Rattle.dk_inputs.specs.Follows.{Gives}
-use Rattle.dk_inputs.specs.Inputs.{job_of}
-use Rattle.dk_inputs.specs.Plan.{budget, config_at, process_in}
-use Rattle.dk_inputs.specs.Reads.{◌>>=◌, done, test}
 use Rattle.dk_inputs.proofs.FollowLemmas.{made, next, refused, tested}
 use Rattle.dk_inputs.proofs.plans.budget_plan.Goals as goal
 

@@ -1,11 +1,5 @@
-use Rattle.std.proofs.Common.{◌≡◌, refl, rules}
-use Rattle.std.specs.Prelude.{Err, Ok}
-use Rattle.dk_config.specs.Configuration.{Configuration}
-use Rattle.dk_ledger.specs.Heading.{Heading}
+use Rattle.dk_inputs.proofs.Names.{◌≡◌, refl, rules, Err, Ok, Configuration, Heading, job_of, certificate, certified, config_at, ◌>>=◌, done, test}
 use Rattle.dk_inputs.specs.declared.inputs.Inputs.TheVariants as inputs
-use Rattle.dk_inputs.specs.Inputs.{job_of}
-use Rattle.dk_inputs.specs.Plan.{certificate, certified, config_at}
-use Rattle.dk_inputs.specs.Reads.{◌>>=◌, done, test}
 use Rattle.dk_inputs.proofs.FollowLemmas.{made, next, refused, tested}
 use Rattle.dk_inputs.proofs.plans.certify_plan.Goals as goal
 

@@ -1,11 +1,6 @@
-use Rattle.std.proofs.Common.{ℕ, Global, Vec, ◌≡◌, refl, rules}
-use Rattle.std.specs.Prelude.{Err, Ok}
-use Rattle.dk_config.specs.declared.TheConstants.{MAX_PROGRAM_BYTES}
+use Rattle.dk_inputs.proofs.Names.{ℕ, Global, Vec, ◌≡◌, refl, rules, Err, Ok, MAX_PROGRAM_BYTES, job_of, code, done, file_at}
 use Rattle.dk_inputs.specs.declared.refusal.Refusal.TheVariants as why
 use Rattle.dk_inputs.specs.declared.inputs.Inputs.TheVariants as inputs
-use Rattle.dk_inputs.specs.Inputs.{job_of}
-use Rattle.dk_inputs.specs.Plan.{code}
-use Rattle.dk_inputs.specs.Reads.{done, file_at}
 use Rattle.dk_inputs.proofs.FollowLemmas.{made, next, refused}
 use Rattle.dk_inputs.proofs.plans.dis_plan.Goals as goal
 

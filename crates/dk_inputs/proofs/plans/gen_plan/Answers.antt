@@ -1,8 +1,5 @@
-use Rattle.std.specs.Prelude.{Ok}
+use Rattle.dk_inputs.proofs.Names.{Ok, generated, job_of, run}
 use Rattle.dk_request.specs.declared.output.Output.TheVariants as asked
-use Rattle.dk_gen.specs.Generated.{generated}
-use Rattle.dk_inputs.specs.Inputs.{job_of}
-use Rattle.dk_inputs.specs.Plan.{run}
 use Rattle.dk_inputs.proofs.FollowLemmas.{tested}
 use Rattle.dk_inputs.proofs.plans.gen_plan.Goals as goal
 

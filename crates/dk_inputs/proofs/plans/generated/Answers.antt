@@ -1,5 +1,4 @@
-use Rattle.std.proofs.Common.{◌≡◌, ◌∙◌, ap, rules}
-use Rattle.dk_inputs.specs.Inputs.{heading}
+use Rattle.dk_inputs.proofs.Names.{◌≡◌, ◌∙◌, ap, rules, heading}
 use Rattle.dk_inputs.proofs.plans.generated.Goals as goal
 
 pub returns-clause-tested : goal.returns-clause-tested

@@ -1,12 +1,5 @@
-use Rattle.std.proofs.Common.{◌≡◌, ap, rules, sym}
-use Rattle.std.specs.Prelude.{Err, Ok}
-use Rattle.dk_config.specs.Configuration.{Configuration}
-use Rattle.dk_ledger.specs.Heading.{Heading}
-use Rattle.dk_loader.specs.declared.loaded.Loaded.{Loaded}
+use Rattle.dk_inputs.proofs.Names.{◌≡◌, ap, rules, sym, Err, Ok, Configuration, Heading, Loaded, job_of, certified, config_at, state, ◌>>=◌, done, programs_at, test}
 use Rattle.dk_inputs.specs.declared.inputs.Inputs.TheVariants as inputs
-use Rattle.dk_inputs.specs.Inputs.{job_of}
-use Rattle.dk_inputs.specs.Plan.{certified, config_at, state}
-use Rattle.dk_inputs.specs.Reads.{◌>>=◌, done, programs_at, test}
 use Rattle.dk_inputs.proofs.FollowLemmas.{made, next, refused, tested}
 use Rattle.dk_inputs.proofs.plans.inspect_plan.Goals as goal
 

@@ -1,11 +1,5 @@
-use Rattle.std.proofs.Common.{◌≡◌, ap, rules, sym}
-use Rattle.std.specs.Prelude.{Err, Ok}
-use Rattle.dk_config.specs.Configuration.{Configuration}
-use Rattle.dk_loader.specs.declared.loaded.Loaded.{Loaded}
+use Rattle.dk_inputs.proofs.Names.{◌≡◌, ap, rules, sym, Err, Ok, Configuration, Loaded, job_of, run, done, programs_at}
 use Rattle.dk_inputs.specs.declared.inputs.Inputs.TheVariants as inputs
-use Rattle.dk_inputs.specs.Inputs.{job_of}
-use Rattle.dk_inputs.specs.Plan.{run}
-use Rattle.dk_inputs.specs.Reads.{done, programs_at}
 use Rattle.dk_inputs.proofs.FollowLemmas.{made, next, refused}
 use Rattle.dk_inputs.proofs.plans.launched.Goals as goal
 

@@ -1,11 +1,5 @@
-use Rattle.std.proofs.Common.{◌≡◌, refl, rules}
-use Rattle.std.specs.Prelude.{Err, Ok}
-use Rattle.dk_config.specs.Configuration.{Configuration}
-use Rattle.dk_certify.specs.Laws.{migrated}
+use Rattle.dk_inputs.proofs.Names.{◌≡◌, refl, rules, Err, Ok, Configuration, migrated, job_of, config_at, document, done}
 use Rattle.dk_inputs.specs.declared.inputs.Inputs.TheVariants as inputs
-use Rattle.dk_inputs.specs.Inputs.{job_of}
-use Rattle.dk_inputs.specs.Plan.{config_at, document}
-use Rattle.dk_inputs.specs.Reads.{done}
 use Rattle.dk_inputs.proofs.FollowLemmas.{made, next, refused}
 use Rattle.dk_inputs.proofs.plans.migrate_plan.Goals as goal
 

@@ -1,10 +1,4 @@
-use Rattle.std.proofs.Common.{◌≡◌, rules}
-use Rattle.std.specs.Prelude.{Err, Ok}
-use Rattle.dk_config.specs.Configuration.{Configuration}
-use Rattle.dk_ledger.specs.Heading.{Heading}
-use Rattle.dk_inputs.specs.Inputs.{job_of}
-use Rattle.dk_inputs.specs.Plan.{certified, config_at, run_of}
-use Rattle.dk_inputs.specs.Reads.{◌>>=◌, test}
+use Rattle.dk_inputs.proofs.Names.{◌≡◌, rules, Err, Ok, Configuration, Heading, job_of, certified, config_at, run_of, ◌>>=◌, test}
 use Rattle.dk_inputs.proofs.FollowLemmas.{next, refused, tested}
 use Rattle.dk_inputs.proofs.plans.run_plan.Goals as goal
 

@@ -1,11 +1,6 @@
-use Rattle.std.proofs.Common.{ℕ, Global, List, Vec, ◌≡◌, rules, subst}
-use Rattle.std.specs.Prelude.{Err}
-use Rattle.dk_config.specs.declared.TheConstants.{MAX_CONFIG_BYTES}
-use Rattle.dk_config.specs.Configuration.{Configuration}
+use Rattle.dk_inputs.proofs.Names.{ℕ, Global, List, Vec, ◌≡◌, rules, subst, Err, MAX_CONFIG_BYTES, Configuration, Gives, config_in, file_at, test}
+use Rattle.dk_inputs.specs.Plan.{config_at}
 use Rattle.dk_inputs.specs.declared.refusal.Refusal.TheVariants as why
-use Rattle.dk_inputs.specs.Follows.{Gives}
-use Rattle.dk_inputs.specs.Plan.{config_at, config_in}
-use Rattle.dk_inputs.specs.Reads.{file_at, test}
 use Rattle.dk_inputs.proofs.FollowLemmas.{next, refused, tested}
 use Rattle.dk_inputs.proofs.reading.config_at.Goals as goal
 

@@ -1,8 +1,5 @@
-use Rattle.std.proofs.Common.{ℕ, Global, Vec, ◌≡◌, ◌+◌, ◌∙◌, length, vec_len, arith, refl, rules, sym, ap}
-use Rattle.std.proofs.lemmas.Bool.{false≢true}
-use Rattle.dk_inputs.specs.Answer.{is_failed_read}
+use Rattle.dk_inputs.proofs.Names.{ℕ, Global, Vec, ◌≡◌, ◌+◌, ◌∙◌, length, vec_len, arith, refl, rules, sym, ap, false≢true, is_failed_read, file_at}
 use Rattle.dk_inputs.specs.declared.refusal.Refusal.TheVariants as why
-use Rattle.dk_inputs.specs.Reads.{file_at}
 use Rattle.dk_inputs.proofs.FileReads.{held_file, told_file, told_longer}
 use Rattle.dk_inputs.proofs.FollowLemmas.{silently}
 use Rattle.dk_inputs.proofs.reading.file_at.Goals as goal

@@ -1,15 +1,5 @@
-use Rattle.std.proofs.Common.{arith, rules, refl, ◌≡◌, ◌∙◌, ap, length, subst, sym}
-use Rattle.std.proofs.lemmas.List.{length-map}
-use Rattle.std.specs.Prelude.{Err}
-use Rattle.dk_config.specs.Checked.{IsAccepted, IsChecked, IsWithinLimits}
-use Rattle.dk_config.specs.Configuration.{Configuration}
-use Rattle.dk_config.specs.Windows.{process_name}
-use Rattle.dk_ledger.specs.Heading.{Heading, line_of_row, name_of}
-use Rattle.dk_loader.specs.declared.loaded.Loaded.{Loaded}
+use Rattle.dk_inputs.proofs.Names.{arith, rules, refl, ◌≡◌, ◌∙◌, ap, length, subst, sym, length-map, Err, IsAccepted, IsChecked, IsWithinLimits, Configuration, process_name, Heading, line_of_row, name_of, Loaded, Finds, heading, programs_at}
 use Rattle.dk_inputs.specs.declared.refusal.Refusal.TheVariants as why
-use Rattle.dk_inputs.specs.Follows.{Finds}
-use Rattle.dk_inputs.specs.Inputs.{heading}
-use Rattle.dk_inputs.specs.Reads.{programs_at}
 use Rattle.dk_inputs.proofs.FollowLemmas.{silently}
 use Rattle.dk_inputs.proofs.ProgramReads.{held_programs, name_is, told_long, told_programs}
 use Rattle.dk_inputs.proofs.reading.loaded.Goals as goal

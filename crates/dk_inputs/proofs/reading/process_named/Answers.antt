@@ -1,8 +1,4 @@
-use Rattle.std.proofs.Common.{◌≡◌, ◌∙◌, List, ap, refl, rules, sym}
-use Rattle.std.specs.Prelude.{None, position}
-use Rattle.std.specs.Str.{bytes_eq}
-use Rattle.dk_config.specs.declared.rows.ProcessRow.{ProcessRow}
-use Rattle.dk_inputs.specs.Plan.{found_process}
+use Rattle.dk_inputs.proofs.Names.{◌≡◌, ◌∙◌, List, ap, refl, rules, sym, None, position, bytes_eq, ProcessRow, found_process}
 use Rattle.dk_inputs.proofs.reading.process_named.Goals as goal
 
 pub returns-in-None-clause-found : goal.returns-in-None-clause-found

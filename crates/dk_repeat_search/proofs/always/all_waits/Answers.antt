@@ -1,9 +1,4 @@
-use Rattle.std.proofs.Common.{◌≡◌, ◌+◌, ◌<◌, ◌∙◌, length, get_or, sym, ap, subst, arith}
-use Rattle.std.proofs.lemmas.List.{get_or_default}
-use Rattle.dk_cycle.specs.declared.own.OwnSearch.{OwnSearch}
-use Rattle.dk_cycle.specs.declared.waiting.WaitWatch.{WaitWatch}
-use Rattle.dk_cycle.specs.Waiting.{waits_told}
-use Rattle.dk_repeat_search.specs.Always.{AreTold}
+use Rattle.dk_repeat_search.proofs.Names.{◌≡◌, ◌+◌, ◌<◌, ◌∙◌, length, get_or, sym, ap, subst, arith, get_or_default, OwnSearch, WaitWatch, waits_told, AreTold}
 use Rattle.dk_repeat_search.proofs.Watching.{no_watch, told-more}
 use Rattle.dk_repeat_search.proofs.always.all_waits.Goals as goal
 

@@ -1,4 +1,4 @@
-use Rattle.dk_repeat_search.specs.Always.{AreTold}
+use Rattle.dk_repeat_search.proofs.Names.{AreTold}
 use Rattle.dk_repeat_search.proofs.always.all_waits.Given as goal
 
 abbrev pub invariant-loop-process : goal.invariant-loop-process

@@ -1,8 +1,4 @@
-use Rattle.std.proofs.Common.{◌≡◌, map}
-use Rattle.std.specs.Prelude.{All}
-use Rattle.std.specs.List.{range_with_len}
-use Rattle.dk_cycle.specs.Waiting.{IsWaitWatch}
-use Rattle.dk_repeat_search.specs.Always.{watched_process}
+use Rattle.dk_repeat_search.proofs.Names.{◌≡◌, map, All, range_with_len, IsWaitWatch, watched_process}
 use Rattle.dk_repeat_search.proofs.always.new_watches.Given as goal
 
 abbrev pub invariant-loop-process : goal.invariant-loop-process

@@ -1,7 +1,4 @@
-use Rattle.std.proofs.Common.{◌≡◌, ◌+◌, List, [], take}
-use Rattle.dk_kernel.specs.Running.{trace_of}
-use Rattle.dk_cycle_counts.specs.declared.process.MainShare.{MainShare}
-use Rattle.dk_cycle_counts.specs.Counts.{AreCountsOf}
+use Rattle.dk_repeat_search.proofs.Names.{◌≡◌, ◌+◌, List, [], take, trace_of, MainShare, AreCountsOf}
 use Rattle.dk_repeat_search.proofs.count.count.Given as goal
 
 abbrev pub invariant-loop-step : goal.invariant-loop-step

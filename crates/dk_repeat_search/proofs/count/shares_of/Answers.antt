@@ -1,10 +1,4 @@
-use Rattle.std.proofs.Common.{◌≡◌, ◌∙◌, [], ◌∷◌, ◌++◌, map, ap, sym}
-use Rattle.std.specs.List.{range_with_len}
-use Rattle.std.proofs.lemmas.List.{map-append}
-use Rattle.dk_config.specs.Configuration.{Configuration}
-use Rattle.dk_loader.specs.Workload.{Workload}
-use Rattle.dk_cycle_counts.specs.declared.process.MainShare.{MainShare}
-use Rattle.dk_repeat_report.specs.Cycles.{share_at}
+use Rattle.dk_repeat_search.proofs.Names.{◌≡◌, ◌∙◌, [], ◌∷◌, ◌++◌, map, ap, sym, range_with_len, map-append, Configuration, Workload, MainShare, share_at}
 use Rattle.dk_repeat_search.proofs.Places.{range-more}
 use Rattle.dk_repeat_search.proofs.count.shares_of.Goals as goal
 

@@ -1,6 +1,4 @@
-use Rattle.std.proofs.Common.{◌≡◌, map}
-use Rattle.std.specs.List.{range_with_len}
-use Rattle.dk_repeat_report.specs.Cycles.{share_at}
+use Rattle.dk_repeat_search.proofs.Names.{◌≡◌, map, range_with_len, share_at}
 use Rattle.dk_repeat_search.proofs.count.shares_of.Given as goal
 
 abbrev pub invariant-loop-process : goal.invariant-loop-process

@@ -1,13 +1,5 @@
-use Rattle.std.proofs.Common.{ℕ, ◌≡◌, ◌∙◌, List, length, get_or, map, ap, sym, subst, arith}
-use Rattle.std.specs.Prelude.{All}
-use Rattle.std.proofs.lemmas.List.Elements.{All-push}
-use Rattle.dk_config.specs.Configuration.{Configuration}
-use Rattle.dk_cycle.specs.Own.{IsOwnSearch}
-use Rattle.dk_cycle_counts.specs.declared.process.MainShare.{MainShare}
-use Rattle.dk_repeat_report.specs.Cycles.{share_at}
+use Rattle.dk_repeat_search.proofs.Names.{◌≡◌, ◌∙◌, List, length, get_or, map, ap, sym, subst, arith, All, All-push, Running, IsOwnSearch, MainShare, share_at, IsOneFound, process_of}
 use Rattle.dk_repeat_report.specs.Lines as lines
-use Rattle.dk_repeat_report.specs.OwnUses.{IsOneFound}
-use Rattle.dk_repeat_search.specs.Searching.{process_of}
 use Rattle.dk_repeat_search.proofs.Owning.{found-more, many-shares, share-there}
 use Rattle.dk_repeat_search.proofs.own.all_found.Goals as goal
 
@@ -29,20 +21,18 @@ found_of-requires-clause-share g c =
     let is : IsOwnSearch k.config k.programs c.args.ticks item =
     subst (IsOwnSearch k.config k.programs c.args.ticks) (sym c.search-item.is) (c.requires.own.all c.loop-search.search-index item c.loop-search-test.true) in
     ap (λ (shares : List MainShare). get_or shares item.process none) c.requires.shares ∙ share-there k.config item.process none is.known
-    ∙ ap (λ (z : Configuration). share_at z item.process) (sym c.loop-search.invariant.config)
+    ∙ ap (λ (r : Running). share_at r.config item.process) (sym c.loop-search.invariant.same)
 
 pub loop-search-preserved : goal.loop-search-preserved
 loop-search-preserved g c =
     let k = c.args.kernel.now in
-    let now = c.loop-search.kernel in
     let all = c.loop-search.all.items in
     let found = c.in_ok-found_of.field-0 in
     let item = c.search-item.result in
     let i = c.loop-search.search-index in
     let holds = IsOneFound k.config k.programs in
     let is : holds found =
-    subst (λ (z : Configuration). IsOneFound z k.programs found) c.loop-search.invariant.config
-    (subst (λ (ps : List (List ℕ)). IsOneFound now.config ps found) c.loop-search.invariant.programs c.in_ok-found_of.ensures.found) in
+    subst (λ (r : Running). IsOneFound r.config r.programs found) c.loop-search.invariant.same c.in_ok-found_of.ensures.found in
     let low = c.loop-search.invariant.low in
     let high = c.loop-search.invariant.high in
     let lower = c.in_ok-found_of.ensures.low in
@@ -51,8 +41,7 @@ loop-search-preserved g c =
       all = subst (All holds) (sym c.in_ok-push.ensures.items) (All-push holds all found c.loop-search.invariant.all is);
       processes = ap (map lines.process_of) c.in_ok-push.ensures.items
           ∙ found-more all found c.args.own.now i item c.loop-search-test.true c.loop-search.invariant.processes (c.in_ok-found_of.ensures.process ∙ ap process_of c.search-item.is);
-      config = c.in_ok-found_of.ensures.config ∙ c.loop-search.invariant.config;
-      programs = c.in_ok-found_of.ensures.programs ∙ c.loop-search.invariant.programs;
+      same = c.in_ok-found_of.ensures.same ∙ ap (λ (r : Running). record r { ticks = c.found_of.new.kernel.ticks }) c.loop-search.invariant.same;
       low = omega (arith, low, lower);
       high = omega (arith, high, higher);
     }

@@ -1,17 +1,12 @@
-use Rattle.std.proofs.Common.{◌≡◌, ◌+◌, ◌*◌, ◌≤◌, map, take}
-use Rattle.std.specs.Prelude.{All}
-use Rattle.dk_config.specs.declared.TheConstants.{MAX_RUN_TICKS}
+use Rattle.dk_repeat_search.proofs.Names.{◌≡◌, ◌+◌, ◌*◌, ◌≤◌, map, take, All, MAX_RUN_TICKS, IsOneFound, process_of}
 use Rattle.dk_repeat_report.specs.Lines as lines
-use Rattle.dk_repeat_report.specs.OwnUses.{IsOneFound}
-use Rattle.dk_repeat_search.specs.Searching.{process_of}
 use Rattle.dk_repeat_search.proofs.own.all_found.Given as goal
 
 abbrev pub invariant-loop-search : goal.invariant-loop-search
 invariant-loop-search g l = record {
   all : All (IsOneFound l.fn.kernel.config l.fn.kernel.programs) l.all.items;
   processes : map lines.process_of l.all.items ≡ map process_of (take l.search-index l.own);
-  config : l.kernel.config ≡ l.fn.kernel.config;
-  programs : l.kernel.programs ≡ l.fn.kernel.programs;
+  same : l.kernel ≡ record l.fn.kernel { ticks = l.kernel.ticks };
   low : l.fn.kernel.ticks ≤ l.kernel.ticks;
   high : l.kernel.ticks ≤ l.fn.kernel.ticks + l.search-index * (2 * MAX_RUN_TICKS);
 }

@@ -1,5 +1,4 @@
-use Rattle.std.proofs.Common.{sym, subst}
-use Rattle.dk_repeat_report.specs.OwnUses.{UsesOne}
+use Rattle.dk_repeat_search.proofs.Names.{sym, subst, UsesOne}
 use Rattle.dk_repeat_search.proofs.Owning.{own-counted}
 use Rattle.dk_repeat_search.proofs.own.count_own.Goals as goal
 

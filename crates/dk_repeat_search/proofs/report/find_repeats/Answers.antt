@@ -1,8 +1,4 @@
-use Rattle.std.proofs.Common.{◌≡◌, ◌∙◌, ap}
-use Rattle.dk_loader.specs.Workload.{Workload}
-use Rattle.dk_repeat_report.specs.Lines.{names_of}
-use Rattle.dk_repeat_report.specs.Found.{found_text}
-use Rattle.dk_repeat_search.specs.Repeats.{repeats}
+use Rattle.dk_repeat_search.proofs.Names.{◌≡◌, ◌∙◌, ap, Workload, names_of, found_text, repeats}
 use Rattle.dk_repeat_search.proofs.Told.{repeats-of}
 use Rattle.dk_repeat_search.proofs.report.find_repeats.Goals as goal
 

@@ -1,4 +1,4 @@
-use Rattle.std.proofs.Common.{◌≡◌, map, take}
+use Rattle.dk_repeat_search.proofs.Names.{◌≡◌, map, take}
 use Rattle.dk_repeat_search.proofs.report.names_of.Given as goal
 
 abbrev pub invariant-loop-row : goal.invariant-loop-row

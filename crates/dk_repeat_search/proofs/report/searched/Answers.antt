@@ -1,7 +1,4 @@
-use Rattle.std.proofs.Common.{subst}
-use Rattle.std.specs.Prelude.{IfOk}
-use Rattle.dk_repeat_search.specs.declared.count.Found.{Found}
-use Rattle.dk_repeat_search.specs.Repeats.{KnowsReader}
+use Rattle.dk_repeat_search.proofs.Names.{subst, IfOk, Found, KnowsReader}
 use Rattle.dk_repeat_search.proofs.report.searched.Goals as goal
 
 pub returns-clause-reader : goal.returns-clause-reader

@@ -1,12 +1,4 @@
-use Rattle.std.proofs.Common.{◌≡◌, ◌∙◌, ℕ, List, [], ◌∷◌, ◌++◌, map, ap, sym, subst}
-use Rattle.std.specs.Prelude.{All}
-use Rattle.std.specs.List.{range_with_len}
-use Rattle.std.proofs.lemmas.List.{map-append}
-use Rattle.std.proofs.lemmas.List.Elements.{All-push}
-use Rattle.dk_config.specs.Configuration.{Configuration}
-use Rattle.dk_loader.specs.Workload.{Workload}
-use Rattle.dk_cycle.specs.Own.{IsOwnSearch}
-use Rattle.dk_repeat_search.specs.Searching.{process_of}
+use Rattle.dk_repeat_search.proofs.Names.{◌≡◌, ◌∙◌, ℕ, List, [], ◌∷◌, ◌++◌, map, ap, sym, subst, All, range_with_len, map-append, All-push, Configuration, Workload, IsOwnSearch, process_of}
 use Rattle.dk_repeat_search.proofs.Places.{range-more}
 use Rattle.dk_repeat_search.proofs.search.own_searches.Goals as goal
 

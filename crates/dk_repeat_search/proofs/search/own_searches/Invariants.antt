@@ -1,8 +1,4 @@
-use Rattle.std.proofs.Common.{◌≡◌, map}
-use Rattle.std.specs.Prelude.{All}
-use Rattle.std.specs.List.{range_with_len}
-use Rattle.dk_cycle.specs.Own.{IsOwnSearch}
-use Rattle.dk_repeat_search.specs.Searching.{process_of}
+use Rattle.dk_repeat_search.proofs.Names.{◌≡◌, map, All, range_with_len, IsOwnSearch, process_of}
 use Rattle.dk_repeat_search.proofs.search.own_searches.Given as goal
 
 abbrev pub invariant-loop-process : goal.invariant-loop-process

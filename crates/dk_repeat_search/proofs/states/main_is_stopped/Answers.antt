@@ -1,5 +1,4 @@
-use Rattle.std.proofs.Common.{◌∙◌}
-use Rattle.dk_kernel.specs.Running.{trace_of}
+use Rattle.dk_repeat_search.proofs.Names.{◌∙◌, trace_of}
 use Rattle.dk_repeat_search.proofs.Shown.{main-state}
 use Rattle.dk_repeat_search.proofs.states.main_is_stopped.Goals as goal
 

@@ -1,4 +1,4 @@
-use Rattle.dk_inspect.proofs.Lines.{few-shown}
+use Rattle.dk_repeat_search.proofs.Names.{few-shown}
 use Rattle.dk_repeat_search.proofs.Shown.{process-state}
 use Rattle.dk_repeat_search.proofs.states.process_state.Goals as goal
 

@@ -1,9 +1,5 @@
-use Rattle.std.proofs.Common.{◌≡◌, ◌∙◌, ◌+◌, List, length, ap, sym, subst, arith}
-use Rattle.std.specs.Prelude.{Option, IfSome}
-use Rattle.std.proofs.lemmas.List.{length_push}
-use Rattle.dk_cycle.specs.declared.run.ProcessState.{ProcessState}
-use Rattle.dk_cycle.specs.Run.{AreProcessStates, IsProcessState}
-use Rattle.dk_kernel.specs.Running.{world_of}
+use Rattle.dk_repeat_search.proofs.Names.{◌≡◌, ◌∙◌, ◌+◌, List, length, ap, sym, subst, arith, IfSome, length_push, ProcessState, AreProcessStates, IsProcessState, world_of}
+use Rattle.std.specs.Prelude.{Option}
 use Rattle.dk_repeat_search.proofs.Shown.{states-more}
 use Rattle.dk_repeat_search.proofs.states.process_states.Goals as goal
 

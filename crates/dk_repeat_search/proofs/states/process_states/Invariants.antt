@@ -1,6 +1,4 @@
-use Rattle.std.proofs.Common.{◌≡◌, length}
-use Rattle.dk_kernel.specs.Running.{world_of}
-use Rattle.dk_cycle.specs.Run.{AreProcessStates}
+use Rattle.dk_repeat_search.proofs.Names.{◌≡◌, length, world_of, AreProcessStates}
 use Rattle.dk_repeat_search.proofs.states.process_states.Given as goal
 
 abbrev pub invariant-loop-process : goal.invariant-loop-process

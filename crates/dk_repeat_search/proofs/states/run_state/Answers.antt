@@ -1,6 +1,4 @@
-use Rattle.std.proofs.Common.{subst}
-use Rattle.dk_cycle.specs.Run.{AreProcessStates}
-use Rattle.dk_kernel.specs.Running.{world_of}
+use Rattle.dk_repeat_search.proofs.Names.{subst, AreProcessStates, world_of}
 use Rattle.dk_repeat_search.proofs.Shown.{run-state-of}
 use Rattle.dk_repeat_search.proofs.states.run_state.Goals as goal
 

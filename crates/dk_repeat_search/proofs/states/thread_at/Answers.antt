@@ -1,8 +1,4 @@
-use Rattle.std.proofs.Common.{◌≡◌, ◌∙◌, true, false, Option, None, sym, subst, rules}
-use Rattle.std.specs.Prelude.{is_some}
-use Rattle.dk_cycle.specs.declared.run.ThreadState.{ThreadState}
-use Rattle.dk_inspect.specs.Printing.{IsThereIn}
-use Rattle.dk_repeat_search.specs.States.{IsThreadAt}
+use Rattle.dk_repeat_search.proofs.Names.{◌≡◌, ◌∙◌, true, false, Option, None, sym, subst, rules, is_some, ThreadState, IsThereIn, IsThreadAt}
 use Rattle.dk_repeat_search.proofs.Shown.{thread-none, thread-some}
 use Rattle.dk_repeat_search.proofs.states.thread_at.Goals as goal
 

@@ -1,7 +1,4 @@
-use Rattle.std.proofs.Common.{ℕ, ◌≡◌, ◌+◌, List, sym, subst, arith}
-use Rattle.dk_config.specs.declared.TheConstants.{MAX_THREADS}
-use Rattle.dk_cycle.specs.declared.run.ThreadState.{ThreadState}
-use Rattle.dk_repeat_search.specs.States.{AreThreads}
+use Rattle.dk_repeat_search.proofs.Names.{ℕ, ◌≡◌, ◌+◌, List, sym, subst, arith, MAX_THREADS, ThreadState, AreThreads}
 use Rattle.dk_repeat_search.proofs.Shown.{no-threads, place-more}
 use Rattle.dk_repeat_search.proofs.states.threads_of.Goals as goal
 

@@ -1,4 +1,4 @@
-use Rattle.dk_repeat_search.specs.States.{AreThreads}
+use Rattle.dk_repeat_search.proofs.Names.{AreThreads}
 use Rattle.dk_repeat_search.proofs.states.threads_of.Given as goal
 
 abbrev pub invariant-loop-place : goal.invariant-loop-place

@@ -1,5 +1,4 @@
-use Rattle.std.proofs.Common.{◌∙◌}
-use Rattle.std.proofs.lemmas.Result.{IfOk-weaker}
+use Rattle.dk_request.proofs.Names.{◌∙◌, IfOk-weaker}
 use Rattle.dk_request.proofs.arguments.text_at.Goals as goal
 
 pub returns : goal.returns

@@ -1,5 +1,4 @@
-use Rattle.std.proofs.Common.{◌≤◌, ◌-◌, ◌∙◌, arith, ap, sym, drop, length, map, Bor, List, ℕ}
-use Rattle.std.proofs.lemmas.List.{length-drop, drop-map, take_all}
+use Rattle.dk_request.proofs.Names.{◌≤◌, ◌-◌, ◌∙◌, arith, ap, sym, drop, length, map, Bor, List, ℕ, length-drop, drop-map, take_all}
 use Rattle.dk_request.proofs.arguments.words_behind.Goals as goal
 
 pub returns-then-place-words : goal.returns-then-place-words

@@ -1,8 +1,6 @@
-use Rattle.std.proofs.Common.{ℕ, suc, ◌≡◌, ◌+◌, ◌<◌, ◌≤◌, ◌∙◌, ◌++◌, ◌∷◌, [], arith, rules, append-nil, ap, sym, map, drop, get_or, length, List, option_map}
-use Rattle.std.specs.Prelude.{None, Some}
-use Rattle.std.proofs.Math.Seq.{drop-cons}
-use Rattle.std.proofs.lemmas.List.{drop_all, get_or-map, length-map}
-use Rattle.dk_request.specs.Meaning.{ask_in, asks_in}
+use Rattle.dk_request.proofs.Names.{ℕ, suc, ◌≡◌, ◌+◌, ◌<◌, ◌≤◌, ◌∙◌, ◌++◌, ◌∷◌, [], arith, rules, append-nil, ap, sym, map, drop, get_or, length, List, None, drop-cons, drop_all, get_or-map, length-map, ask_in, asks_in}
+use Rattle.std.proofs.Common.{option_map}
+use Rattle.std.specs.Prelude.{Some}
 use Rattle.dk_request.proofs.AskLemmas.{next_ask, no_ask}
 use Rattle.dk_request.proofs.asks.asks_in.Goals as goal
 

@@ -1,5 +1,5 @@
-use Rattle.std.proofs.Common.{◌≡◌, ◌++◌, drop, map, option_map}
-use Rattle.dk_request.specs.Meaning.{asks_in}
+use Rattle.dk_request.proofs.Names.{◌≡◌, ◌++◌, drop, map, asks_in}
+use Rattle.std.proofs.Common.{option_map}
 use Rattle.dk_request.proofs.asks.asks_in.Given as goal
 
 -- the asks so far, before those of the words that are left

@@ -1,8 +1,4 @@
-use Rattle.std.proofs.Common.{◌≡◌, ◌∙◌, ap, codes, map, List, string_bytes}
-use Rattle.std.proofs.lemmas.Result.{IfErr-weaker, IfOk-weaker}
-use Rattle.clap.specs.Words.{App, Text, all_of, app_of, found_of, is_simple, matches_of, one_of, takes}
-use Rattle.clap.proofs.WalkLemmas.{one_text-rows, raw_values-rows}
-use Rattle.dk_request.specs.SimpleCommand.{simple_command}
+use Rattle.dk_request.proofs.Names.{◌≡◌, ◌∙◌, ap, codes, map, List, string_bytes, IfErr-weaker, IfOk-weaker, App, Text, all_of, app_of, found_of, is_simple, matches_of, one_of, takes, one_text-rows, raw_values-rows, simple_command}
 use Rattle.dk_request.proofs.ClapReads.{ReadsAll, reads_all}
 use Rattle.dk_request.proofs.ClapRules.{name_at}
 use Rattle.dk_request.proofs.clap_words.matches_of.Goals as goal

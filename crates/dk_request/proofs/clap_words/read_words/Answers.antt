@@ -1,6 +1,4 @@
-use Rattle.std.proofs.Common.{◌∙◌, drop, map, List, string_bytes}
-use Rattle.clap.specs.Words.{Text}
-use Rattle.dk_request.specs.Synopsis.{positionals}
+use Rattle.dk_request.proofs.Names.{◌∙◌, drop, map, List, string_bytes, Text, positionals}
 use Rattle.dk_request.proofs.ClapReads.{all_words, enough, never_given}
 use Rattle.dk_request.proofs.clap_words.read_words.Goals as goal
 

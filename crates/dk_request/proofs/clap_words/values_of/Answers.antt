@@ -1,8 +1,4 @@
-use Rattle.std.proofs.Common.{◌≡◌, ◌<◌, ◌++◌, ◌∙◌, arith, rules, ap, sym, [], length, map, Bor, List, ℕ}
-use Rattle.std.specs.Prelude.{option_map}
-use Rattle.std.proofs.lemmas.List.{get_or-map, length-map}
-use Rattle.clap.specs.Words.{found_of, matched_of, raw_values}
-use Rattle.dk_request.specs.Synopsis.{Synopsis, words_at, words_up_to}
+use Rattle.dk_request.proofs.Names.{◌≡◌, ◌<◌, ◌++◌, ◌∙◌, arith, rules, ap, sym, [], length, map, Bor, List, ℕ, option_map, get_or-map, length-map, found_of, matched_of, raw_values, Synopsis, words_at, words_up_to}
 use Rattle.dk_request.proofs.ClapReads.{first_words, words_next}
 use Rattle.dk_request.proofs.ClapRules.{name_at}
 use Rattle.dk_request.proofs.clap_words.values_of.Goals as goal

@@ -1,7 +1,4 @@
-use Rattle.std.proofs.Common.{ℕ, ◌≡◌, ◌≤◌, List, length, map}
-use Rattle.clap.specs.Words.{found_of}
-use Rattle.dk_request.specs.SimpleCommand.{HasWords}
-use Rattle.dk_request.specs.Synopsis.{words_up_to}
+use Rattle.dk_request.proofs.Names.{ℕ, ◌≡◌, ◌≤◌, List, length, map, found_of, HasWords, words_up_to}
 use Rattle.dk_request.proofs.clap_words.values_of.Given as goal
 
 -- the words of the arguments so far

@@ -1,7 +1,4 @@
-use Rattle.std.proofs.Common.{◌≡◌, ◌<◌, ◌≤◌, ◌∙◌, arith, ap, sym, length, map}
-use Rattle.std.proofs.lemmas.List.{get_or-map, length-map}
-use Rattle.dk_request.specs.Synopsis.{Synopsis}
-use Rattle.dk_request.specs.SimpleCommand.{with_rules}
+use Rattle.dk_request.proofs.Names.{◌≡◌, ◌<◌, ◌≤◌, ◌∙◌, arith, ap, sym, length, map, get_or-map, length-map, Synopsis, with_rules}
 use Rattle.dk_request.proofs.ClapRules.{add_next, all_arguments, name_at}
 use Rattle.dk_request.proofs.clap_words.with_arguments.Goals as goal
 

@@ -1,6 +1,4 @@
-use Rattle.std.proofs.Common.{◌≡◌, take}
-use Rattle.clap.specs.Words.{app_of}
-use Rattle.dk_request.specs.SimpleCommand.{arguments, with_rules}
+use Rattle.dk_request.proofs.Names.{◌≡◌, take, app_of, arguments, with_rules}
 use Rattle.dk_request.proofs.clap_words.with_arguments.Given as goal
 
 -- the arguments so far are there

@@ -1,4 +1,4 @@
-use Rattle.std.proofs.Common.{List, map, Bor, ℕ}
+use Rattle.dk_request.proofs.Names.{List, map, Bor, ℕ}
 use Rattle.dk_request.proofs.Requests.{few_asked, fit_asked}
 use Rattle.dk_request.proofs.request.request_in.Goals as goal
 

@@ -1,5 +1,4 @@
-use Rattle.std.proofs.Common.{◌≤◌, ◌-◌, ◌∙◌, arith, ap, sym, drop, length, map, string_bytes}
-use Rattle.std.proofs.lemmas.List.{length-drop, drop-map, take_all}
+use Rattle.dk_request.proofs.Names.{◌≤◌, ◌-◌, ◌∙◌, arith, ap, sym, drop, length, map, string_bytes, length-drop, drop-map, take_all}
 use Rattle.dk_request.proofs.request.words_from.Goals as goal
 
 pub returns-then-place-words : goal.returns-then-place-words

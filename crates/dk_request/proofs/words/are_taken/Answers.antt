@@ -1,4 +1,4 @@
-use Rattle.std.proofs.Common.{◌∙◌, sym}
+use Rattle.dk_request.proofs.Names.{◌∙◌, sym}
 use Rattle.dk_request.proofs.WordLemmas.{are_taken-map}
 use Rattle.dk_request.proofs.words.are_taken.Goals as goal
 

@@ -1,5 +1,4 @@
-use Rattle.std.proofs.Common.{rules, arith, ◌≡◌, true, sym}
-use Rattle.dk_asm.specs.Words.{is_numeral}
+use Rattle.dk_request.proofs.Names.{rules, arith, ◌≡◌, true, sym, is_numeral}
 use Rattle.dk_request.proofs.WordLemmas.{too_large}
 use Rattle.dk_request.proofs.words.number_in.Goals as goal
 

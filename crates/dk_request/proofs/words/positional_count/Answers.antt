@@ -1,7 +1,5 @@
-use Rattle.std.proofs.Common.{◌≡◌, ◌+◌, arith, refl, length, string_bytes, Global, String}
-use Rattle.std.specs.Prelude.{filter, not}
-use Rattle.std.proofs.lemmas.List.Filters.{length-filter_both}
-use Rattle.dk_request.specs.Synopsis.{is_flag}
+use Rattle.dk_request.proofs.Names.{◌≡◌, ◌+◌, arith, refl, length, string_bytes, Global, String, filter, length-filter_both, is_flag}
+use Rattle.std.specs.Prelude.{not}
 use Rattle.dk_request.proofs.words.positional_count.Goals as goal
 
 pub overflow_sub-result : goal.overflow_sub-result

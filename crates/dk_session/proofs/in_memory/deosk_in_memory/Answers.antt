@@ -1,5 +1,4 @@
-use Rattle.std.proofs.Common.{map, string_bytes}
-use Rattle.dk_outside.specs.MemDepot.{mem_files}
+use Rattle.dk_session.proofs.Names.{map, string_bytes, mem_files}
 use Rattle.dk_session.proofs.Room.{room_kept}
 use Rattle.dk_session.proofs.in_memory.deosk_in_memory.Goals as goal
 

@@ -1,4 +1,4 @@
-use Rattle.std.proofs.Common.{◌≡◌, ◌∙◌, inl, inr, map, string_bytes, rules, sym}
+use Rattle.dk_session.proofs.Names.{◌≡◌, ◌∙◌, inl, inr, map, string_bytes, rules, sym}
 use Rattle.dk_inputs.specs.declared.status.Status.TheVariants as status
 use Rattle.dk_session.proofs.Leaving.{is_loud, leaves_more, refusal_stands, usage_stands, work_stands}
 use Rattle.dk_session.proofs.Told.{completed, exactly, given_for_refusal, given_for_usage, given_for_work, kept, said_no_usage, said_undone, undone}

@@ -1,9 +1,5 @@
 -- What is written and what the writer is after, with these entries more.
-use Rattle.std.proofs.Common.{◌<◌, ◌∙◌, ap, arith, refl, reverse, subst, sym}
-use Rattle.std.proofs.lemmas.List.{length-reverse}
-use Rattle.std.specs.Prelude.{Ok, OnOk, IfSome}
-use Rattle.dk_trace.specs.Entries.{thread_of}
-use Rattle.dk_ledger.specs.Ledgers.{IsAfter, closed_text, closing_text}
+use Rattle.dk_command.proofs.Names.{◌<◌, ◌∙◌, ap, arith, refl, reverse, subst, sym, length-reverse, Ok, OnOk, IfSome, thread_of, IsAfter, closed_text, closing_text}
 use Rattle.dk_command.proofs.RunEntries.{gone_on_reversed}
 use Rattle.dk_command.proofs.WritingLemmas.{goes_on, same_text}
 use Rattle.dk_command.proofs.recording.RunLedgerRecorder.take.Goals as goal

@@ -1,9 +1,5 @@
 -- The totals stand for these entries more.
-use Rattle.std.proofs.Common.{◌≡◌, ◌<◌, ◌∙◌, ap, arith, length, refl, reverse, subst, sym}
-use Rattle.std.proofs.lemmas.List.{length-reverse}
-use Rattle.std.specs.Prelude.{IfSome}
-use Rattle.dk_trace.specs.Entries.{kernel_level, thread_of}
-use Rattle.dk_report.specs.Counts.{Numbers, StandsFor}
+use Rattle.dk_command.proofs.Names.{◌≡◌, ◌<◌, ◌∙◌, ap, arith, length, refl, reverse, subst, sym, length-reverse, IfSome, kernel_level, thread_of, Numbers, StandsFor}
 use Rattle.dk_command.proofs.RunEntries.{gone_on_reversed}
 use Rattle.dk_command.proofs.recording.RunTotalsRecorder.take.Goals as goal
 

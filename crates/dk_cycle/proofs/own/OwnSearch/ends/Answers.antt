@@ -1,4 +1,4 @@
-use Rattle.std.proofs.Common.{refl}
+use Rattle.dk_cycle.proofs.Names.{refl}
 use Rattle.dk_cycle.proofs.own.OwnSearch.ends.Goals as goal
 
 pub returns-then-same_main-clause-found : goal.returns-then-same_main-clause-found

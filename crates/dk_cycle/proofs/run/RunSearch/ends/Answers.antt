@@ -1,5 +1,4 @@
-use Rattle.std.proofs.Common.{refl, subst}
-use Rattle.dk_cycle.specs.Run.{AreAllProcesses}
+use Rattle.dk_cycle.proofs.Names.{refl, subst, AreAllProcesses}
 use Rattle.dk_cycle.proofs.run.RunSearch.ends.Goals as goal
 
 pub returns-then-same_processes-clause-found : goal.returns-then-same_processes-clause-found

@@ -1,7 +1,4 @@
-use Rattle.std.proofs.Common.{◌≡◌, ◌∙◌, Some, sym, subst}
-use Rattle.dk_cycle.specs.declared.Cycle.{Cycle}
-use Rattle.dk_cycle.specs.Run.{IsRunSearch}
-use Rattle.dk_cycle.specs.Start.{with_start}
+use Rattle.dk_cycle.proofs.Names.{◌≡◌, ◌∙◌, Some, sym, subst, Cycle, IsRunSearch, with_start}
 use Rattle.dk_cycle.proofs.Starts.{started}
 use Rattle.dk_cycle.proofs.run.RunSearch.start_at.Goals as goal
 

@@ -1,4 +1,4 @@
-use Rattle.std.proofs.Common.{rules, ◌≡◌, true}
+use Rattle.dk_cycle.proofs.Names.{rules, ◌≡◌, true}
 use Rattle.dk_cycle.proofs.Starts.{start-loud, start-quiet}
 use Rattle.dk_cycle.proofs.start.StartSearch.follow.Goals as goal
 

@@ -1,4 +1,4 @@
-use Rattle.std.proofs.Common.{◌%◌, arith}
+use Rattle.dk_cycle.proofs.Names.{◌%◌, arith}
 use Rattle.dk_cycle.proofs.Starts.{is-none, not-none, opens, shuts-early, shuts-late, shuts-loud}
 use Rattle.dk_cycle.proofs.start.StartSearch.is_open.Goals as goal
 

@@ -1,5 +1,4 @@
-use Rattle.std.proofs.Common.{ℕ, ◌≡◌, ◌+◌, ◌∙◌, ◌||◌, Bool, Option, false, refl, sym, ap, subst, arith}
-use Rattle.dk_cycle.specs.Waiting.{IsWaitWatch, main_waits}
+use Rattle.dk_cycle.proofs.Names.{ℕ, ◌≡◌, ◌+◌, ◌∙◌, ◌||◌, Bool, Option, false, refl, sym, ap, subst, arith, IsWaitWatch, main_waits}
 use Rattle.dk_cycle.proofs.Seen.{gone-on, window-over}
 use Rattle.dk_cycle.proofs.waiting.WaitWatch.follow.Goals as goal
 use Rattle.dk_cycle.proofs.waiting.WaitWatch.follow.Goals.{then-main_waits, else-main_waits}

@@ -83,16 +83,6 @@ spend_holds-requires-clause-blocks g c =
     subst (λ (e : Cells). (j : ℕ) → effective_level x n d.mutexes ≤ j → j < n → 1 ≤ slice_index e.blocking j) (sym c.spent.ensures.cells)
     (subst (λ k. (j : ℕ) → effective_level x k d.mutexes ≤ j → j < k → 1 ≤ slice_index d.demand.blocking j) (sym level) may.blocks)
 
-pub spend_holds-requires-clause-few : goal.spend_holds-requires-clause-few
-spend_holds-requires-clause-few g c =
-    let x = c.args.id in
-    let d = the_view c.self.inside in
-    let may : MayBudget x d = subst (MayBudget x) (sym c.self.view_is) c.requires in
-    let level : c.seat_of-seat.result.level ≡ level_in d x = c.seat_of-seat.ensures.level ∙ sym (ap (λ (t : Tables). level_in t x) c.self.view_is) in
-    let n = c.seat_of-seat.result.level in
-    subst (λ (e : Cells). (j : ℕ) → effective_level x n d.mutexes ≤ j → j < n → slice_index e.blocking j ≤ 1000000) (sym c.spent.ensures.cells)
-    (subst (λ k. (j : ℕ) → effective_level x k d.mutexes ≤ j → j < k → slice_index d.demand.blocking j ≤ 1000000) (sym level) may.few)
-
 told : (d : Tables) (x : ThreadId) (part : Phase) (node level : ℕ) (j : Roster) (m : List Lockable) (e : Cells) (s : Slack)
     → node ≡ node_in d.threads x → level ≡ level_in d x → j ≡ spent_on node d.jobs → m ≡ map (spent_row x) d.mutexes
     → e ≡ held_cells level (effective_level x level d.mutexes) 1 0 (dropped_cells level 1 d.demand) → s ≡ counts (Some level) d.slack

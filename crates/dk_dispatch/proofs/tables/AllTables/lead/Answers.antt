@@ -1,6 +1,5 @@
 use Rattle.std.proofs.Common.{◌∙◌, ◌≡◌, None, arith, refl, subst}
 use Rattle.dk_mutex.specs.Front.{RunsFirst}
-use Rattle.dk_mutex.specs.Table.{hold_left}
 use Rattle.dk_ready.specs.First.{IsComputing}
 use Rattle.dk_recount.specs.Choosing.{kernel_left}
 use Rattle.dk_recount.specs.Tables.{HasFamilies, IsSound, Tables}
@@ -21,5 +20,5 @@ returns c =
           (subst IsSound c.self.view_is c.self.invariant) (subst HasFamilies c.self.view_is c.rows_are_in_order.ensures) c.choice_is_the_pasts.ensures
           c.workers_are_the_pasts.ensures.front c.callers_have_rows.ensures.slots c.holds_are_the_pasts.ensures.left refl
           (λ s fits is. c.slot_of.ensures ∙ slot-rest first.thread.process first.node s fits is)
-          (λ on. subst (λ (t : Tables). hold_left first.thread t.mutexes ≡ 0) c.self.view_is (c.are_free.ensures.left first.thread on));
+          c.innermost_left.ensures;
     }

@@ -1,4 +1,4 @@
-use Rattle.std.proofs.Common.{◌∙◌, ℕ, ◌≡◌, ◌≤◌, map, true, None, arith, inr, refl, subst}
+use Rattle.std.proofs.Common.{◌∙◌, ℕ, ◌≡◌, ◌≤◌, map, true, None, arith, inr, refl, subst, sym}
 use Rattle.dk_mutex.specs.Front.{RunsFirst}
 use Rattle.dk_mutex.specs.Table.{effective_level, hold_left, holder_at}
 use Rattle.dk_mutex.specs.Rows.{spent as spent_row}
@@ -32,10 +32,10 @@ returns-clause-runs c =
       there = inr (refl, holders first.level (omega arith));
     } in
     let slot = c.slot_of.result in
-    let lead : Lead = record { thread = first.thread; slot = slot; is_free = true } in
+    let lead : Lead = record { thread = first.thread; slot = slot; left = 0 } in
     let led = leads d first first.level lead computing runs kernel (λ _. wish) sound families c.choice_is_the_pasts.ensures
     c.workers_are_the_pasts.ensures.front c.callers_have_rows.ensures.slots c.holds_are_the_pasts.ensures.left refl
-    (λ s fits is. c.slot_of.ensures ∙ slot-rest first.thread.process first.node s fits is) (λ yes. free) in
+    (λ s fits is. c.slot_of.ensures ∙ slot-rest first.thread.process first.node s fits is) (sym free) in
     let at = computes.stands in
     let node = c.workers_are_the_pasts.ensures.front has.config has.past d first.thread has.stands families sound first.level first.node at.known at.front at.thread in
     let most = c.in_ok-most.most in

@@ -1,8 +1,4 @@
-use Rattle.std.proofs.Common.{◌≡◌, ◌+◌, ◌<◌, ◌≤◌, ◌∙◌, ◌∷◌, length, sym, ap, arith}
-use Rattle.dk_world.specs.Run.{trace}
-use Rattle.dk_kernel.specs.Running.{Running, trace_of}
-use Rattle.dk_cycle.specs.Waiting.{IsWaitWatch}
-use Rattle.dk_repeat_search.specs.Always.{watched_process}
+use Rattle.dk_repeat_search.proofs.Names.{◌≡◌, ◌+◌, ◌<◌, ◌≤◌, ◌∙◌, ◌∷◌, length, sym, ap, arith, trace, Running, trace_of, IsWaitWatch, watched_process}
 use Rattle.dk_repeat_search.proofs.Places.{set-same}
 use Rattle.dk_repeat_search.proofs.Watching.{ahead-more, seen-more}
 use Rattle.dk_repeat_search.proofs.always.Watching.follow.Goals as goal

@@ -1,7 +1,4 @@
-use Rattle.std.proofs.Common.{ℕ, ◌≡◌, ◌+◌, ◌<◌, ◌≤◌, get_or, length, map}
-use Rattle.dk_cycle.specs.declared.waiting.WaitWatch.{WaitWatch}
-use Rattle.dk_cycle.specs.Waiting.{IsWaitWatch}
-use Rattle.dk_repeat_search.specs.Always.{watched_process}
+use Rattle.dk_repeat_search.proofs.Names.{ℕ, ◌≡◌, ◌+◌, ◌<◌, ◌≤◌, get_or, length, map, WaitWatch, IsWaitWatch, watched_process}
 use Rattle.dk_repeat_search.proofs.always.Watching.follow.Given as goal
 
 abbrev pub invariant-loop-watch : goal.invariant-loop-watch

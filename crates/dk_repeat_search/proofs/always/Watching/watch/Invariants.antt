@@ -1,5 +1,4 @@
-use Rattle.std.proofs.Common.{◌≡◌, ◌+◌}
-use Rattle.dk_repeat_search.specs.Always.{IsWatching}
+use Rattle.dk_repeat_search.proofs.Names.{◌≡◌, ◌+◌, IsWatching}
 use Rattle.dk_repeat_search.proofs.always.Watching.watch.Given as goal
 
 abbrev pub invariant-loop-step : goal.invariant-loop-step

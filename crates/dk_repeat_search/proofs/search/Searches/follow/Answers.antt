@@ -1,5 +1,4 @@
-use Rattle.std.proofs.Common.{◌∙◌, sym, ap}
-use Rattle.dk_kernel.specs.Running.{Running}
+use Rattle.dk_repeat_search.proofs.Names.{◌∙◌, sym, ap, Running}
 use Rattle.dk_repeat_search.proofs.Reading.{searching-next}
 use Rattle.dk_repeat_search.proofs.search.Searches.follow.Goals as goal
 

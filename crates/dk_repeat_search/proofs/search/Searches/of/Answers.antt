@@ -1,7 +1,4 @@
-use Rattle.std.proofs.Common.{ℕ, ◌≡◌, ◌∙◌, List, ap, subst}
-use Rattle.dk_config.specs.Configuration.{Configuration}
-use Rattle.dk_loader.specs.Workload.{Workload}
-use Rattle.dk_cycle.specs.Run.{IsRunSearch}
+use Rattle.dk_repeat_search.proofs.Names.{ℕ, ◌≡◌, ◌∙◌, List, ap, subst, Configuration, Workload, IsRunSearch}
 use Rattle.dk_repeat_search.proofs.search.Searches.of.Goals as goal
 
 pub returns : goal.returns

@@ -1,9 +1,13 @@
-use Rattle.std.proofs.Common.{◌≡◌, ◌+◌}
-use Rattle.dk_repeat_search.specs.Searching.{IsSearching}
+use Rattle.dk_repeat_search.proofs.Names.{◌≡◌, ◌+◌, ◌≤◌, IsSearching}
 use Rattle.dk_repeat_search.proofs.search.Searches.search.Given as goal
 
-abbrev pub invariant-loop-step : goal.invariant-loop-step
-invariant-loop-step g l = record {
+abbrev pub invariant-loop-left : goal.invariant-loop-left
+invariant-loop-left g l = record {
   is : IsSearching l.kernel l.self;
-  next : l.kernel ≡ record l.fn.kernel { ticks = l.fn.kernel.ticks + l.step };
+  same : l.kernel ≡ record l.initial.kernel { ticks = l.kernel.ticks };
+  count : l.kernel.ticks + l.left ≡ l.initial.kernel.ticks + l.ticks;
+  later : 1 ≤ l.wait;
 }
+
+abbrev pub decreases-loop-left : goal.decreases-loop-left
+decreases-loop-left g l = l.left

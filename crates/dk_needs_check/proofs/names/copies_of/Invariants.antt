@@ -1,5 +1,0 @@
-use Rattle.std.proofs.Common.{◌≡◌, map, take}
-use Rattle.dk_needs_check.proofs.names.copies_of.Given as goal
-
-abbrev pub invariant-loop-row : goal.invariant-loop-row
-invariant-loop-row l = l.names.items ≡ map (λ row. row.name) (take l.row-index l.row-items)

@@ -1,7 +1,0 @@
-use Rattle.std.proofs.Common.{sym, subst}
-use Rattle.dk_needs_check.specs.Csv.{IsPlain}
-use Rattle.dk_needs_check.proofs.Plain.{id_is_plain}
-use Rattle.dk_needs_check.proofs.table.need_record.Goals as goal
-
-pub record_of-requires-clause-id : goal.record_of-requires-clause-id
-record_of-requires-clause-id c = subst IsPlain (sym c.as_str.ensures) (id_is_plain c.args.need.now.id c.requires.fit.id)

@@ -1,8 +1,0 @@
-use Rattle.std.proofs.Common.{◌≡◌, ◌++◌, drop, flat_map, string_bytes}
-use Rattle.dk_needs_check.specs.Text.{row_line}
-use Rattle.dk_needs_check.proofs.text.add_rows.Given as goal
-
--- the lines so far, before those of the rows that are left
-abbrev pub invariant-loop-row : goal.invariant-loop-row
-invariant-loop-row l =
-    string_bytes l.text ++ flat_map (row_line l.names l.tick l.needs) (drop l.row-index l.rows) ≡ string_bytes l.initial.text ++ flat_map (row_line l.names l.tick l.needs) l.rows

@@ -1,0 +1,5 @@
+use Rattle.std.proofs.Common.{◌≡◌, map, take}
+use Rattle.dk_needs_text.proofs.names.copies_of.Given as goal
+
+abbrev pub invariant-loop-row : goal.invariant-loop-row
+invariant-loop-row l = l.names.items ≡ map (λ row. row.name) (take l.row-index l.row-items)

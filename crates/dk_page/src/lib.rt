@@ -1,0 +1,15 @@
+//! One page in HTML for the design review of a layout.
+//!
+//! The page names nothing outside itself and has no script. A constant style sheet draws the bars from the numbers that
+//! stand on the rows. All times are ticks of the simulated processor.
+#![tactic(auto)]
+
+mod findings;
+mod outputs;
+mod template;
+mod told;
+mod top;
+mod whole;
+
+pub use told::{Certification, Told};
+pub use whole::{faults_page, page};

@@ -1,0 +1,2 @@
+pub mod ExitLemmas
+pub mod Reading

@@ -1,0 +1,21 @@
+//! The program behind `deosk-show page`: the words of the process, the system's files and standard output.
+#![tactic(auto)]
+
+mod answers;
+mod page;
+mod program;
+mod status;
+
+use crate::program::run_program;
+use dk_edge::{FileDepot, ProcessWords, StandardOutput, SystemFiles};
+use std::process::ExitCode;
+
+fn main(rt: HostRuntime) -> ExitCode {
+    run_program(
+        rt.alloc(),
+        &ProcessWords::new(&rt),
+        &mut FileDepot::new(SystemFiles::new(&rt)),
+        StandardOutput::new(&rt),
+    )
+    .0
+}

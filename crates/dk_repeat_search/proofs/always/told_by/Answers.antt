@@ -1,0 +1,28 @@
+use Rattle.dk_repeat_search.proofs.Names.{◌∙◌, List, length, sym, ap, subst, OwnSearch, WaitWatch, Workload, IsLoaded, loaded_of, AreTold}
+use Rattle.dk_repeat_search.proofs.Places.{many-own}
+use Rattle.dk_repeat_search.proofs.Watching.{always-of, many-watches}
+use Rattle.dk_repeat_search.proofs.always.told_by.Goals as goal
+
+pub settle-requires-clause-of : goal.settle-requires-clause-of
+settle-requires-clause-of g c = c.requires.of ∙ sym (ap loaded_of c.watch.ensures.same)
+
+pub all_waits-requires : goal.all_waits-requires
+all_waits-requires g c =
+    let k = c.watch.new.kernel in
+    ap length c.as_slice-own.ensures.value ∙ many-own k.config k.programs k.ticks c.settle.new.self.own.items c.in_ok-settle.ensures.is.own
+    ∙ sym (many-watches k.config k.programs k.ticks c.watch.new.self.watches.items c.in_ok-watch.ensures.is.watches) ∙ sym (ap length c.as_slice.ensures.value)
+
+pub returns : goal.returns
+returns g c =
+    let k = c.watch.new.kernel in
+    let s = c.settle.new.self in
+    let watches = c.watch.new.self.watches.items in
+    let waits = c.in_ok-waits.waits.items in
+    let told =
+    subst (λ (own : List OwnSearch). AreTold own watches (length own) waits) c.as_slice-own.ensures.value
+    (subst (λ (ws : List WaitWatch). AreTold c.as_slice-own.result.now ws (length c.as_slice-own.result.now) waits) c.as_slice.ensures.value c.in_ok-waits.ensures) in
+    let both =
+    always-of (loaded_of c.args.kernel.now) k watches c.watch.new.self.searches s c.run_told.result waits c.told_law.ensures.run c.waits_law.ensures
+    (ap loaded_of c.watch.ensures.same) (subst (λ (w : Workload). IsLoaded w) c.requires.of c.requires.pass.loaded) c.in_ok-settle.ensures c.in_ok-watch.ensures.is.watches
+    c.run_told.ensures told in
+    record { run = both.0; waits = both.1 }

@@ -1,0 +1,42 @@
+use Rattle.dk_repeat_search.proofs.Names.{◌∙◌, length, sym, ap, subst, arith, Workload, Running, shares_of, AreOwn, loaded_of}
+use Rattle.dk_repeat_search.proofs.Places.{many-own}
+use Rattle.dk_repeat_search.proofs.Told.{found-all, knows-reader}
+use Rattle.dk_repeat_search.proofs.report.found_by.Goals as goal
+
+pub settle-requires-clause-of : goal.settle-requires-clause-of
+settle-requires-clause-of g c = c.requires.of ∙ sym (ap loaded_of c.search.ensures.same)
+
+pub count_run-requires-clause-shares : goal.count_run-requires-clause-shares
+count_run-requires-clause-shares g c = c.requires.shares ∙ sym (ap (λ (r : Running). shares_of r.config) c.search.ensures.same)
+
+pub all_found-requires-clause-own : goal.all_found-requires-clause-own
+all_found-requires-clause-own g c =
+    let k = c.search.new.kernel in
+    let l = c.count_run.new.kernel in
+    let own = c.settle.new.self.own.items in
+    subst (AreOwn l.config l.programs c.now-reached.result) (sym c.as_slice.ensures.value)
+    (subst (λ (r : Running). AreOwn r.config r.programs c.now-reached.result own) (sym c.in_ok-counts.ensures.same)
+    (subst (λ n. AreOwn k.config k.programs n own) (sym c.now-reached.ensures.ticks) c.in_ok-settle.ensures.is.own))
+
+pub all_found-requires-clause-shares : goal.all_found-requires-clause-shares
+all_found-requires-clause-shares g c =
+    c.requires.shares ∙ sym (ap (λ (r : Running). shares_of r.config) c.search.ensures.same)
+    ∙ sym (ap (λ (r : Running). shares_of r.config) c.in_ok-counts.ensures.same)
+
+pub all_found-requires-clause-many : goal.all_found-requires-clause-many
+all_found-requires-clause-many g c =
+    let k = c.search.new.kernel in
+    let many = ap length c.as_slice.ensures.value ∙ many-own k.config k.programs k.ticks c.settle.new.self.own.items c.in_ok-settle.ensures.is.own
+    ∙ ap (λ (r : Running). length r.config.processes) c.search.ensures.same ∙ sym (ap (λ (w : Workload). length w.config.processes) c.requires.of) in
+    let few = c.requires.pass.loaded.limits.few_processes in
+    omega (arith, many, few)
+
+pub returns-clause-found : goal.returns-clause-found
+returns-clause-found g c =
+    found-all (loaded_of c.args.kernel.now) c.search.new.kernel c.count_run.new.kernel c.search.new.self c.settle.new.self c.in_ok-counts.counts c.in_ok-own.own.items
+    (ap loaded_of c.search.ensures.same) c.in_ok-counts.ensures.same c.in_ok-settle.ensures c.in_ok-counts.ensures.counted c.in_ok-own.ensures
+
+pub returns-clause-reader : goal.returns-clause-reader
+returns-clause-reader g c =
+    knows-reader (loaded_of c.args.kernel.now) c.search.new.kernel c.args.ticks c.search.new.self c.settle.new.self (ap loaded_of c.search.ensures.same) c.in_ok-settle.ensures
+    (λ none. let all = c.in_ok-search.ensures.all none in omega (arith, all, c.requires.begun))

@@ -1,0 +1,24 @@
+-- What a verdict, and what a reading, says of a page.
+use Rattle.std.proofs.Common.{◌≡◌, ℕ, List, subst, sym}
+use Rattle.std.specs.Prelude.{IfOk, Result, Ok, Err}
+use Rattle.dk_certify.specs.declared.certifying.Verdict.{Verdict}
+use Rattle.dk_config.specs.Configuration.{Configuration}
+use Rattle.dk_loader.specs.declared.fault.LoadFault.{LoadFault}
+use Rattle.dk_page.specs.declared.told.Certification.{Certification}
+use Rattle.dk_review.specs.Reviews.{IsCertification, IsRefused, IsReviewOf, IsReviewed}
+use Rattle.dk_review.specs.declared.reviewing.Review.{Review}
+
+pub of_config : {E : Type 0} (name document : List ℕ) (read : Result Configuration LoadFault) (r : Result Review E) (c : Configuration)
+    → read ≡ Ok c → IfOk r (IsReviewed name document c) → IfOk r (IsReviewOf name document read)
+of_config name document read r c is reviewed = subst (λ k. IfOk r (IsReviewOf name document k)) (sym is) reviewed
+
+pub of_none : {E : Type 0} (name document : List ℕ) (read : Result Configuration LoadFault) (r : Result Review E) (e : LoadFault)
+    → read ≡ Err e → IfOk r (IsRefused name document) → IfOk r (IsReviewOf name document read)
+of_none name document read r e is refused = subst (λ k. IfOk r (IsReviewOf name document k)) (sym is) refused
+
+pub same_fails : (c : Configuration) (v w : Verdict) (k : Certification) → v ≡ w → IsCertification c w k → IsCertification c v k
+same_fails c v w k is told = subst (λ x. IsCertification c x k) (sym is) told
+
+pub same_verdict : {E : Type 0} (c : Configuration) (v w : Verdict) (r : Result Certification E)
+    → v ≡ w → IfOk r (IsCertification c w) → IfOk r (IsCertification c v)
+same_verdict c v w r is told = subst (λ x. IfOk r (IsCertification c x)) (sym is) told

@@ -1,0 +1,2 @@
+pub mod Reviews
+pub use Rattle.dk_config.specs.Checked
