@@ -27,7 +27,12 @@ fn child_of(process: u8, label: Label) -> Option<u32>
 fn is_among(serials: &[u32], serial: u32) -> bool
     ensures { result ≡ list_any (λ s. s == serial) serials.now }
 {
-    serials.iter().any(|s| *s == serial)
+    for made in serials {
+        if *made == serial {
+            return true;
+        }
+    }
+    false
 }
 
 /// Adds the child where it isn't there.
