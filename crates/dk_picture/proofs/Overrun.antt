@@ -15,7 +15,7 @@ use Rattle.dk_trace.specs.declared.ThreadId.{ThreadId}
 use Rattle.dk_trace.specs.declared.Event.{Event}
 use Rattle.dk_trace.specs.declared.Entry.{Entry}
 use Rattle.dk_trace.specs.declared.Label.{Label}
-use Rattle.dk_trace.specs.Entries.{does, has_event, is_budget_of, is_end, is_of, is_same, is_wait, stops, thread_of, window}
+use Rattle.dk_trace.specs.Entries.{does, is_budget_of, is_end, is_of, is_same, is_wait, stops, thread_of, window}
 use Rattle.dk_trace.specs.Guarantees.{past_at}
 use Rattle.dk_ledger.specs.declared.line.LedgerLine.{LedgerLine}
 use Rattle.dk_ledger.specs.Cuts.{AreFilled, entries_of}

@@ -1,5 +1,5 @@
 -- What each main used of its budget, in each of its windows that lies in the range, and whether it overran it.
-use Rattle.std.specs.Prelude.{ℕ, ◌+◌, ◌-◌, ◌*◌, ◌/◌, ◌++◌, ◌==◌, ◌&&◌, ◌||◌, not, [], ◌∷◌, Bool, false, List, Option, Some, None, codes, decimal, flat_map, if◌then◌else◌, length, max, min, nat_le, nat_lt, sum_by}
+use Rattle.std.specs.Prelude.{ℕ, ◌+◌, ◌-◌, ◌/◌, ◌++◌, ◌&&◌, ◌||◌, not, [], ◌∷◌, Bool, false, List, codes, decimal, flat_map, if◌then◌else◌, length, max, min, nat_le, nat_lt, sum_by}
 use Rattle.std.specs.List.{list_any}
 use Rattle.std.specs.Option.{option_map_or}
 use Rattle.dk_config.specs.Sums.{below}

@@ -81,31 +81,43 @@ fn add_terms_part(
     }
 }
 
-/// A number that ends there, where it isn't 0.
-fn counted(alloc: Global, class: &str, x: u64, y: u64, number: u64) -> Result<String, AllocError>
-    ensures { IfOk result (λ s. string_bytes s ≡ counted class.now x y number) }
+/// Adds a number that ends there, where it isn't 0.
+fn add_counted(
+    alloc: Global,
+    text: &mut String,
+    class: &str,
+    x: u64,
+    y: u64,
+    number: u64,
+) -> Result<(), AllocError>
+    ensures { OnOk result (string_bytes text.new ≡ string_bytes text.old ++ counted class.now x y number) }
 {
     if number == 0 {
-        return Ok(String::new(alloc));
+        return Ok(());
     }
-    number_at(alloc, class, x, y, number)
+    push_line(text, number_at(alloc, class, x, y, number)?)
 }
 
-/// The numbers of the row.
+/// Adds the numbers of the row.
 #[tactic(auto, unfolding(crate::specs::RowTexts::counts_text))]
-fn counts_text(alloc: Global, y: u64, row: Row, groups: &[LedgerLine]) -> Result<String, AllocError>
+fn add_counts(
+    alloc: Global,
+    text: &mut String,
+    y: u64,
+    row: Row,
+    groups: &[LedgerLine],
+) -> Result<(), AllocError>
     requires { length groups.now < 2 ^ 16 }
-    ensures { IfOk result (λ s. string_bytes s ≡ counts_text y row groups.now) }
+    ensures { OnOk result (string_bytes text.new ≡ string_bytes text.old ++ counts_text y row groups.now) }
 {
     let ticks = column_sum(groups, row, Column::Ticks);
     let slack = column_sum(groups, row, Column::Slack);
     let refused = column_sum(groups, row, Column::Refused);
     let faults = column_sum(groups, row, Column::Faults);
-    let mut text = number_at(alloc, "t x", 1232, y, ticks)?;
-    push_line(&mut text, counted(alloc, "t x", 1304, y, slack)?)?;
-    push_line(&mut text, counted(alloc, "u x", 1376, y, refused)?)?;
-    push_line(&mut text, counted(alloc, "u x", 1448, y, faults)?)?;
-    Ok(text)
+    push_line(text, number_at(alloc, "t x", 1232, y, ticks)?)?;
+    add_counted(alloc, text, "t x", 1304, y, slack)?;
+    add_counted(alloc, text, "u x", 1376, y, refused)?;
+    add_counted(alloc, text, "u x", 1448, y, faults)
 }
 
 /// Each second row has a lane of another shade.
@@ -171,7 +183,7 @@ fn add_row(
     push_line(text, name_text(alloc, header, place, top, row)?)?;
     let terms = terms_of(header, drawing.makings(), row);
     add_terms_part(alloc, text, header, span, top, terms)?;
-    push_line(text, counts_text(alloc, top + 10, row, drawing.groups())?)
+    add_counts(alloc, text, top + 10, row, drawing.groups())
 }
 
 /// Adds the rows.

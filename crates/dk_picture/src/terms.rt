@@ -1,6 +1,5 @@
 //! What the thread of a row may use.
 ghost use Rattle.std.specs.Prelude.{◌≡◌, find};
-ghost use Rattle.dk_trace.specs.Entries.{thread_of};
 ghost use Rattle.dk_picture.specs.Terms.{budget_of, child_terms, creates, is_of_process, makes, period_of, terms_of, thread_terms};
 
 use crate::row_list::level_of;

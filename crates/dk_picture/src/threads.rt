@@ -5,7 +5,7 @@ ghost use Rattle.dk_picture.specs.Rows.{child_of, children, with_child};
 
 use dk_config::NoMemory;
 use dk_ledger::LedgerLine;
-use dk_trace::{Label, ThreadId};
+use dk_trace::Label;
 use std::alloc::Global;
 
 /// The serial of a child of the process that had the group.
