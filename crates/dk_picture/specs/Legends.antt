@@ -82,15 +82,16 @@ abbrev pub shape_text : Shape → List ℕ
 shape_text s = codes "<path class='" ++ mark_class s.event ++ codes "' d='M" ++ decimal s.x ++ codes " 52"
     ++ outline s.event ++ shape_end s.event ++ words_text (s.x + 8) 56 (word_of s.event)
 
--- where a window begins
+-- where a window begins, and until when its main wasn't done
 abbrev pub begin_sample : List ℕ
 begin_sample = rect_head (codes "w") (record { x = 738; y = 21; width = 1; height = 23 })
-    ++ codes "/>" ++ words_text 746 36 (codes "a window begins")
+    ++ codes "/>" ++ words_text 746 36 (codes "a window begins") ++ rect_head (codes "e")
+    (record { x = 872; y = 38; width = 24; height = 1 }) ++ codes "/>" ++ words_text 904 36 (codes "until the main is done")
 
 -- a main that used so many ticks of a budget of 15 in a window, and whether it overran it
 abbrev pub some_share : ℕ → Bool → Share
 some_share used overran =
-    record { row = 0; first = 0; end = 0; used = used; overran = overran; budget = 15; shared = false }
+    record { row = 0; first = 0; end = 0; used = used; done = 0; overran = overran; budget = 15; shared = false }
 
 abbrev pub share_sample : ℕ → Share → List ℕ
 share_sample x d = codes "<text class='" ++ share_class d ++ codes "' x='" ++ decimal x ++ codes "' y='56'>"

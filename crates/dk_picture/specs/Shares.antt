@@ -1,5 +1,5 @@
 -- What each main used of its budget, in each of its windows that lies in the range, and whether it overran it.
-use Rattle.std.specs.Prelude.{ℕ, ◌+◌, ◌-◌, ◌/◌, ◌++◌, ◌&&◌, ◌||◌, not, [], ◌∷◌, Bool, false, List, codes, decimal, flat_map, if◌then◌else◌, length, max, min, nat_le, nat_lt, sum_by}
+use Rattle.std.specs.Prelude.{ℕ, ◌+◌, ◌-◌, ◌/◌, ◌++◌, ◌==◌, ◌&&◌, ◌||◌, not, [], ◌∷◌, Bool, false, List, codes, decimal, flat_map, if◌then◌else◌, length, max, min, nat_le, nat_lt, sum_by}
 use Rattle.std.specs.List.{list_any}
 use Rattle.std.specs.Option.{option_map_or}
 use Rattle.dk_config.specs.Sums.{below}
@@ -13,7 +13,7 @@ use Rattle.dk_picture.specs.declared.frame.Frame.{Frame}
 use Rattle.dk_picture.specs.declared.shares.Share.{Share}
 use Rattle.dk_picture.specs.declared.span.Span.{Span}
 use Rattle.dk_picture.specs.declared.windows.Window.{Window}
-use Rattle.dk_picture.specs.Elements.{words_at}
+use Rattle.dk_picture.specs.Elements.{rect, words_at}
 use Rattle.dk_picture.specs.Frames.{top_of}
 use Rattle.dk_picture.specs.Labels.{room_in}
 use Rattle.dk_picture.specs.Makings.{has_made}
@@ -38,6 +38,15 @@ used_weight x first end g = if is_budget_of x (quiet g.label) then ticks_within 
 abbrev pub used_in : List LedgerLine → ThreadId → ℕ → ℕ → ℕ
 used_in gs x first end = sum_by (used_weight x first end) gs
 
+-- the tick behind the group's last one in the window that the thread's budget paid for
+abbrev pub done_weight : ThreadId → ℕ → ℕ → LedgerLine → ℕ
+done_weight x first end g = if nat_lt 0 (used_weight x first end g) then min (g.start + g.count) end else 0
+
+-- the tick behind the last one in the window that the thread's budget paid for, or 0
+abbrev pub done_by : List LedgerLine → ThreadId → ℕ → ℕ → ℕ
+done_by [] x first end = 0
+done_by (g ∷ gs) x first end = max (done_weight x first end g) (done_by gs x first end)
+
 -- the call that ends a job, or an event that ends the thread
 abbrev pub is_last : Event → Bool
 is_last event = is_wait event || is_end event
@@ -59,6 +68,7 @@ share_in h c p w = record {
   first = w.first;
   end = w.end;
   used = used_in c.groups (main_of p) w.first w.end;
+  done = done_by c.groups (main_of p) w.first w.end;
   overran = overran_in c.groups (main_of p) w.first w.end;
   budget = budget_of h p;
   shared = has_made c.makings (main_of p) w.first;
@@ -101,8 +111,18 @@ abbrev pub share_line : Frame → Span → Share → List ℕ → List ℕ
 share_line f s d words = if nat_le (length words) (room_in s d.first d.end)
     then words_at (share_class d) (place_of s d.end - 3) (top_of f d.row + 27) words else []
 
+-- below the bars, from the window's begin to the end of the last tick that the budget paid for
+abbrev pub done_line : Frame → Span → Share → List ℕ
+done_line f s d = if d.used == 0 then []
+    else rect (codes "e") (record {
+      x = place_of s d.first;
+      y = top_of f d.row + 12;
+      width = place_of s d.done - place_of s d.first;
+      height = 1;
+    })
+
 abbrev pub share_text : Frame → Span → Share → List ℕ
-share_text f s d = share_line f s d (share_words d)
+share_text f s d = done_line f s d ++ share_line f s d (share_words d)
 
 abbrev pub shares_text : Frame → Span → List Share → List ℕ
 shares_text f s ds = flat_map (share_text f s) ds

@@ -1,9 +1,9 @@
 //! The words that tell what each main used of its budget, in each of its windows that lies in the range.
 ghost use Rattle.std.specs.Prelude.{◌≡◌, ◌<◌, ◌≤◌, ◌++◌, IfOk, OnOk, length, string_bytes};
-ghost use Rattle.dk_picture.specs.Shares.{share_class, share_line, share_of, share_text, share_words, shares, shares_of, shares_of_process, shares_text};
+ghost use Rattle.dk_picture.specs.Shares.{done_line, share_class, share_line, share_of, share_text, share_words, shares, shares_of, shares_of_process, shares_text};
 
 use crate::drawing::Drawing;
-use crate::elements::{push_line, words_at};
+use crate::elements::{Place, push_line, rect, words_at};
 use crate::frame::Frame;
 use crate::labels::room_in;
 use crate::row_list::{is_seen, level_of};
@@ -59,11 +59,33 @@ fn share_line(
     )
 }
 
+/// A line below the bars, from the window's begin on, until the main is done.
+fn done_line(alloc: Global, frame: Frame, span: Span, share: Share) -> Result<String, AllocError>
+    ensures { IfOk result (λ s. string_bytes s ≡ done_line frame span share) }
+{
+    if share.used == 0 {
+        return Ok(String::new(alloc));
+    }
+    let x = span.place(share.first);
+    let place = Place {
+        x,
+        y: frame.top(share.row) + 12,
+        width: span.place(share.done).saturating_sub(x),
+        height: 1,
+    };
+    rect(alloc, "e", place)
+}
+
 fn share_text(alloc: Global, frame: Frame, span: Span, share: Share) -> Result<String, AllocError>
     ensures { IfOk result (λ s. string_bytes s ≡ share_text frame span share) }
 {
     let words = share_words(alloc, share)?;
-    share_line(alloc, frame, span, share, words.as_str())
+    let mut text = done_line(alloc, frame, span, share)?;
+    push_line(
+        &mut text,
+        share_line(alloc, frame, span, share, words.as_str())?,
+    )?;
+    Ok(text)
 }
 
 /// What the main used in the window, where that lies in the range.

@@ -3,7 +3,7 @@ ghost use Rattle.std.specs.Prelude.{◌≡◌, ◌<◌, ◌^◌, false, length};
 ghost use Rattle.std.specs.List.{list_any};
 ghost use Rattle.std.specs.Option.{option_map_or};
 ghost use Rattle.dk_trace.specs.Entries.{is_budget_of, is_same, quiet};
-ghost use Rattle.dk_picture.specs.Shares.{is_done_in, is_last, is_whole, main_of, share_in, ticks_within, used_in, used_weight};
+ghost use Rattle.dk_picture.specs.Shares.{done_by, done_weight, is_done_in, is_last, is_whole, main_of, share_in, ticks_within, used_in, used_weight};
 
 use crate::drawing::Drawing;
 use crate::makings::has_made;
@@ -20,6 +20,8 @@ pub(crate) struct Share {
     pub(crate) first: u64,
     pub(crate) end: u64,
     pub(crate) used: u64,
+    /// Behind the last tick that the budget paid for.
+    pub(crate) done: u64,
     pub(crate) overran: bool,
     pub(crate) budget: u32,
     /// Whether children may have a part of the budget.
@@ -76,6 +78,28 @@ fn used_in(groups: &[LedgerLine], thread: ThreadId, first: u64, end: u64) -> u64
     sum
 }
 
+/// The tick behind the group's last one in the window that the thread's budget paid for.
+fn done_weight(thread: ThreadId, first: u64, end: u64, group: &LedgerLine) -> u64
+    ensures { result ≡ done_weight thread first end group.now }
+{
+    if used_weight(thread, first, end, group) > 0 {
+        (group.start as u64 + group.count as u64).min(end)
+    } else {
+        0
+    }
+}
+
+/// The tick behind the last one in the window that the thread's budget paid for, or 0.
+fn done_by(groups: &[LedgerLine], thread: ThreadId, first: u64, end: u64) -> u64
+    ensures { result ≡ done_by groups.now thread first end }
+{
+    let mut done = 0;
+    for group in groups {
+        done = done.max(done_weight(thread, first, end, group));
+    }
+    done
+}
+
 fn is_last(event: Option<Event>) -> bool
     ensures { result ≡ option_map_or is_last event false }
 {
@@ -124,6 +148,7 @@ pub(crate) fn share_in(header: &Header, drawing: &Drawing, process: u8, window: 
         first: window.first,
         end: window.end,
         used,
+        done: done_by(groups, main, window.first, window.end),
         overran: used > 0 && !done,
         budget: budget_of(header, process),
         shared: has_made(drawing.makings(), main, window.first),

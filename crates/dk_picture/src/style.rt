@@ -60,6 +60,7 @@ pub(crate) const LEGEND: &str =
 <rect class='rc' x='478' y='26' width='12' height='12'/><text x='496' y='36'>slack, reclaimed</text>
 <rect class='h' x='622' y='26' width='12' height='10'/><text x='640' y='36'>mutex held</text>
 <rect class='w' x='738' y='21' width='1' height='23'/><text x='746' y='36'>a window begins</text>
+<rect class='e' x='872' y='38' width='24' height='1'/><text x='904' y='36'>until the main is done</text>
 <path class='e' d='M13 52m-3 -3h2v7h-2zm4 0h2v7h-2z'/><text x='21' y='56'>wait</text>
 <path class='e' d='M67 52m-3 -3h7v7h-7z'/><text x='75' y='56'>exit</text>
 <path class='e' d='M121 52m-1 -3h2v2h2v2h-2v2h-2v-2h-2v-2h2z'/><text x='129' y='56'>create</text>
