@@ -20,7 +20,7 @@ use Rattle.dk_groups.specs.Groups.{groups}
 use Rattle.dk_groups.proofs.Slices.{whole_slice}
 use Rattle.dk_picture.specs.declared.rows.Row.{Row}
 use Rattle.dk_picture.specs.declared.rows.Row.TheVariants as row
-use Rattle.dk_picture.specs.Rows.{child_of, child_rows, children, level_of, level_rows, own_child, process_rows, rows_at_level, rows_of, takes, takes_thread, thread_of_process, with_child}
+use Rattle.dk_picture.specs.Rows.{child_of, child_rows, children, is_seen, level_of, level_rows, main_rows, own_child, process_rows, rows_at_level, rows_of, takes, takes_thread, thread_of_process, with_child}
 
 -- ---- lists in which some element passes
 
@@ -134,27 +134,33 @@ module _ (h : Heading) (gs : List LedgerLine) (is : IsReadableHeading h) where
             any_first takes_it (row.Children x.process) []
             (ap (λ b. b && not (x.serial == 0)) (same_number x.process) ∙ ap (λ b. true && b) (not_true x.serial child))
 
-    process_taken : (b : Bool) → (x.serial == 0) ≡ b → ((x.serial == 0) ≡ false → list_any (has x.serial) (children gs x.process) ≡ true)
-        → list_any takes_it (process_rows gs x.process) ≡ true
-    process_taken true main among =
+    main_there : x.serial ≡ 0 → is_seen gs x.process ≡ true → list_any takes_it (main_rows gs x.process) ≡ true
+    main_there main seen =
+        ap (λ b. list_any takes_it (if b then thread_of_process x.process 0 ∷ [] else [])) seen ∙ any_first takes_it (thread_of_process x.process 0) [] (main_taken x main)
+
+    process_taken : (b : Bool) → (x.serial == 0) ≡ b → (x.serial ≡ 0 → is_seen gs x.process ≡ true)
+        → ((x.serial == 0) ≡ false → list_any (has x.serial) (children gs x.process) ≡ true) → list_any takes_it (process_rows gs x.process) ≡ true
+    process_taken true main seen among =
         let zero_is : x.serial ≡ 0 = eqb-true _ _ main in
-        any_first takes_it (thread_of_process x.process 0) (child_rows x.process (children gs x.process)) (main_taken x zero_is)
-    process_taken false child among =
-        any_right takes_it (thread_of_process x.process 0 ∷ []) (child_rows x.process (children gs x.process)) (child_taken child (among child))
+        any_left takes_it (main_rows gs x.process) (child_rows x.process (children gs x.process)) (main_there zero_is (seen zero_is))
+    process_taken false child seen among =
+        any_right takes_it (main_rows gs x.process) (child_rows x.process (children gs x.process)) (child_taken child (among child))
 
     level_taken : list_any takes_it (process_rows gs x.process) ≡ true → list_any takes_it (rows_at_level h gs (level_of h x.process) x.process) ≡ true
     level_taken own = ap (λ b. list_any takes_it (if b then process_rows gs x.process else [])) (same_number (level_of h x.process)) ∙ own
 
-    pub thread_covered : ((x.serial == 0) ≡ false → list_any (has x.serial) (children gs x.process) ≡ true) → list_any takes_it (rows_of h gs) ≡ true
-    thread_covered among =
+    pub thread_covered : (x.serial ≡ 0 → is_seen gs x.process ≡ true) → ((x.serial == 0) ≡ false → list_any (has x.serial) (children gs x.process) ≡ true)
+        → list_any takes_it (rows_of h gs) ≡ true
+    thread_covered seen among =
         let known = level_known (length h.levels) x.process h.processes is.processes inside in
         any_right takes_it (row.Kernel ∷ []) (flat_map (level_rows h gs) (below (length h.levels)))
         (any_numbered takes_it (level_rows h gs) 0 (length h.levels) (level_of h x.process) (omega arith) (omega (arith, known))
         (any_numbered takes_it (rows_at_level h gs (level_of h x.process)) 0 (length h.processes) x.process (omega arith) (omega (arith, inside))
-        (level_taken (process_taken (x.serial == 0) refl among))))
+        (level_taken (process_taken (x.serial == 0) refl seen among))))
 
-  abbrev Among : Label → Type 0
-  Among label = (p s : ℕ) → child_of p label ≡ Some s → list_any (has s) (children gs p) ≡ true
+  record Among (label : Label) : Type 0 where
+    child : (p s : ℕ) → child_of p label ≡ Some s → list_any (has s) (children gs p) ≡ true
+    main : (p : ℕ) → takes label (thread_of_process p 0) ≡ true → is_seen gs p ≡ true
 
   child_is : (x : ThreadId) → (x.serial == 0) ≡ false → own_child x.process x ≡ Some x.serial
   child_is x child =
@@ -163,11 +169,12 @@ module _ (h : Heading) (gs : List LedgerLine) (is : IsReadableHeading h) where
 
   label_covered : (label : Label) → HasLabel (size_in h) label → Among label → list_any (takes label) (rows_of h gs) ≡ true
   label_covered (Label.Kernel j) known among = refl
-  label_covered (Label.In x) known among = thread_covered x known.0 (λ child. among x.process x.serial (child_is x child))
-  label_covered (Label.Run x) known among = thread_covered x known.0 (λ child. among x.process x.serial (child_is x child))
-  label_covered (Label.Call x) known among = thread_covered x known.0 (λ child. among x.process x.serial (child_is x child))
-  label_covered (Label.Out x) known among = thread_covered x known.0 (λ child. among x.process x.serial (child_is x child))
-  label_covered (Label.Slack x source work) known among = thread_covered x known.0.0 (λ child. among x.process x.serial (child_is x child))
+  label_covered (Label.In x) known among = thread_covered x known.0 (λ main. among.main x.process (main_taken x main)) (λ child. among.child x.process x.serial (child_is x child))
+  label_covered (Label.Run x) known among = thread_covered x known.0 (λ main. among.main x.process (main_taken x main)) (λ child. among.child x.process x.serial (child_is x child))
+  label_covered (Label.Call x) known among = thread_covered x known.0 (λ main. among.main x.process (main_taken x main)) (λ child. among.child x.process x.serial (child_is x child))
+  label_covered (Label.Out x) known among = thread_covered x known.0 (λ main. among.main x.process (main_taken x main)) (λ child. among.child x.process x.serial (child_is x child))
+  label_covered (Label.Slack x source work) known among =
+      thread_covered x known.0.0 (λ main. among.main x.process (main_taken x main)) (λ child. among.child x.process x.serial (child_is x child))
   label_covered Label.Idle known among = refl
 
 -- each process's children are among them, group by group
@@ -175,18 +182,31 @@ among_all : (p : ℕ) (all gs : List LedgerLine) (ss : List ℕ) → fold (step 
 among_all p all gs ss whole =
     subst (λ (t : List ℕ). AllByRecursion (λ g. (s : ℕ) → child_of p g.label ≡ Some s → list_any (has s) t ≡ true) gs) whole (all_among p ss gs)
 
+-- what passes is among all
+any_all : {A : Type 0} (q : A → Bool) (xs : List A) → AllByRecursion (λ x. q x ≡ true → list_any q xs ≡ true) xs
+any_all q [] = tt
+any_all q (x ∷ xs) = (any_first q x xs, go xs (any_all q xs))
+  where
+    go : (ys : List _) → AllByRecursion (λ y. q y ≡ true → list_any q xs ≡ true) ys → AllByRecursion (λ y. q y ≡ true → list_any q (x ∷ xs) ≡ true) ys
+    go [] all = tt
+    go (y ∷ ys) all = (λ is. any_later q x xs (q x) refl (all.0 is), go ys all.1)
+
+abbrev in_row : ℕ → LedgerLine → Bool
+in_row p g = takes g.label (thread_of_process p 0)
+
 covered_from : (h : Heading) (all gs : List LedgerLine) → IsReadableHeading h → AllByRecursion (IsReadableLine h) gs
     → ((p : ℕ) → AllByRecursion (λ g. (s : ℕ) → child_of p g.label ≡ Some s → list_any (has s) (children all p) ≡ true) gs)
+    → ((p : ℕ) → AllByRecursion (λ g. in_row p g ≡ true → list_any (in_row p) all ≡ true) gs)
     → AllByRecursion (λ g. list_any (takes g.label) (rows_of h all) ≡ true) gs
-covered_from h all [] is fits among = tt
-covered_from h all (g ∷ gs) is fits among = (
-  label_covered h all is g.label fits.0.label (λ p s. (among p).0 s),
-  covered_from h all gs is fits.1 (λ p. (among p).1),
+covered_from h all [] is fits among seen = tt
+covered_from h all (g ∷ gs) is fits among seen = (
+  label_covered h all is g.label fits.0.label (record { child = λ p s. (among p).0 s; main = λ p. (seen p).0 }),
+  covered_from h all gs is fits.1 (λ p. (among p).1) (λ p. (seen p).1),
 )
 
 -- each label of the groups has a row that takes it
 pub all_covered : (h : Heading) (gs : List LedgerLine) → IsReadableHeading h → AllByRecursion (IsReadableLine h) gs → AllByRecursion (λ g. list_any (takes g.label) (rows_of h gs) ≡ true) gs
-all_covered h gs is fits = covered_from h gs gs is fits (λ p. among_all p gs gs [] refl)
+all_covered h gs is fits = covered_from h gs gs is fits (λ p. among_all p gs gs [] refl) (λ p. any_all (in_row p) gs)
 
 all_dropped : {A : Type 0} (P : A → Type 0) (n : ℕ) (xs : List A) → AllByRecursion P xs → AllByRecursion P (drop n xs)
 all_dropped P zero xs all = all

@@ -7,7 +7,7 @@ use Rattle.dk_config.proofs.Counting.{length-numbers}
 use Rattle.dk_ledger.specs.declared.line.LedgerLine.{LedgerLine}
 use Rattle.dk_ledger.specs.Heading.{Heading}
 use Rattle.dk_picture.specs.declared.rows.Row.TheVariants as row
-use Rattle.dk_picture.specs.Rows.{child_rows, children, level_of, level_rows, process_rows, rows_at_level, rows_of, thread_of_process}
+use Rattle.dk_picture.specs.Rows.{child_rows, children, is_seen, level_of, level_rows, main_rows, process_rows, rows_at_level, rows_of, thread_of_process}
 
 length-flat_map : {A B : Type 0} (f : A → List B) (k : ℕ) → ((x : A) → length (f x) ≤ k) → (xs : List A) → length (flat_map f xs) ≤ k * length xs
 length-flat_map f k few [] = omega arith
@@ -24,11 +24,22 @@ few_children p ss = go (nat_le (length ss) 4) refl
     go true few = let own = length-map ss (thread_of_process p) in grind (arith, own, few)
     go false many = omega arith
 
+few_mains : (gs : List LedgerLine) (p : ℕ) → length (main_rows gs p) ≤ 1
+few_mains gs p = go (is_seen gs p)
+  where
+    go : (b : Bool) → length (if b then thread_of_process p 0 ∷ [] else []) ≤ 1
+    go true = omega arith
+    go false = omega arith
+
 few_at_level : (h : Heading) (gs : List LedgerLine) (j p : ℕ) → length (rows_at_level h gs j p) ≤ 5
 few_at_level h gs j p = go (level_of h p == j)
   where
     go : (b : Bool) → length (if b then process_rows gs p else []) ≤ 5
-    go true = let few = few_children p (children gs p) in omega (arith, few)
+    go true =
+        let few = few_children p (children gs p) in
+        let main = few_mains gs p in
+        let all = length-append (main_rows gs p) (child_rows p (children gs p)) in
+        omega (arith, few, main, all)
     go false = omega arith
 
 few_of_level : (h : Heading) (gs : List LedgerLine) (j : ℕ) → length h.processes ≤ 32 → length (level_rows h gs j) ≤ 160

@@ -10,14 +10,19 @@ use Rattle.dk_trace.specs.Says.{arguments_of, word_of}
 use Rattle.dk_ledger.specs.LineText.{argument_words, event_text}
 use Rattle.dk_entry_words.specs.Parted.{behind}
 use Rattle.dk_entry_words.proofs.ReadBack.{event_blanks}
-use Rattle.dk_picture.specs.declared.style.TheConstants.{LEGEND}
+use Rattle.dk_picture.specs.declared.style.TheConstants.{LEGEND, WINDOWS_HEAD}
 use Rattle.dk_picture.specs.Bars.{class_of}
-use Rattle.dk_picture.specs.Elements.{rect_head}
+use Rattle.dk_picture.specs.Elements.{rect_head, words_at}
 use Rattle.dk_picture.specs.Legends.{legend_rows, meaning_of, meanings, named_classes}
+use Rattle.dk_picture.specs.Windows.{windows_head}
 
 pub legend_is : LEGEND.now ≡ legend_rows
 unfolding digits rect_head legend_rows
 legend_is = refl
+
+pub head_is : WINDOWS_HEAD.now ≡ windows_head
+unfolding digits words_at windows_head
+head_is = refl
 
 pub classes_named : (label : Label) → (label ≡ Label.Idle) ⊎ Has named_classes (class_of label)
 classes_named (Label.Kernel j) = inr (inl refl)

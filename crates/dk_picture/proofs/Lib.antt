@@ -9,6 +9,7 @@ pub mod InRows
 pub mod LabelParts
 pub mod Legends
 pub mod Pixels
+pub mod Overrun
 pub mod Plain
 pub mod Shared
 pub mod Styles

@@ -34,20 +34,20 @@ use Rattle.dk_picture.specs.declared.shares.Share.{Share}
 use Rattle.dk_picture.specs.declared.span.Span.{Span}
 use Rattle.dk_picture.specs.Laws.{IsTold}
 use Rattle.dk_picture.specs.Places.{has_pixels}
-use Rattle.dk_picture.specs.Rows.{level_of, rows_of, takes}
-use Rattle.dk_picture.specs.RowTexts.{period_of}
+use Rattle.dk_picture.specs.Rows.{is_seen, level_of, rows_of, takes}
 use Rattle.dk_picture.specs.Scenes.{Scene}
 use Rattle.dk_picture.specs.Shares.{is_whole, main_of, share_in, share_of, shares, shares_of, shares_of_process, ticks_within, used_in, used_weight}
+use Rattle.dk_picture.specs.Terms.{period_of}
 use Rattle.dk_picture.specs.Windows.{window_at, window_count}
 use Rattle.dk_picture.proofs.Covered.{thread_covered}
 
-abbrev first_in : ℕ → LedgerLine → ℕ
+abbrev pub first_in : ℕ → LedgerLine → ℕ
 first_in from l = max l.start from
 
-abbrev end_in : ℕ → LedgerLine → ℕ
+abbrev pub end_in : ℕ → LedgerLine → ℕ
 end_in to l = min (l.start + l.count) to
 
-abbrev part : ℕ → ℕ → LedgerLine → LedgerLine
+abbrev pub part : ℕ → ℕ → LedgerLine → LedgerLine
 part from to l = record {
   start = first_in from l;
   count = end_in to l - first_in from l;
@@ -55,7 +55,7 @@ part from to l = record {
   event = if end_in to l == l.start + l.count then l.event else None;
 }
 
-abbrev parts : ℕ → ℕ → LedgerLine → List LedgerLine
+abbrev pub parts : ℕ → ℕ → LedgerLine → List LedgerLine
 parts from to l = option_to_list (part_of_line from to l)
 
 if_same : (b : Bool) (m n : ℕ) → m ≡ n → (if b then m else 0) ≡ (if b then n else 0)
@@ -148,7 +148,7 @@ module _ (x : ThreadId) (first end : ℕ) where
       ∙ sym (count_both (flat_map entries_of (parts first end l)) (flat_map entries_of (flat_map (parts first end) ls)))
       ∙ sym (ap (count_by paid) (flat_map-append entries_of (parts first end l) (flat_map (parts first end) ls)))
 
-  used_counted : (from to : ℕ) (es : List Entry) → from ≤ first → end ≤ to → used_in (groups from to es) x first end ≡ count_by paid (slice first end es)
+  pub used_counted : (from to : ℕ) (es : List Entry) → from ≤ first → end ≤ to → used_in (groups from to es) x first end ≡ count_by paid (slice first end es)
   used_counted from to es low high =
       all_parts from to (lines_of es) low high ∙ sym (all_parts first end (lines_of es) (omega arith) (omega arith))
       ∙ all_paid (lines_of es) ∙ ap (count_by paid) (whole_slice first end es)
@@ -169,7 +169,7 @@ middle_part front mid back =
 in_parts : (s p : ℕ) (es : List Entry) → es ≡ take s es ++ (take p (drop s es) ++ drop p (drop s es))
 in_parts s p es = sym (ap (λ t. take s es ++ t) (take-append-drop p (drop s es)) ∙ take-append-drop s es)
 
-counted_back : (p : Entry → Bool) (es : List Entry) → count_by p (reverse es) ≡ count_by p es
+pub counted_back : (p : Entry → Bool) (es : List Entry) → count_by p (reverse es) ≡ count_by p es
 counted_back p es = sum_by-IsPermutation (λ e. cond (p e) 1 0) es (reverse es) (IsPermutation-reverse es)
 
 cut_back : (s n over : ℕ) (es : List Entry) → over ≡ 0 → s + n ≤ length es
@@ -188,7 +188,7 @@ cut_back s n over es begins within =
     ∙ ap (λ t. take (length (take n (drop s es))) (drop (length (drop n (drop s es))) (reverse t))) (in_parts s n es)
     ∙ middle_part (take s es) (take n (drop s es)) (drop n (drop s es)) ∙ ap (λ k. reverse (take k (drop s es))) same
 
-window_of : (c : Configuration) (i s : ℕ) (es : List Entry) → s % period c i ≡ 0 → s + period c i ≤ length es
+pub window_of : (c : Configuration) (i s : ℕ) (es : List Entry) → s % period c i ≡ 0 → s + period c i ≤ length es
     → window c s (past_at (reverse es) (s + period c i)) i ≡ reverse (slice s (s + period c i) es)
 window_of c i s es begins within = cut_back s (period c i) (s % period c i) es begins within
 
@@ -201,10 +201,15 @@ used_is_job c x from to s es begins low high within =
 
 -- ---- its row
 
-pub main_in_rows : (h : Heading) (gs : List LedgerLine) (p : ℕ) → IsReadableHeading h → p < length h.processes → list_any (takes (Label.Run (main_of p))) (rows_of h gs) ≡ true
-main_in_rows h gs p is inside = thread_covered h gs is (main_of p) inside (λ child. absurd (cc))
+pub main_in_rows : (h : Heading) (gs : List LedgerLine) (p : ℕ) → IsReadableHeading h → p < length h.processes → is_seen gs p ≡ true → list_any (takes (Label.Run (main_of p))) (rows_of h gs) ≡ true
+main_in_rows h gs p is inside seen = thread_covered h gs is (main_of p) inside (λ main. seen) (λ child. absurd (cc))
 
 -- ---- each window is told of
+
+all_three : (a b c : Bool) → a ≡ true → b ≡ true → c ≡ true → (a && b && c) ≡ true
+all_three true true c is1 is2 is3 = is3
+all_three true false c is1 is2 is3 = absurd (cc)
+all_three false b c is1 is2 is3 = absurd (cc)
 
 if_true : (b : Bool) (ds : List Share) (d : Share) → b ≡ true → Has ds d → Has (if b then ds else []) d
 if_true true ds d is has = has
@@ -217,13 +222,13 @@ module _ (h : Heading) (s : Span) (c : Scene) (p w : ℕ) where
   abbrev told : Share
   told = share_in h c p (window_at (level_of h p) ticks w)
 
-  one_window : IsTold h s p w → Has (share_of h s c p (window_at (level_of h p) ticks w)) told
+  one_window : IsTold h s c p w → Has (share_of h s c p (window_at (level_of h p) ticks w)) told
   one_window is =
       let from : nat_le s.from (w * ticks) ≡ true = grind (arith, is.begins) in
       let to : nat_le (w * ticks + ticks) s.to ≡ true = grind (arith, is.ends) in
       if_true (is_whole s (window_at (level_of h p) ticks w)) (told ∷ []) told (ap (λ b. b && nat_le (w * ticks + ticks) s.to) from ∙ to) (inl refl)
 
-  its_windows : IsTold h s p w → Has (shares_of h s c p (level_of h p) ticks) told
+  its_windows : IsTold h s c p w → Has (shares_of h s c p (level_of h p) ticks) told
   its_windows is =
       let swap = mul_comm w ticks in
       let low : s.from / ticks ≤ w = div-le_of_le-mul ticks (omega (arith, is.begins, swap)) in
@@ -232,8 +237,9 @@ module _ (h : Heading) (s : Span) (c : Scene) (p w : ℕ) where
       flat-has (λ i. share_of h s c p (window_at (level_of h p) ticks (s.from / ticks + i))) 0 (window_count s ticks) (w - s.from / ticks) told (omega arith) (omega (arith, low, high))
       (subst (λ k. Has (share_of h s c p (window_at (level_of h p) ticks k)) told) same (one_window is))
 
-  pub window_told : p < length h.processes → IsTold h s p w → Has (shares h s c) told
+  pub window_told : p < length h.processes → IsTold h s c p w → Has (shares h s c) told
   window_told inside is =
       let some : nat_lt 0 ticks ≡ true = grind (arith, is.some) in
       flat-has (shares_of_process h s c) 0 (length h.processes) p told (omega arith) (omega (arith, inside))
-      (if_true (nat_lt 0 ticks && has_pixels s ticks 26) (shares_of h s c p (level_of h p) ticks) told (ap (λ b. b && has_pixels s ticks 26) some ∙ is.wide) (its_windows is))
+      (if_true (is_seen c.groups p && nat_lt 0 ticks && has_pixels s ticks 26) (shares_of h s c p (level_of h p) ticks) told
+      (all_three (is_seen c.groups p) (nat_lt 0 ticks) (has_pixels s ticks 26) is.seen some is.wide) (its_windows is))

@@ -3,9 +3,8 @@ use Rattle.std.specs.Prelude.{ℕ, ◌+◌, ◌-◌, ◌*◌, ◌/◌, ◌++◌,
 use Rattle.dk_config.specs.Sums.{below}
 use Rattle.dk_picture.specs.declared.frame.Frame.{Frame}
 use Rattle.dk_picture.specs.declared.span.Span.{Span}
-use Rattle.dk_picture.specs.Elements.{rect, words_at}
 use Rattle.dk_picture.specs.Frames.{bottom_of}
-use Rattle.dk_picture.specs.Numbers.{plot_left, plot_width, steps}
+use Rattle.dk_picture.specs.Numbers.{steps}
 use Rattle.dk_picture.specs.Places.{has_pixels, place_of, room_for}
 
 -- whether so many ticks have room for the greatest number
@@ -16,9 +15,14 @@ is_wide s step = has_pixels s step (room_for s.to + 8)
 abbrev pub step_of : Span → ℕ
 step_of s = max (unwrap_or (find (is_wide s) steps) 10000000) 1
 
+-- a short line, and below it the number of its tick
+unfoldable pub mark_line : ℕ → ℕ → ℕ → ℕ → List ℕ
+mark_line x y foot t = codes "<rect class='w' x='" ++ (decimal x ++ (codes "' y='" ++ (decimal y
+    ++ (codes "' width='1' height='4'/>\n<text class='m c' x='" ++ (decimal x ++ (codes "' y='" ++ (decimal foot ++ (codes "'>"
+    ++ (decimal t ++ codes "</text>\n")))))))))
+
 abbrev pub tick_text : Span → Frame → ℕ → List ℕ
-tick_text s f t = rect (codes "w") (record { x = place_of s t; y = bottom_of f; width = 1; height = 4 })
-    ++ words_at (codes "m c") (place_of s t) (bottom_of f + 16) (decimal t)
+tick_text s f t = mark_line (place_of s t) (bottom_of f) (bottom_of f + 16) t
 
 -- the first multiple of the step from FROM on, in steps
 abbrev pub first_drawn : Span → ℕ → ℕ
@@ -32,9 +36,10 @@ abbrev pub ticks_text : Span → Frame → ℕ → List ℕ
 ticks_text s f step =
     flat_map (λ i. tick_text s f ((first_drawn s step + i) * step)) (below (ticks_drawn s step))
 
-unfoldable pub axis_head : Frame → List ℕ
-axis_head f = rect (codes "w") (record { x = plot_left; y = bottom_of f; width = plot_width; height = 1 })
-    ++ words_at (codes "m") 8 (bottom_of f + 16) (codes "tick")
+-- the line below the plot, and its name
+unfoldable pub axis_head : ℕ → ℕ → List ℕ
+axis_head y foot = codes "<rect class='w' x='200' y='" ++ (decimal y
+    ++ (codes "' width='960' height='1'/>\n<text class='m' x='8' y='" ++ (decimal foot ++ codes "'>tick</text>\n")))
 
 unfoldable pub axis_text : Span → Frame → List ℕ
-axis_text s f = axis_head f ++ ticks_text s f (step_of s)
+axis_text s f = axis_head (bottom_of f) (bottom_of f + 16) ++ ticks_text s f (step_of s)

@@ -12,7 +12,6 @@ use Rattle.dk_picture.specs.declared.span.Span.{Span}
 use Rattle.dk_picture.specs.Elements.{titled_rect}
 use Rattle.dk_picture.specs.Frames.{height_of as picture_height, top_of}
 use Rattle.dk_picture.specs.HoldBars.{HoldBar, hold_bars_text}
-use Rattle.dk_picture.specs.Numbers.{plot_left, plot_width}
 use Rattle.dk_picture.specs.Places.{has_pixels, ticks_in}
 use Rattle.dk_picture.specs.Rows.{row_at}
 
@@ -84,17 +83,13 @@ bars_text f bs = flat_map (bar_text f) bs
 abbrev pub plot_class : Span → List ℕ
 plot_class s = if has_pixels s 1 3 then codes "a" else codes "d"
 
--- the height of an inner picture of so many ticks, in which a unit of x is a tick
-unfoldable pub plot_size : ℕ → ℕ → List ℕ
-plot_size ticks height = codes "' height='" ++ (decimal height ++ (codes "' viewBox='0 0 "
-    ++ (decimal ticks ++ (codes " " ++ (decimal height ++ codes "' preserveAspectRatio='none'>\n")))))
-
--- it begins at x, and is so wide
-unfoldable pub plot_head : List ℕ → ℕ → ℕ → List ℕ → List ℕ
-plot_head class x width size = codes "<svg class='"
-    ++ (class ++ (codes "' x='" ++ (decimal x ++ (codes "' width='" ++ (decimal width ++ size)))))
+-- an inner picture of so many ticks, in which a unit of x is a tick
+unfoldable pub plot_head : List ℕ → ℕ → ℕ → List ℕ
+plot_head class ticks height = codes "<svg class='"
+    ++ (class ++ (codes "' x='200' width='960' height='" ++ (decimal height ++ (codes "' viewBox='0 0 "
+    ++ (decimal ticks ++ (codes " " ++ (decimal height ++ codes "' preserveAspectRatio='none'>\n")))))))
 
 -- that of the bars, which is the plot
 unfoldable pub plot_text : Frame → Span → List Bar → List HoldBar → List ℕ
-plot_text f s bs hs = plot_head (plot_class s) plot_left plot_width (plot_size (ticks_in s) (picture_height f))
+plot_text f s bs hs = plot_head (plot_class s) (ticks_in s) (picture_height f)
     ++ (bars_text f bs ++ (hold_bars_text f hs ++ codes "</svg>\n"))

@@ -9,7 +9,9 @@ rect_head class p = codes "<rect class='"
     ++ (decimal p.width ++ (codes "' height='" ++ (decimal p.height ++ codes "'")))))))))
 
 unfoldable pub rect : List ℕ → Place → List ℕ
-rect class p = rect_head class p ++ codes "/>\n"
+rect class p = codes "<rect class='"
+    ++ (class ++ (codes "' x='" ++ (decimal p.x ++ (codes "' y='" ++ (decimal p.y ++ (codes "' width='"
+    ++ (decimal p.width ++ (codes "' height='" ++ (decimal p.height ++ codes "'/>\n")))))))))
 
 -- a rectangle that tells its title to the pointer
 unfoldable pub titled_rect : List ℕ → Place → List ℕ → List ℕ

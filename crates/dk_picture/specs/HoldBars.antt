@@ -7,9 +7,8 @@ use Rattle.dk_ledger.specs.Heading.{Heading}
 use Rattle.dk_ledger.specs.LineText.{thread_text}
 use Rattle.dk_hold_spans.specs.declared.hold.Hold.{Hold}
 use Rattle.dk_picture.specs.declared.frame.Frame.{Frame}
-use Rattle.dk_picture.specs.Elements.{rect, titled_rect, words_at}
+use Rattle.dk_picture.specs.Elements.{titled_rect}
 use Rattle.dk_picture.specs.Frames.{mutex_top}
-use Rattle.dk_picture.specs.Numbers.{plot_left, plot_width}
 
 abbrev pub is_of_mutex : ℕ → Hold → Bool
 is_of_mutex m d = d.mutex == m
@@ -70,10 +69,13 @@ abbrev pub held_ticks : List Hold → ℕ → ℕ
 held_ticks ds m = sum_by (held_weight m) ds
 
 -- the line below the row's bars, the mutex, and its ticks
-unfoldable pub mutex_text : List Hold → ℕ → ℕ → List ℕ
-mutex_text ds top m = rect (codes "g") (record { x = plot_left; y = top + 10; width = plot_width; height = 1 })
-    ++ (words_at (codes "t") 8 (top + 9) (codes "mutex " ++ decimal m)
-    ++ words_at (codes "t x") 1232 (top + 9) (decimal (held_ticks ds m)))
+unfoldable pub mutex_line : ℕ → ℕ → ℕ → ℕ → List ℕ
+mutex_line y foot m ticks = codes "<rect class='g' x='200' y='" ++ (decimal y
+    ++ (codes "' width='960' height='1'/>\n<text class='t' x='8' y='" ++ (decimal foot ++ (codes "'>mutex " ++ (decimal m
+    ++ (codes "</text>\n<text class='t x' x='1232' y='" ++ (decimal foot ++ (codes "'>" ++ (decimal ticks ++ codes "</text>\n")))))))))
+
+abbrev pub mutex_text : List Hold → ℕ → ℕ → List ℕ
+mutex_text ds top m = mutex_line (top + 10) (top + 9) m (held_ticks ds m)
 
 -- the rows from number i on
 abbrev pub mutexes_text : List Hold → Frame → ℕ → List ℕ → List ℕ

@@ -15,10 +15,10 @@ use Rattle.dk_picture.specs.Bars.{Bar, bars, class_of, height_of, shift_of}
 use Rattle.dk_picture.specs.HoldBars.{mutex_row}
 use Rattle.dk_picture.specs.Marks.{Mark, marks_at}
 use Rattle.dk_picture.specs.Places.{has_pixels}
-use Rattle.dk_picture.specs.Rows.{level_of, row_at, takes}
-use Rattle.dk_picture.specs.RowTexts.{period_of}
+use Rattle.dk_picture.specs.Rows.{is_seen, level_of, row_at, takes}
 use Rattle.dk_picture.specs.Scenes.{Scene}
 use Rattle.dk_picture.specs.Shares.{main_of, share_in, shares}
+use Rattle.dk_picture.specs.Terms.{period_of}
 use Rattle.dk_picture.specs.Windows.{window_at}
 
 -- each bar begins where the one before ends, the first at x, and the last ends at n
@@ -53,8 +53,9 @@ pub record AreBarsOf (h : Heading) (rows : List Row) (from to : ℕ) (es : List 
   pub ticks : flat_map cells_of (bars h rows from (groups from to es))
       ≡ map (λ e. cell_of rows e.label) (slice from to es)
 
--- window w of the main of process p lies in the range, and has 26 pixels
-pub record IsTold (h : Heading) (s : Span) (p w : ℕ) : Type 0 where
+-- the main of process p has a tick, and its window w lies in the range and has 26 pixels
+pub record IsTold (h : Heading) (s : Span) (c : Scene) (p w : ℕ) : Type 0 where
+  pub seen : is_seen c.groups p ≡ true
   pub some : 0 < period_of h (level_of h p)
   pub wide : has_pixels s (period_of h (level_of h p)) 26 ≡ true
   pub begins : s.from ≤ w * period_of h (level_of h p)

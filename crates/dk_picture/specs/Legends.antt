@@ -1,5 +1,5 @@
 -- What the bars' colours and the marks stand for, below the axis, by the labels and events that are drawn with them.
-use Rattle.std.specs.Prelude.{ℕ, ◌+◌, ◌*◌, ◌++◌, ◌∷◌, [], List, codes, decimal, false, flat_map, length, map}
+use Rattle.std.specs.Prelude.{ℕ, ◌+◌, ◌*◌, ◌++◌, ◌∷◌, [], List, Bool, true, codes, decimal, false, flat_map, length, map}
 use Rattle.dk_isa.specs.declared.FaultKind.{FaultKind}
 use Rattle.dk_trace.specs.declared.Event.{Event}
 use Rattle.dk_trace.specs.Says.{word_of}
@@ -12,7 +12,8 @@ use Rattle.dk_picture.specs.Bars.{class_of, height_of, shift_of}
 use Rattle.dk_picture.specs.Elements.{rect_head}
 use Rattle.dk_picture.specs.HoldBars.{hold_class, hold_height}
 use Rattle.dk_picture.specs.Marks.{mark_class, outline}
-use Rattle.dk_picture.specs.Shares.{share_words}
+use Rattle.dk_picture.specs.declared.shares.Share.{Share}
+use Rattle.dk_picture.specs.Shares.{share_class, share_words}
 
 -- some thread, and its slack
 abbrev pub some_thread : ThreadId
@@ -81,16 +82,33 @@ abbrev pub shape_text : Shape → List ℕ
 shape_text s = codes "<path class='" ++ mark_class s.event ++ codes "' d='M" ++ decimal s.x ++ codes " 52"
     ++ outline s.event ++ shape_end s.event ++ words_text (s.x + 8) 56 (word_of s.event)
 
--- what a main used of its budget
-abbrev pub share_sample : List ℕ
-share_sample = codes "<text class='m s' x='622' y='56'>"
-    ++ share_words (record { row = 0; first = 0; end = 0; used = 9; budget = 15; shared = false })
-    ++ codes "</text>" ++ words_text 654 56 (codes "used/budget of a window")
+-- where a window begins, and until when its main wasn't done
+abbrev pub begin_sample : List ℕ
+begin_sample = rect_head (codes "w") (record { x = 738; y = 21; width = 1; height = 23 })
+    ++ codes "/>" ++ words_text 746 36 (codes "a window begins") ++ rect_head (codes "e")
+    (record { x = 872; y = 38; width = 24; height = 1 }) ++ codes "/>" ++ words_text 904 36 (codes "until the main is done")
+
+-- a main that used so many ticks of a budget of 15 in a window, and whether it overran it
+abbrev pub some_share : ℕ → Bool → Share
+some_share used overran =
+    record { row = 0; first = 0; end = 0; used = used; done = 0; overran = overran; budget = 15; shared = false }
+
+abbrev pub share_sample : ℕ → Share → List ℕ
+share_sample x d = codes "<text class='" ++ share_class d ++ codes "' x='" ++ decimal x ++ codes "' y='56'>"
+    ++ share_words d ++ codes "</text>"
+
+abbrev pub share_samples : List ℕ
+share_samples = share_sample 646 (some_share 9 false) ++ words_text 654 56 (codes "used/budget of a window")
+    ++ share_sample 860 (some_share 15 true) ++ words_text 868 56 (codes "it was overrun")
+
+-- the number of marks in a strip
+abbrev pub sum_sample : List ℕ
+sum_sample = codes "<text class='s' x='988' y='56'>7</text>" ++ words_text 1000 56 (codes "so many marks")
 
 -- all of them, and the end of the picture
 unfoldable pub legend_rows : List ℕ
-legend_rows = flat_map colour_text colours ++ hold_sample ++ flat_map shape_text shapes ++ share_sample
-    ++ codes "</g>\n</svg>\n"
+legend_rows = flat_map colour_text colours ++ hold_sample ++ begin_sample ++ flat_map shape_text shapes ++ share_samples
+    ++ sum_sample ++ codes "</g>\n</svg>\n"
 
 -- ---- what it names
 

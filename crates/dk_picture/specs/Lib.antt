@@ -9,6 +9,7 @@ pub mod Bars
 pub mod HoldBars
 pub mod Makings
 pub mod Scenes
+pub mod Terms
 pub mod Columns
 pub mod Labels
 pub mod Windows

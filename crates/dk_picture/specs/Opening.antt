@@ -8,14 +8,15 @@ use Rattle.dk_picture.specs.declared.columns.Sort.TheVariants as sort
 use Rattle.dk_picture.specs.declared.frame.Frame.{Frame}
 use Rattle.dk_picture.specs.declared.span.Span.{Span}
 use Rattle.dk_picture.specs.Columns.{sort_sum}
-use Rattle.dk_picture.specs.Elements.{rect, words_at}
 use Rattle.dk_picture.specs.Frames.{height_of}
 use Rattle.dk_picture.specs.Styles.{style_text}
 
-unfoldable pub root_text : ℕ → List ℕ
-root_text height = codes "<svg xmlns='http://www.w3.org/2000/svg' width='1456' height='"
+-- the root and the title
+unfoldable pub intro_text : ℕ → List ℕ → List ℕ
+intro_text height head = codes "<svg xmlns='http://www.w3.org/2000/svg' width='1456' height='"
     ++ (decimal height ++ (codes "' viewBox='0 0 1456 " ++ (decimal height
-    ++ codes "' style='max-width:100%;height:auto' role='img' aria-labelledby='a b' font-family='ui-monospace,Menlo,DejaVu Sans Mono,monospace' font-size='11'>\n")))
+    ++ (codes "' style='max-width:100%;height:auto' role='img' aria-labelledby='a b' font-family='ui-monospace,Menlo,DejaVu Sans Mono,monospace' font-size='11'>\n<title id='a'>deosk ledger, "
+    ++ (head ++ codes "</title>\n<desc id='b'>")))))
 
 -- which ticks are drawn, of how many
 unfoldable pub bounds_text : Span → ℕ → List ℕ
@@ -29,9 +30,6 @@ sums_text kernel budget slack idle = codes ": kernel " ++ (decimal kernel ++ (co
 unfoldable pub head_words : Span → ℕ → List LedgerLine → List ℕ
 head_words s n gs = bounds_text s n
     ++ sums_text (sort_sum gs sort.Kernel) (sort_sum gs sort.Budget) (sort_sum gs sort.Slack) (sort_sum gs sort.Idle)
-
-unfoldable pub title_text : List ℕ → List ℕ
-title_text head = codes "<title id='a'>deosk ledger, " ++ (head ++ codes "</title>\n<desc id='b'>")
 
 unfoldable pub level_words : ℕ → TableRow → List ℕ
 level_words j row = codes "level " ++ (decimal j ++ (codes " period " ++ (decimal row.period ++ (codes " demand "
@@ -59,11 +57,8 @@ desc_text h bounds = levels_words 0 h.levels ++ (flat_map process_words h.proces
 
 -- the ground, and the head on it
 unfoldable pub head_text : ℕ → List ℕ → List ℕ
-head_text height head =
-    rect (codes "bg") (record { x = 0; y = 0; width = 1456; height = height }) ++ words_at (codes "b") 8 20 head
-
-unfoldable pub intro_text : ℕ → List ℕ → List ℕ
-intro_text height head = root_text height ++ title_text head
+head_text height head = codes "<rect class='bg' x='0' y='0' width='1456' height='"
+    ++ (decimal height ++ (codes "'/>\n<text class='b' x='8' y='20'>" ++ (head ++ codes "</text>\n")))
 
 unfoldable pub ground_text : ℕ → List ℕ → List ℕ
 ground_text height head = style_text ++ head_text height head

@@ -19,7 +19,7 @@ use Rattle.dk_picture.specs.Makings.{makings_in}
 use Rattle.dk_picture.specs.Marks.{marks, marks_text}
 use Rattle.dk_picture.specs.Numbers.{max_groups}
 use Rattle.dk_picture.specs.Opening.{opening_text}
-use Rattle.dk_picture.specs.RowTexts.{rows_head, rows_text}
+use Rattle.dk_picture.specs.RowTexts.{quiet_text, rows_head, rows_text}
 use Rattle.dk_picture.specs.Scenes.{Scene, frame_of, scene_of}
 use Rattle.dk_picture.specs.Shares.{shares, shares_text}
 use Rattle.dk_picture.specs.Windows.{levels_text, windows_head}
@@ -36,19 +36,20 @@ legend_text y = legend_head y ++ legend_rows
 unfoldable pub foot_text : Span → Frame → List ℕ
 foot_text s f = axis_text s f ++ legend_text (bottom_of f)
 
--- the rows with their names and numbers, those of the mutexes last
-unfoldable pub names_text : Heading → Frame → Scene → List ℕ
-names_text h f c = rows_head (head_of f + 8) ++ (rows_text h c.groups f 0 c.rows ++ mutexes_text c.holds f 0 c.mutexes)
+-- the rows with their names and numbers, the mains without a tick, and the rows of the mutexes
+unfoldable pub names_text : Heading → Frame → Span → Scene → List ℕ
+names_text h f s c = rows_head (head_of f + 8)
+    ++ (rows_text h f s c 0 c.rows ++ (quiet_text h f c.quiet ++ mutexes_text c.holds f 0 c.mutexes))
 
 -- the bars, the words at them, what each main used in its windows, and the marks
 unfoldable pub drawn_text : Heading → Frame → Span → Scene → List ℕ
 drawn_text h f s c = plot_text f s (bars h c.rows s.from c.groups) (hold_bars h c.mutexes s.from c.holds)
     ++ (labels_text h f s c.rows c.mutexes c.groups c.holds
-    ++ (shares_text f s c (shares h s c) ++ marks_text f s (marks h c.rows c.groups)))
+    ++ (shares_text f s (shares h s c) ++ marks_text f s c (marks h c.rows c.groups)))
 
 -- the windows, the rows, their bars and the marks
 unfoldable pub body_text : Heading → Frame → Span → Scene → List ℕ
-body_text h f s c = windows_head ++ (levels_text s f 0 h.levels ++ (names_text h f c ++ drawn_text h f s c))
+body_text h f s c = windows_head ++ (levels_text s 0 h.levels ++ (names_text h f s c ++ drawn_text h f s c))
 
 unfoldable pub parts_text : Heading → Frame → Span → ℕ → Scene → List ℕ
 parts_text h f s n c = opening_text h f s n c.groups ++ (body_text h f s c ++ foot_text s f)

@@ -1,7 +1,5 @@
 -- The rows with their names and numbers.
-use Rattle.std.specs.Prelude.{ℕ, ◌+◌, ◌++◌, ◌==◌, [], ◌∷◌, List, codes, decimal, slice_get, if◌then◌else◌}
-use Rattle.std.specs.Option.{option_map_or}
-use Rattle.dk_trace.specs.declared.ThreadId.{ThreadId}
+use Rattle.std.specs.Prelude.{ℕ, ◌+◌, ◌-◌, ◌*◌, ◌/◌, ◌%◌, ◌++◌, ◌==◌, [], ◌∷◌, List, Option, Some, None, codes, decimal, if◌then◌else◌, length}
 use Rattle.dk_ledger.specs.declared.line.LedgerLine.{LedgerLine}
 use Rattle.dk_ledger.specs.Heading.{Heading, name_of}
 use Rattle.dk_ledger.specs.LineText.{thread_text}
@@ -9,35 +7,33 @@ use Rattle.dk_picture.specs.declared.columns.Column.TheVariants as column
 use Rattle.dk_picture.specs.declared.frame.Frame.{Frame}
 use Rattle.dk_picture.specs.declared.rows.Row.{Row}
 use Rattle.dk_picture.specs.declared.rows.Row.TheVariants as row
+use Rattle.dk_picture.specs.declared.span.Span.{Span}
+use Rattle.dk_picture.specs.declared.terms.Terms.{Terms}
 use Rattle.dk_picture.specs.Columns.{column_sum}
-use Rattle.dk_picture.specs.Elements.{rect, words_at}
-use Rattle.dk_picture.specs.Frames.{top_of}
-use Rattle.dk_picture.specs.Numbers.{plot_left, plot_width}
-use Rattle.dk_picture.specs.Rows.{level_of}
+use Rattle.dk_picture.specs.Elements.{words_at}
+use Rattle.dk_picture.specs.Frames.{quiet_foot, top_of}
+use Rattle.dk_picture.specs.Scenes.{Scene}
+use Rattle.dk_picture.specs.Terms.{period_of, terms_of}
+use Rattle.dk_picture.specs.Windows.{own_windows}
 
 abbrev pub row_name : Heading → Row → List ℕ
 row_name h row.Kernel = codes "kernel"
 row_name h (row.Thread x) = thread_text h x
 row_name h (row.Children p) = name_of h p ++ codes ".*"
 
-abbrev pub budget_of : Heading → ℕ → ℕ
-budget_of h p = option_map_or (λ line. line.budget) (slice_get h.processes p) 0
+-- so many ticks of so many, and in windows of which level
+unfoldable pub pair_text : ℕ → ℕ → ℕ → ℕ → List ℕ
+pair_text y budget period level = codes "<text class='m s' x='8' y='"
+    ++ (decimal y ++ (codes "'>" ++ (decimal budget ++ (codes " of " ++ (decimal period ++ (codes ", level "
+    ++ (decimal level ++ codes "</text>\n")))))))
 
-abbrev pub period_of : Heading → ℕ → ℕ
-period_of h j = option_map_or (λ line. line.period) (slice_get h.levels j) 0
+-- below the name, what the thread may use; and across its bars, where windows of its own begin
+unfoldable pub terms_text : Heading → Span → ℕ → Terms → List ℕ
+terms_text h s top t = pair_text (top + 21) t.budget t.period t.level ++ own_windows s top t.level (period_of h t.level)
 
-abbrev pub pair_text : ℕ → ℕ → ℕ → List ℕ
-pair_text y budget period = codes "<text class='m s' x='8' y='"
-    ++ (decimal y ++ (codes "'>" ++ (decimal budget ++ (codes " of " ++ (decimal period ++ codes "</text>\n")))))
-
-abbrev pub share_of : Heading → ℕ → ThreadId → List ℕ
-share_of h y x =
-    if x.serial == 0 then pair_text y (budget_of h x.process) (period_of h (level_of h x.process)) else []
-
--- a main's budget and its period, below its name
-abbrev pub share_text : Heading → ℕ → Row → List ℕ
-share_text h y (row.Thread x) = share_of h y x
-share_text h y _ = []
+abbrev pub terms_part : Heading → Span → ℕ → Option Terms → List ℕ
+terms_part h s top None = []
+terms_part h s top (Some t) = terms_text h s top t
 
 -- a number that ends there, where it isn't 0
 abbrev pub counted : List ℕ → ℕ → ℕ → ℕ → List ℕ
@@ -49,22 +45,46 @@ counts_text y r gs = words_at (codes "t x") 1232 y (decimal (column_sum gs r col
     ++ (counted (codes "u x") 1376 y (column_sum gs r column.Refused)
     ++ counted (codes "u x") 1448 y (column_sum gs r column.Faults)))
 
--- the line below the row's bars, and its name
-unfoldable pub name_text : Heading → ℕ → Row → List ℕ
-name_text h top r = rect (codes "g") (record { x = plot_left; y = top + 12; width = plot_width; height = 1 })
-    ++ (words_at (codes "t") 8 (top + 10) (row_name h r) ++ share_text h (top + 21) r)
+-- each second row has a lane of another shade
+abbrev pub lane_class : ℕ → List ℕ
+lane_class i = if i % 2 == 0 then codes "l" else codes "bg"
 
-unfoldable pub row_text : Heading → List LedgerLine → ℕ → Row → List ℕ
-row_text h gs top r = name_text h top r ++ counts_text (top + 10) r gs
+-- a row's lane, the line below its bars, and its name
+unfoldable pub name_line : List ℕ → ℕ → ℕ → ℕ → List ℕ → List ℕ
+name_line lane high low foot name = codes "<rect class='" ++ (lane ++ (codes "' x='0' y='" ++ (decimal high
+    ++ (codes "' width='1456' height='38'/>\n<rect class='g' x='200' y='" ++ (decimal low
+    ++ (codes "' width='960' height='1'/>\n<text class='t' x='8' y='" ++ (decimal foot ++ (codes "'>"
+    ++ (name ++ codes "</text>\n")))))))))
+
+abbrev pub name_text : Heading → ℕ → ℕ → Row → List ℕ
+name_text h i top r = name_line (lane_class i) (top - 10) (top + 12) (top + 10) (row_name h r)
+
+unfoldable pub row_text : Heading → Span → Scene → ℕ → ℕ → Row → List ℕ
+row_text h s c i top r = name_text h i top r
+    ++ (terms_part h s top (terms_of h c.makings r) ++ counts_text (top + 10) r c.groups)
 
 -- the rows from number i on
-abbrev pub rows_text : Heading → List LedgerLine → Frame → ℕ → List Row → List ℕ
-rows_text h gs f i [] = []
-rows_text h gs f i (r ∷ rs) = row_text h gs (top_of f i) r ++ rows_text h gs f (i + 1) rs
+abbrev pub rows_text : Heading → Frame → Span → Scene → ℕ → List Row → List ℕ
+rows_text h f s c i [] = []
+rows_text h f s c i (r ∷ rs) = row_text h s c i (top_of f i) r ++ rows_text h f s c (i + 1) rs
 
-unfoldable pub counts_head : ℕ → List ℕ
-counts_head y = words_at (codes "m x") 1232 y (codes "ticks") ++ (words_at (codes "m x") 1304 y (codes "slack")
-    ++ (words_at (codes "m x") 1376 y (codes "refused") ++ words_at (codes "m x") 1448 y (codes "faults")))
+-- The names of the processes whose mains have no tick, in lines of 12. The first place has a word, so that of a name is
+-- counted from 1.
+abbrev pub quiet_name : Heading → Frame → ℕ → ℕ → List ℕ
+quiet_name h f k p = words_at (codes "t") (8 + 120 * (k % 12)) (quiet_foot f + 16 * (k / 12)) (name_of h p)
 
+-- those from place k on
+abbrev pub quiet_names : Heading → Frame → ℕ → List ℕ → List ℕ
+quiet_names h f k [] = []
+quiet_names h f k (p ∷ ps) = quiet_name h f k p ++ quiet_names h f (k + 1) ps
+
+abbrev pub quiet_text : Heading → Frame → List ℕ → List ℕ
+quiet_text h f ps = if length ps == 0 then [] else words_at (codes "m") 8 (quiet_foot f) (codes "no tick") ++ quiet_names h f 1 ps
+
+-- the heads of the columns
 unfoldable pub rows_head : ℕ → List ℕ
-rows_head y = words_at (codes "m") 8 y (codes "threads, budget of period") ++ counts_head y
+rows_head y = codes "<text class='m' x='8' y='" ++ (decimal y ++ (codes "'>threads, budget of period, level</text>\n<text class='m x' x='1232' y='"
+    ++ (decimal y ++ (codes "'>ticks</text>\n<text class='m x' x='1304' y='"
+    ++ (decimal y ++ (codes "'>slack</text>\n<text class='m x' x='1376' y='"
+    ++ (decimal y ++ (codes "'>refused</text>\n<text class='m x' x='1448' y='"
+    ++ (decimal y ++ codes "'>faults</text>\n")))))))))

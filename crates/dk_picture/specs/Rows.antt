@@ -62,8 +62,16 @@ thread_of_process p s = row.Thread (record { process = p; serial = s })
 abbrev pub child_rows : ℕ → List ℕ → List Row
 child_rows p ss = if nat_le (length ss) own_rows then map (thread_of_process p) ss else row.Children p ∷ []
 
+-- whether the process's main has a tick
+abbrev pub is_seen : List LedgerLine → ℕ → Bool
+is_seen gs p = list_any (λ g. takes g.label (thread_of_process p 0)) gs
+
+-- a main without a tick has no row
+abbrev pub main_rows : List LedgerLine → ℕ → List Row
+main_rows gs p = if is_seen gs p then thread_of_process p 0 ∷ [] else []
+
 abbrev pub process_rows : List LedgerLine → ℕ → List Row
-process_rows gs p = thread_of_process p 0 ∷ child_rows p (children gs p)
+process_rows gs p = main_rows gs p ++ child_rows p (children gs p)
 
 -- the level on the process's line of the header
 abbrev pub level_of : Heading → ℕ → ℕ
@@ -78,3 +86,10 @@ level_rows h gs j = flat_map (rows_at_level h gs j) (below (length h.processes))
 -- the kernel's row, and then those of the levels, the fastest first
 abbrev pub rows_of : Heading → List LedgerLine → List Row
 rows_of h gs = row.Kernel ∷ flat_map (level_rows h gs) (below (length h.levels))
+
+abbrev pub quiet_main : List LedgerLine → ℕ → List ℕ
+quiet_main gs p = if is_seen gs p then [] else p ∷ []
+
+-- the processes whose mains have no tick, in the header's order
+abbrev pub quiet_mains : Heading → List LedgerLine → List ℕ
+quiet_mains h gs = flat_map (quiet_main gs) (below (length h.processes))

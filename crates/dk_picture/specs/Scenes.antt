@@ -6,11 +6,13 @@ use Rattle.dk_hold_spans.specs.declared.hold.Hold.{Hold}
 use Rattle.dk_picture.specs.declared.frame.Frame.{Frame}
 use Rattle.dk_picture.specs.declared.rows.Row.{Row}
 use Rattle.dk_picture.specs.HoldBars.{mutex_rows}
-use Rattle.dk_picture.specs.Rows.{rows_of}
+use Rattle.dk_picture.specs.Rows.{quiet_mains, rows_of}
 
--- the rows of threads and of mutexes, the groups, the holds, and the lines up to the range's end that make a child
+-- the rows of threads and of mutexes, the processes whose mains have no tick, the groups, the holds, and the lines up to
+-- the range's end that make a child
 pub record Scene : Type 0 where
   pub rows : List Row
+  pub quiet : List ℕ
   pub mutexes : List ℕ
   pub groups : List LedgerLine
   pub holds : List Hold
@@ -18,7 +20,19 @@ pub record Scene : Type 0 where
 
 -- what is drawn of these groups, holds and lines
 abbrev pub scene_of : Heading → List LedgerLine → List Hold → List LedgerLine → Scene
-scene_of h gs ds ms = record { rows = rows_of h gs; mutexes = mutex_rows ds; groups = gs; holds = ds; makings = ms }
+scene_of h gs ds ms = record {
+  rows = rows_of h gs;
+  quiet = quiet_mains h gs;
+  mutexes = mutex_rows ds;
+  groups = gs;
+  holds = ds;
+  makings = ms;
+}
 
 abbrev pub frame_of : Heading → Scene → Frame
-frame_of h c = record { levels = length h.levels; rows = length c.rows; mutexes = length c.mutexes }
+frame_of h c = record {
+  levels = length h.levels;
+  rows = length c.rows;
+  quiet = length c.quiet;
+  mutexes = length c.mutexes;
+}

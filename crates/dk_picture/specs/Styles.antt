@@ -10,7 +10,7 @@ unfoldable pub light : List ℕ
 light = codes "@page{margin:10mm}\n"
     ++ codes ".bg{fill:#fff}text{fill:#1b1b1b}.m{fill:#666}.x{text-anchor:end}.c{text-anchor:middle}.s{font-size:9px}\n"
     ++ codes ".b{font-size:14px}\n"
-    ++ codes ".g{fill:#dcdcdc}.w{fill:#b9b9b9}.z{fill:#ededed}.y{fill:#d6d6d6}.e{fill:#1b1b1b}\n"
+    ++ codes ".l{fill:#f6f6f6}.g{fill:#dcdcdc}.w{fill:#b9b9b9}.z{fill:#ededed}.y{fill:#d6d6d6}.e{fill:#1b1b1b}\n"
     ++ codes ".u{fill:#c2350a;font-weight:bold}\n"
     ++ codes ".k{fill:#1b1b1b}.i{fill:none;pointer-events:all}.n,.o{fill:#8c8c8c}.r{fill:#4a9ad4}rect.c{fill:#00456e}\n"
     ++ codes ".tn,.tr{fill:url(#t)}.tc{fill:url(#u)}.rn,.rr{fill:url(#q)}.rc{fill:url(#v)}.h{fill:#f3c04b}\n"
@@ -23,7 +23,7 @@ light = codes "@page{margin:10mm}\n"
 -- on a dark page, behind these
 unfoldable pub dark : List ℕ
 dark = codes ".bg{fill:#15181b}text{fill:#e9e9e9}.m{fill:#a0a0a0}.g{fill:#33383d}.w{fill:#565c63}.z{fill:#23282c}\n"
-    ++ codes ".y{fill:#363c42}\n"
+    ++ codes ".y{fill:#363c42}.l{fill:#1c2024}\n"
     ++ codes ".k,.e{fill:#f4f4f4}.n,.o{fill:#8b9299}.r{fill:#2f86c4}rect.c{fill:#bfe2fa}.u{fill:#ff8a5c}.h{fill:#c8901a}\n"
     ++ codes ".ti{stop-color:#2db389}.tj{stop-color:#a6efd6}.tb{stop-color:#12362b}.ri{stop-color:#c678b6}\n"
     ++ codes ".rj{stop-color:#f5c9ec}.rb{stop-color:#3a2136}\n"

@@ -1,10 +1,10 @@
 //! The axis of ticks.
 ghost use Rattle.std.specs.Prelude.{◌≡◌, ◌<◌, ◌++◌, IfOk, OnOk, find, string_bytes};
-ghost use Rattle.dk_picture.specs.Axis.{axis_head, axis_text, first_drawn, is_wide, step_of, tick_text, ticks_drawn, ticks_text};
+ghost use Rattle.dk_picture.specs.Axis.{axis_head, axis_text, first_drawn, is_wide, mark_line, step_of, tick_text, ticks_drawn, ticks_text};
 
-use crate::elements::{Place, number_at, push_line, rect, words_at};
+use crate::elements::push_line;
 use crate::frame::Frame;
-use crate::span::{LEFT, PLOT, Span, room_for};
+use crate::span::{Span, room_for};
 use std::alloc::{AllocError, Global};
 
 /// The steps between numbers, of which the first with room for the greatest number is taken.
@@ -24,7 +24,12 @@ fn is_wide(span: Span, step: u32) -> bool
 fn first_wide(span: Span, steps: &[u32]) -> Option<u32>
     ensures { result ≡ find (is_wide span) steps.now }
 {
-    steps.iter().copied().find(|step| is_wide(span, *step))
+    for step in steps {
+        if is_wide(span, *step) {
+            return Some(*step);
+        }
+    }
+    None
 }
 
 /// The ticks from one number to the next.
@@ -39,21 +44,22 @@ fn step_of(span: Span) -> u32
 }
 
 /// A tick with its number.
+#[tactic(auto, unfolding(crate::specs::Axis::mark_line))]
+fn mark_line(alloc: Global, x: u64, y: u64, foot: u64, tick: u64) -> Result<String, AllocError>
+    ensures { IfOk result (λ s. string_bytes s ≡ mark_line x y foot tick) }
+{
+    format!(in alloc;
+        "<rect class='w' x='{x}' y='{y}' width='1' height='4'/>
+<text class='m c' x='{x}' y='{foot}'>{tick}</text>
+"
+    )
+}
+
 fn tick_text(alloc: Global, span: Span, frame: Frame, tick: u64) -> Result<String, AllocError>
     ensures { IfOk result (λ s. string_bytes s ≡ tick_text span frame tick) }
 {
-    let place = Place {
-        x: span.place(tick),
-        y: frame.bottom(),
-        width: 1,
-        height: 4,
-    };
-    let mut text = rect(alloc, "w", place)?;
-    push_line(
-        &mut text,
-        number_at(alloc, "m c", place.x, frame.bottom() + 16, tick)?,
-    )?;
-    Ok(text)
+    let y = frame.bottom();
+    mark_line(alloc, span.place(tick), y, y + 16, tick)
 }
 
 /// The first multiple of the step from FROM on, in steps.
@@ -95,21 +101,14 @@ fn add_ticks(
 
 /// The line and its name.
 #[tactic(auto, unfolding(crate::specs::Axis::axis_head))]
-fn axis_head(alloc: Global, frame: Frame) -> Result<String, AllocError>
-    ensures { IfOk result (λ s. string_bytes s ≡ axis_head frame) }
+fn axis_head(alloc: Global, y: u64, foot: u64) -> Result<String, AllocError>
+    ensures { IfOk result (λ s. string_bytes s ≡ axis_head y foot) }
 {
-    let place = Place {
-        x: LEFT,
-        y: frame.bottom(),
-        width: PLOT,
-        height: 1,
-    };
-    let mut text = rect(alloc, "w", place)?;
-    push_line(
-        &mut text,
-        words_at(alloc, "m", 8, frame.bottom() + 16, "tick")?,
-    )?;
-    Ok(text)
+    format!(in alloc;
+        "<rect class='w' x='200' y='{y}' width='960' height='1'/>
+<text class='m' x='8' y='{foot}'>tick</text>
+"
+    )
 }
 
 /// Adds the axis.
@@ -122,6 +121,7 @@ pub(crate) fn add_axis(
 ) -> Result<(), AllocError>
     ensures { OnOk result (string_bytes text.new ≡ string_bytes text.old ++ axis_text span frame) }
 {
-    push_line(text, axis_head(alloc, frame)?)?;
+    let y = frame.bottom();
+    push_line(text, axis_head(alloc, y, y + 16)?)?;
     add_ticks(alloc, text, span, frame, step_of(span))
 }

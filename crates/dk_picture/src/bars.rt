@@ -1,6 +1,6 @@
 //! The bars: one for each group, in an inner picture in which a unit of x is a tick.
 ghost use Rattle.std.specs.Prelude.{◌≡◌, ◌≤◌, ◌++◌, IfOk, OnOk, string_bytes};
-ghost use Rattle.dk_picture.specs.Bars.{bar_of, bar_text, bars, bars_text, class_of, height_of, plot_class, plot_head, plot_size, plot_text, shift_of, slack_class};
+ghost use Rattle.dk_picture.specs.Bars.{bar_of, bar_text, bars, bars_text, class_of, height_of, plot_class, plot_head, plot_text, shift_of, slack_class};
 ghost use Rattle.dk_picture.specs.HoldBars.{hold_bars};
 
 use crate::drawing::Drawing;
@@ -9,7 +9,7 @@ use crate::frame::Frame;
 use crate::hold_bars::add_hold_bars;
 use crate::lines::line_words;
 use crate::rows::Rows;
-use crate::span::{LEFT, PLOT, Span};
+use crate::span::Span;
 use dk_ledger::{Header, LedgerLine};
 use dk_trace::{Label, Source, Work};
 use std::alloc::{AllocError, Global};
@@ -104,28 +104,14 @@ pub(crate) fn add_bars(
     Ok(())
 }
 
-/// The height of the inner picture, in which a unit of x is a tick.
-#[tactic(auto, unfolding(crate::specs::Bars::plot_size))]
-fn plot_size(alloc: Global, ticks: u64, height: u64) -> Result<String, AllocError>
-    ensures { IfOk result (λ s. string_bytes s ≡ plot_size ticks height) }
+/// The beginning of the inner picture, in which a unit of x is a tick.
+#[tactic(auto, unfolding(crate::specs::Bars::plot_head))]
+fn plot_head(alloc: Global, class: &str, ticks: u64, height: u64) -> Result<String, AllocError>
+    ensures { IfOk result (λ s. string_bytes s ≡ plot_head class.now ticks height) }
 {
     format!(in alloc;
-        "' height='{height}' viewBox='0 0 {ticks} {height}' preserveAspectRatio='none'>\n"
+        "<svg class='{class}' x='200' width='960' height='{height}' viewBox='0 0 {ticks} {height}' preserveAspectRatio='none'>\n"
     )
-}
-
-/// The beginning of the inner picture.
-#[tactic(auto, unfolding(crate::specs::Bars::plot_head))]
-fn plot_head(
-    alloc: Global,
-    class: &str,
-    x: u64,
-    width: u64,
-    size: &str,
-) -> Result<String, AllocError>
-    ensures { IfOk result (λ s. string_bytes s ≡ plot_head class.now x width size.now) }
-{
-    format!(in alloc; "<svg class='{class}' x='{x}' width='{width}{size}")
 }
 
 /// Where a tick has fewer than 3 pixels each bar is a little wider than it is, so that it is seen.
@@ -149,10 +135,9 @@ pub(crate) fn add_plot(
         ++ plot_text frame span (bars header.now drawing.now.rows span.from drawing.now.groups)
         (hold_bars header.now drawing.now.mutexes span.from drawing.now.holds)) }
 {
-    let size = plot_size(alloc, span.ticks(), frame.height())?;
     push_line(
         text,
-        plot_head(alloc, plot_class(span), LEFT, PLOT, size.as_str())?,
+        plot_head(alloc, plot_class(span), span.ticks(), frame.height())?,
     )?;
     add_bars(
         alloc,

@@ -1,10 +1,11 @@
-//! What is drawn in a picture: the rows of threads and of mutexes, the groups, the holds, and the lines that make a child.
+//! What is drawn in a picture: the rows of threads and of mutexes, the mains without a tick, the groups, the holds, and the
+//! lines that make a child.
 ghost use Rattle.std.specs.Prelude.{◌≡◌, ◌≤◌, ◌<◌, ◌^◌, IfOk, length};
 ghost use Rattle.dk_picture.specs.Scenes.{frame_of, scene_of};
 
 use crate::frame::Frame;
 use crate::hold_bars::mutex_rows;
-use crate::row_list::rows_of;
+use crate::row_list::{quiet_mains, rows_of};
 use crate::rows::Rows;
 use dk_config::NoMemory;
 use dk_hold_spans::Hold;
@@ -16,6 +17,7 @@ use std::marker::Model;
 #[derive(Drop)]
 pub(crate) struct Drawing {
     rows: Rows,
+    quiet: Vec<u8>,
     mutexes: Vec<u8>,
     groups: Vec<LedgerLine>,
     holds: Vec<Hold>,
@@ -30,18 +32,19 @@ impl Model for Drawing {
 
     ghost view = { λ d. record {
       rows = d.rows;
+      quiet = d.quiet.items;
       mutexes = d.mutexes.items;
       groups = d.groups.items;
       holds = d.holds.items;
       makings = d.makings.items;
     } };
 
-    ghost invariant = { λ d. (length d.mutexes.items ≤ 16) × (length d.groups.items < 2 ^ 16)
-        × (length d.holds.items < 2 ^ 32) };
+    ghost invariant = { λ d. (length d.quiet.items ≤ 32) × (length d.mutexes.items ≤ 16)
+        × (length d.groups.items < 2 ^ 16) × (length d.holds.items < 2 ^ 32) };
 }
 
 impl Drawing {
-    /// These groups, holds and lines, with the rows of the first two.
+    /// These groups, holds and lines, with the rows of the first two and the mains without a tick.
     pub(crate) fn of(
         alloc: Global,
         header: &Header,
@@ -56,9 +59,11 @@ impl Drawing {
         ensures { IfOk result (λ d. d ≡ scene_of header.now groups.items holds.items makings.items) }
     {
         let rows = rows_of(alloc, header, groups.as_slice())?;
+        let quiet = quiet_mains(alloc, header, groups.as_slice())?;
         let mutexes = mutex_rows(alloc, holds.as_slice())?;
         Ok(Drawing {
             rows,
+            quiet,
             mutexes,
             groups,
             holds,
@@ -70,6 +75,14 @@ impl Drawing {
         ensures { result.now ≡ self.now.rows }
     {
         &self.rows
+    }
+
+    /// The processes whose mains have no tick.
+    pub(crate) fn quiet(&self) -> &[u8]
+        ensures mains { result.now ≡ self.now.quiet }
+        ensures few { length result.now ≤ 32 }
+    {
+        self.quiet.as_slice()
     }
 
     pub(crate) fn mutexes(&self) -> &[u8]
@@ -108,6 +121,7 @@ impl Drawing {
         Frame {
             levels: header.levels.len() as u8,
             rows: self.rows.len(),
+            quiet: self.quiet.len() as u8,
             mutexes: self.mutexes.len() as u8,
         }
     }

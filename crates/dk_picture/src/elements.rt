@@ -41,12 +41,6 @@ fn rect_head(alloc: Global, class: &str, place: Place) -> Result<String, AllocEr
     format!(in alloc; "<rect class='{class}' x='{x}' y='{y}' width='{width}' height='{height}'")
 }
 
-fn ended(alloc: Global, head: &str) -> Result<String, AllocError>
-    ensures { IfOk result (λ s. string_bytes s ≡ head.now ++ codes "/>\n") }
-{
-    format!(in alloc; "{head}/>\n")
-}
-
 fn titled(alloc: Global, head: &str, title: &str) -> Result<String, AllocError>
     ensures { IfOk result (λ s. string_bytes s
         ≡ head.now ++ (codes "><title>" ++ (title.now ++ codes "</title></rect>\n"))) }
@@ -58,8 +52,13 @@ fn titled(alloc: Global, head: &str, title: &str) -> Result<String, AllocError>
 pub(crate) fn rect(alloc: Global, class: &str, place: Place) -> Result<String, AllocError>
     ensures { IfOk result (λ s. string_bytes s ≡ rect class.now place) }
 {
-    let head = rect_head(alloc, class, place)?;
-    ended(alloc, head.as_str())
+    let Place {
+        x,
+        y,
+        width,
+        height,
+    } = place;
+    format!(in alloc; "<rect class='{class}' x='{x}' y='{y}' width='{width}' height='{height}'/>\n")
 }
 
 /// A rectangle that tells its title to the pointer.

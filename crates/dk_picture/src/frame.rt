@@ -1,12 +1,13 @@
 //! Where the rows of a picture stand, in pixels from the top.
 ghost use Rattle.std.specs.Prelude.{◌≡◌, ◌<◌, ◌^◌};
-ghost use Rattle.dk_picture.specs.Frames.{bottom_of, head_of, height_of, level_top, lines_height, mutex_top, top_of};
+ghost use Rattle.dk_picture.specs.Frames.{bottom_of, head_of, height_of, level_top, mutex_top, quiet_foot, quiet_lines, top_of};
 
-/// How many levels, rows of threads and rows of mutexes the picture has.
+/// How many levels, rows of threads, mains without a tick and rows of mutexes the picture has.
 #[derive(Clone, Copy)]
 pub(crate) struct Frame {
     pub(crate) levels: u8,
     pub(crate) rows: u16,
+    pub(crate) quiet: u8,
     pub(crate) mutexes: u8,
 }
 
@@ -32,7 +33,27 @@ impl Frame {
         ensures value { result ≡ top_of self row }
         ensures small { result < 2 ^ 32 }
     {
-        self.head() + 22 + 32 * row as u64
+        self.head() + 22 + 38 * row as u64
+    }
+
+    /// How many lines the names of mains without a tick take.
+    fn quiet_lines(self) -> u64
+        ensures value { result ≡ quiet_lines self }
+        ensures small { result < 2 ^ 16 }
+    {
+        if self.quiet == 0 {
+            0
+        } else {
+            (self.quiet as u64 + 12) / 12
+        }
+    }
+
+    /// The foot of the first of these lines.
+    pub(crate) fn quiet_foot(self) -> u64
+        ensures value { result ≡ quiet_foot self }
+        ensures small { result < 2 ^ 32 }
+    {
+        self.head() + 24 + 38 * self.rows as u64
     }
 
     /// The top of a mutex's bars.
@@ -40,7 +61,7 @@ impl Frame {
         ensures value { result ≡ mutex_top self row }
         ensures small { result < 2 ^ 32 }
     {
-        self.head() + 18 + 32 * self.rows as u64 + 16 * row as u64
+        self.head() + 18 + 38 * self.rows as u64 + 16 * self.quiet_lines() + 16 * row as u64
     }
 
     /// Where the axis is.
@@ -48,7 +69,11 @@ impl Frame {
         ensures value { result ≡ bottom_of self }
         ensures small { result < 2 ^ 32 }
     {
-        self.head() + 16 + 32 * self.rows as u64 + 16 * self.mutexes as u64
+        self.head()
+            + 16
+            + 38 * self.rows as u64
+            + 16 * self.quiet_lines()
+            + 16 * self.mutexes as u64
     }
 
     /// The height of the whole picture.
@@ -56,12 +81,5 @@ impl Frame {
         ensures { result ≡ height_of self }
     {
         self.bottom() + 68
-    }
-
-    /// The height of the lines between windows, which begin 6 above the heads.
-    pub(crate) fn lines_height(self) -> u64
-        ensures { result ≡ lines_height self }
-    {
-        22 + 32 * self.rows as u64 + 16 * self.mutexes as u64
     }
 }

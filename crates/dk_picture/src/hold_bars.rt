@@ -14,7 +14,12 @@ use std::alloc::{AllocError, Global};
 fn is_held(holds: &[Hold], mutex: u8) -> bool
     ensures { result ≡ list_any (is_of_mutex mutex) holds.now }
 {
-    holds.iter().any(|hold| hold.mutex == mutex)
+    for hold in holds {
+        if hold.mutex == mutex {
+            return true;
+        }
+    }
+    false
 }
 
 /// Adds the mutex where it is held.

@@ -1,9 +1,9 @@
 //! The table of the levels with the rulers of their windows.
-ghost use Rattle.std.specs.Prelude.{◌≡◌, ◌≤◌, ◌++◌, IfOk, OnOk, codes, decimal, length, string_bytes};
-ghost use Rattle.dk_picture.specs.Windows.{level_numbers, level_text, levels_text, numbers_head, ruler_text, windows_head};
+ghost use Rattle.std.specs.Prelude.{◌≡◌, ◌≤◌, ◌++◌, IfOk, OnOk, length, string_bytes};
+ghost use Rattle.dk_picture.specs.Windows.{level_name, level_numbers, level_text, levels_text, ruler_text};
 
-use crate::elements::{Place, number_at, push_line, rect, words_at};
-use crate::frame::{Frame, level_top};
+use crate::elements::{Place, number_at, push_line, rect};
+use crate::frame::level_top;
 use crate::span::{LEFT, PLOT, Span};
 use crate::windows::add_windows;
 use dk_certify::TableRow;
@@ -14,14 +14,13 @@ fn add_ruler(
     alloc: Global,
     text: &mut String,
     span: Span,
-    frame: Frame,
     level: u8,
     period: u32,
 ) -> Result<(), AllocError>
-    ensures { OnOk result (string_bytes text.new ≡ string_bytes text.old ++ ruler_text span frame level period) }
+    ensures { OnOk result (string_bytes text.new ≡ string_bytes text.old ++ ruler_text span level period) }
 {
     if period > 0 && span.has_pixels(period as u64, 6) {
-        return add_windows(alloc, text, span, frame, level, period);
+        return add_windows(alloc, text, span, level, period);
     }
     let place = Place {
         x: LEFT,
@@ -32,30 +31,28 @@ fn add_ruler(
     push_line(text, rect(alloc, "z", place)?)
 }
 
-#[tactic(auto, unfolding(crate::specs::Windows::level_numbers))]
-fn level_numbers(alloc: Global, y: u64, row: &TableRow) -> Result<String, AllocError>
-    ensures { IfOk result (λ s. string_bytes s ≡ level_numbers y row.now) }
+/// The level and its period.
+#[tactic(auto, unfolding(crate::specs::Windows::level_name))]
+fn level_name(alloc: Global, y: u64, level: u8, period: u32) -> Result<String, AllocError>
+    ensures { IfOk result (λ s. string_bytes s ≡ level_name y level period) }
 {
-    let mut text = number_at(alloc, "m x", 192, y, row.period as u64)?;
-    push_line(
-        &mut text,
-        number_at(alloc, "m x", 1232, y, row.demand as u64)?,
-    )?;
-    push_line(
-        &mut text,
-        number_at(alloc, "m x", 1304, y, row.blocking as u64)?,
-    )?;
-    push_line(
-        &mut text,
-        number_at(alloc, "m x", 1376, y, row.spare as u64)?,
-    )?;
-    Ok(text)
+    format!(in alloc;
+        "<text class='t' x='8' y='{y}'>level {level}</text>
+<text class='m x' x='192' y='{y}'>{period}</text>
+"
+    )
 }
 
-fn level_name(alloc: Global, level: u8) -> Result<String, AllocError>
-    ensures { IfOk result (λ s. string_bytes s ≡ codes "level " ++ decimal level) }
+/// The numbers beside its ruler.
+#[tactic(auto, unfolding(crate::specs::Windows::level_numbers))]
+fn level_numbers(alloc: Global, y: u64, demand: u32, blocking: u32) -> Result<String, AllocError>
+    ensures { IfOk result (λ s. string_bytes s ≡ level_numbers y demand blocking) }
 {
-    format!(in alloc; "level {level}")
+    format!(in alloc;
+        "<text class='m x' x='1232' y='{y}'>{demand}</text>
+<text class='m x' x='1304' y='{y}'>{blocking}</text>
+"
+    )
 }
 
 /// Adds a level.
@@ -64,17 +61,22 @@ fn add_level(
     alloc: Global,
     text: &mut String,
     span: Span,
-    frame: Frame,
     level: u8,
     row: &TableRow,
 ) -> Result<(), AllocError>
-    ensures { OnOk result (string_bytes text.new ≡ string_bytes text.old ++ level_text span frame level row.now) }
+    ensures { OnOk result (string_bytes text.new ≡ string_bytes text.old ++ level_text span level row.now) }
 {
     let y = level_top(level) + 10;
-    let name = level_name(alloc, level)?;
-    push_line(text, words_at(alloc, "t", 8, y, name.as_str())?)?;
-    push_line(text, level_numbers(alloc, y, row)?)?;
-    add_ruler(alloc, text, span, frame, level, row.period)
+    let TableRow {
+        period,
+        demand,
+        blocking,
+        spare,
+    } = *row;
+    push_line(text, level_name(alloc, y, level, period)?)?;
+    push_line(text, level_numbers(alloc, y, demand, blocking)?)?;
+    push_line(text, number_at(alloc, "m x", 1376, y, spare as u64)?)?;
+    add_ruler(alloc, text, span, level, period)
 }
 
 /// Adds the levels.
@@ -82,36 +84,13 @@ pub(crate) fn add_levels(
     alloc: Global,
     text: &mut String,
     span: Span,
-    frame: Frame,
     rows: &[TableRow],
 ) -> Result<(), AllocError>
     requires { length rows.now ≤ 12 }
-    ensures { OnOk result (string_bytes text.new ≡ string_bytes text.old ++ levels_text span frame 0 rows.now) }
+    ensures { OnOk result (string_bytes text.new ≡ string_bytes text.old ++ levels_text span 0 rows.now) }
 {
     for (level, row) in rows.iter().enumerate() {
-        add_level(alloc, text, span, frame, level as u8, row)?;
+        add_level(alloc, text, span, level as u8, row)?;
     }
     Ok(())
-}
-
-/// The heads of the columns beside the rulers.
-#[tactic(auto, unfolding(crate::specs::Windows::numbers_head))]
-fn numbers_head(alloc: Global) -> Result<String, AllocError>
-    ensures { IfOk result (λ s. string_bytes s ≡ numbers_head) }
-{
-    let mut text = words_at(alloc, "m x", 1232, 44, "demand")?;
-    push_line(&mut text, words_at(alloc, "m x", 1304, 44, "blocking")?)?;
-    push_line(&mut text, words_at(alloc, "m x", 1376, 44, "spare")?)?;
-    Ok(text)
-}
-
-/// The heads of the columns.
-#[tactic(auto, unfolding(crate::specs::Windows::windows_head))]
-pub(crate) fn windows_head(alloc: Global) -> Result<String, AllocError>
-    ensures { IfOk result (λ s. string_bytes s ≡ windows_head) }
-{
-    let mut text = words_at(alloc, "m", 8, 44, "windows")?;
-    push_line(&mut text, words_at(alloc, "m x", 192, 44, "period")?)?;
-    push_line(&mut text, numbers_head(alloc)?)?;
-    Ok(text)
 }

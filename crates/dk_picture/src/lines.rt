@@ -57,23 +57,16 @@ fn behind_blank(alloc: Global, words: &str) -> Result<String, AllocError>
     format!(in alloc; " {words}")
 }
 
-fn two_texts(alloc: Global, first: &str, second: &str) -> Result<String, AllocError>
-    ensures { IfOk result (λ s. string_bytes s ≡ first.now ++ second.now) }
-{
-    format!(in alloc; "{first}{second}")
-}
-
 /// What a tick of the label is for, and its thread.
 fn label_parts(alloc: Global, header: &Header, label: Label) -> Result<String, AllocError>
     ensures { IfOk result (λ s. string_bytes s
         ≡ parted 32 (work_words label) ++ thread_part header.now (thread_of label)) }
 {
     let thread = thread_part_words(alloc, header, label)?;
-    two_texts(
-        alloc,
-        work_words(label, Separator::Blank).as_str(),
-        thread.as_str(),
-    )
+    let thread = thread.as_str();
+    let work = work_words(label, Separator::Blank);
+    let work = work.as_str();
+    format!(in alloc; "{work}{thread}")
 }
 
 fn label_words(alloc: Global, header: &Header, label: Label) -> Result<String, AllocError>

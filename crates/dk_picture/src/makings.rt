@@ -67,7 +67,10 @@ fn is_line_before(thread: ThreadId, tick: u64, group: &LedgerLine) -> bool
 pub(crate) fn has_made(makings: &[LedgerLine], main: ThreadId, tick: u64) -> bool
     ensures { result ≡ has_made makings.now main tick }
 {
-    makings
-        .iter()
-        .any(|group| is_line_before(main, tick, group))
+    for group in makings {
+        if is_line_before(main, tick, group) {
+            return true;
+        }
+    }
+    false
 }

@@ -1,15 +1,20 @@
 //! The marks of events.
-ghost use Rattle.std.specs.Prelude.{◌≡◌, ◌<◌, ◌≤◌, ◌^◌, ◌++◌, IfOk, OnOk, flat_map, string_bytes};
-ghost use Rattle.dk_picture.specs.Marks.{is_urgent, mark_at, mark_class, mark_line, mark_text, mark_title, mark_y, marks, marks_of, marks_text, outline, owner_words, titled};
+ghost use Rattle.std.specs.Prelude.{◌≡◌, ◌<◌, ◌≤◌, ◌^◌, ◌++◌, IfOk, OnOk, flat_map, length, string_bytes, sum_by};
+ghost use Rattle.std.specs.List.{list_any};
+ghost use Rattle.dk_picture.specs.Marks.{is_before, is_crowded, is_in_strip, is_in_way, is_on_side, is_urgent, last_of, mark_at, mark_class, mark_line, mark_text, mark_title, mark_y, marks, marks_of, marks_text, outline, owner_words, refusal_text, strip_of, strip_weight, sum_class, sum_text, titled};
 
-use crate::elements::push_line;
+use crate::drawing::Drawing;
+use crate::elements::{number_at, push_line};
 use crate::frame::Frame;
 use crate::lines::{event_words, thread_words};
 use crate::rows::Rows;
-use crate::span::Span;
+use crate::span::{LEFT, Span};
 use dk_ledger::{Header, LedgerLine};
 use dk_trace::{Event, Label};
 use std::alloc::{AllocError, Global};
+
+/// The pixels of a strip, in which marks are told as a number where they would smear into one another.
+const STRIP: u64 = 24;
 
 /// The outline of an event's mark, from its middle.
 fn outline(event: Event) -> &'static str
@@ -30,7 +35,7 @@ fn outline(event: Event) -> &'static str
 }
 
 /// Calls that were refused and faults are marked below the bars, the others above them.
-pub(crate) fn is_urgent(event: Event) -> bool
+fn is_urgent(event: Event) -> bool
     ensures { result ≡ is_urgent event }
 {
     matches!(event, Event::Refused(_) | Event::Fault(_))
@@ -45,9 +50,10 @@ fn mark_class(event: Event) -> &'static str
 fn mark_y(top: u64, event: Event) -> u64
     requires low { 6 ≤ top }
     requires high { top < 2 ^ 32 }
-    ensures { result ≡ mark_y top event }
+    ensures value { result ≡ mark_y top event }
+    ensures small { result < 2 ^ 33 }
 {
-    if is_urgent(event) { top + 17 } else { top - 6 }
+    if is_urgent(event) { top + 16 } else { top - 6 }
 }
 
 #[tactic(auto, unfolding(crate::specs::Marks::mark_line))]
@@ -118,34 +124,230 @@ fn mark(
     )
 }
 
-/// The mark of the group's event, where it has one, at its last tick.
+/// Whether an event is marked below the bars, or above them.
+fn is_on_side(below: bool, event: Option<Event>) -> bool
+    ensures { result ≡ is_on_side below event }
+{
+    match event {
+        Some(event) => {
+            if below {
+                is_urgent(event)
+            } else {
+                !is_urgent(event)
+            }
+        }
+        None => false,
+    }
+}
+
+/// The strip of 24 pixels in which the mark of the tick stands.
+fn strip_of(span: Span, tick: u64) -> u64
+    ensures value { result ≡ strip_of span tick }
+    ensures small { result < 2 ^ 48 }
+{
+    span.middle(tick).saturating_sub(LEFT) / STRIP
+}
+
+fn last_of(group: &LedgerLine) -> u64
+    ensures { result ≡ last_of group.now }
+{
+    group.start as u64 + (group.count as u64).saturating_sub(1)
+}
+
+/// Whether the group's event is marked in this strip, on this side of the row's bars.
+fn is_in_strip(
+    span: Span,
+    rows: &Rows,
+    row: u16,
+    below: bool,
+    strip: u64,
+    group: &LedgerLine,
+) -> bool
+    ensures { result ≡ is_in_strip span rows.now row below strip group.now }
+{
+    is_on_side(below, group.event)
+        && strip_of(span, last_of(group)) == strip
+        && rows.at(group.label) == row
+}
+
+fn strip_weight(
+    span: Span,
+    rows: &Rows,
+    row: u16,
+    below: bool,
+    strip: u64,
+    group: &LedgerLine,
+) -> u64
+    ensures { result ≡ strip_weight span rows.now row below strip group.now }
+{
+    if is_in_strip(span, rows, row, below, strip, group) {
+        1
+    } else {
+        0
+    }
+}
+
+/// How many events are marked in this strip, on this side of the row's bars.
+fn strip_sum(
+    span: Span,
+    rows: &Rows,
+    row: u16,
+    below: bool,
+    strip: u64,
+    groups: &[LedgerLine],
+) -> u64
+    requires { length groups.now < 2 ^ 16 }
+    ensures { result ≡ sum_by (strip_weight span rows.now row below strip) groups.now }
+{
+    let mut sum = 0;
+    for group in groups {
+        sum += strip_weight(span, rows, row, below, strip, group);
+    }
+    sum
+}
+
+fn has_before(
+    span: Span,
+    rows: &Rows,
+    row: u16,
+    below: bool,
+    strip: u64,
+    tick: u64,
+    groups: &[LedgerLine],
+) -> bool
+    ensures { result ≡ list_any (is_before span rows.now row below strip tick) groups.now }
+{
+    for group in groups {
+        if is_in_strip(span, rows, row, below, strip, group) && last_of(group) < tick {
+            return true;
+        }
+    }
+    false
+}
+
+fn sum_class(event: Event) -> &'static str
+    ensures { result.now ≡ sum_class event }
+{
+    if is_urgent(event) { "u s c" } else { "s c" }
+}
+
+/// How many marks a strip has, where this one is its first.
+fn sum_text(
+    alloc: Global,
+    frame: Frame,
+    span: Span,
+    drawing: &Drawing,
+    row: u16,
+    tick: u64,
+    event: Event,
+) -> Result<String, AllocError>
+    ensures { IfOk result (λ s. string_bytes s ≡ sum_text frame span drawing.now row tick event) }
+{
+    let strip = strip_of(span, tick);
+    let below = is_urgent(event);
+    let rows = drawing.rows();
+    let groups = drawing.groups();
+    if has_before(span, rows, row, below, strip, tick, groups) {
+        return Ok(String::new(alloc));
+    }
+    let sum = strip_sum(span, rows, row, below, strip, groups);
+    let y = mark_y(frame.top(row), event) + 3;
+    number_at(alloc, sum_class(event), LEFT + 12 + STRIP * strip, y, sum)
+}
+
+/// Whether a mark below the row's bars stands between these places.
+fn is_in_way(span: Span, rows: &Rows, row: u16, left: u64, right: u64, group: &LedgerLine) -> bool
+    ensures { result ≡ is_in_way span rows.now row left right group.now }
+{
+    if !is_on_side(true, group.event) || rows.at(group.label) != row {
+        return false;
+    }
+    let x = span.middle(last_of(group));
+    left < x && x < right
+}
+
+fn is_marked(
+    span: Span,
+    rows: &Rows,
+    row: u16,
+    left: u64,
+    right: u64,
+    groups: &[LedgerLine],
+) -> bool
+    ensures { result ≡ list_any (is_in_way span rows.now row left right) groups.now }
+{
+    for group in groups {
+        if is_in_way(span, rows, row, left, right, group) {
+            return true;
+        }
+    }
+    false
+}
+
+/// The number of a refusal beside its mark, where no other is in its way.
+fn refusal_text(
+    alloc: Global,
+    frame: Frame,
+    span: Span,
+    drawing: &Drawing,
+    row: u16,
+    tick: u64,
+    event: Event,
+) -> Result<String, AllocError>
+    ensures { IfOk result (λ s. string_bytes s ≡ refusal_text frame span drawing.now row tick event) }
+{
+    match event {
+        Event::Refused(refusal) => {
+            let x = span.middle(tick);
+            if is_marked(span, drawing.rows(), row, x, x + 24, drawing.groups()) {
+                return Ok(String::new(alloc));
+            }
+            let number = refusal.number() as u64;
+            number_at(alloc, "u s", x + 5, frame.top(row) + 20, number)
+        }
+        _ => Ok(String::new(alloc)),
+    }
+}
+
+/// Whether marks would smear into one another. A mark is 9 pixels wide.
+fn is_crowded(span: Span, drawing: &Drawing, row: u16, tick: u64, event: Event) -> bool
+    ensures { result ≡ is_crowded span drawing.now row tick event }
+{
+    if span.has_pixels(1, 9) {
+        return false;
+    }
+    let strip = strip_of(span, tick);
+    let groups = drawing.groups();
+    strip_sum(span, drawing.rows(), row, is_urgent(event), strip, groups) > 1
+}
+
+/// The mark of the group's event, where it has one, at its last tick; of marks that would smear their number.
 fn mark_of_group(
     alloc: Global,
     header: &Header,
     frame: Frame,
-    rows: &Rows,
     span: Span,
+    drawing: &Drawing,
     group: &LedgerLine,
 ) -> Result<String, AllocError>
     ensures { IfOk result (λ s. string_bytes s
-        ≡ flat_map (mark_text frame span) (marks_of header.now rows.now group.now)) }
+        ≡ flat_map (mark_text frame span drawing.now) (marks_of header.now drawing.now.rows group.now)) }
 {
-    match group.event {
-        Some(event) => {
-            let tick = group.start as u64 + (group.count as u64).saturating_sub(1);
-            let title = mark_title(alloc, header, tick, group.label, event)?;
-            mark(
-                alloc,
-                frame,
-                span,
-                rows.at(group.label),
-                tick,
-                event,
-                title.as_str(),
-            )
-        }
-        None => Ok(String::new(alloc)),
+    let Some(event) = group.event else {
+        return Ok(String::new(alloc));
+    };
+    let tick = last_of(group);
+    let row = drawing.rows().at(group.label);
+    if is_crowded(span, drawing, row, tick, event) {
+        return sum_text(alloc, frame, span, drawing, row, tick, event);
     }
+    let title = mark_title(alloc, header, tick, group.label, event)?;
+    let mut text = mark(alloc, frame, span, row, tick, event, title.as_str())?;
+    push_line(
+        &mut text,
+        refusal_text(alloc, frame, span, drawing, row, tick, event)?,
+    )?;
+    Ok(text)
 }
 
 /// Adds the marks group by group.
@@ -154,15 +356,15 @@ fn add_each(
     text: &mut String,
     header: &Header,
     frame: Frame,
-    rows: &Rows,
     span: Span,
+    drawing: &Drawing,
     groups: &[LedgerLine],
 ) -> Result<(), AllocError>
     ensures { OnOk result (string_bytes text.new ≡ string_bytes text.old
-        ++ flat_map (λ g. flat_map (mark_text frame span) (marks_of header.now rows.now g)) groups.now) }
+        ++ flat_map (λ g. flat_map (mark_text frame span drawing.now) (marks_of header.now drawing.now.rows g)) groups.now) }
 {
     for group in groups {
-        let line = mark_of_group(alloc, header, frame, rows, span, group)?;
+        let line = mark_of_group(alloc, header, frame, span, drawing, group)?;
         push_line(text, line)?;
     }
     Ok(())
@@ -174,12 +376,11 @@ pub(crate) fn add_marks(
     text: &mut String,
     header: &Header,
     frame: Frame,
-    rows: &Rows,
     span: Span,
-    groups: &[LedgerLine],
+    drawing: &Drawing,
 ) -> Result<(), AllocError>
     ensures { OnOk result (string_bytes text.new ≡ string_bytes text.old
-        ++ marks_text frame span (marks header.now rows.now groups.now)) }
+        ++ marks_text frame span drawing.now (marks header.now drawing.now.rows drawing.now.groups)) }
 {
-    add_each(alloc, text, header, frame, rows, span, groups)
+    add_each(alloc, text, header, frame, span, drawing, drawing.groups())
 }

@@ -1,10 +1,9 @@
 //! The rows of mutexes with their names and numbers.
-ghost use Rattle.std.specs.Prelude.{◌≡◌, ◌<◌, ◌≤◌, ◌^◌, ◌++◌, IfOk, OnOk, codes, decimal, length, string_bytes};
-ghost use Rattle.dk_picture.specs.HoldBars.{held_ticks, held_weight, mutex_text, mutexes_text};
+ghost use Rattle.std.specs.Prelude.{◌≡◌, ◌<◌, ◌≤◌, ◌^◌, ◌++◌, IfOk, OnOk, length, string_bytes};
+ghost use Rattle.dk_picture.specs.HoldBars.{held_ticks, held_weight, mutex_line, mutex_text, mutexes_text};
 
-use crate::elements::{Place, number_at, push_line, rect, words_at};
+use crate::elements::push_line;
 use crate::frame::Frame;
-use crate::span::{LEFT, PLOT};
 use dk_hold_spans::Hold;
 use std::alloc::{AllocError, Global};
 
@@ -31,31 +30,25 @@ fn held_ticks(holds: &[Hold], mutex: u8) -> u64
     sum
 }
 
-fn mutex_name(alloc: Global, mutex: u8) -> Result<String, AllocError>
-    ensures { IfOk result (λ s. string_bytes s ≡ codes "mutex " ++ decimal mutex) }
+/// The line below the row's bars, the mutex, and its ticks.
+#[tactic(auto, unfolding(crate::specs::HoldBars::mutex_line))]
+fn mutex_line(alloc: Global, y: u64, foot: u64, mutex: u8, ticks: u64) -> Result<String, AllocError>
+    ensures { IfOk result (λ s. string_bytes s ≡ mutex_line y foot mutex ticks) }
 {
-    format!(in alloc; "mutex {mutex}")
+    format!(in alloc;
+        "<rect class='g' x='200' y='{y}' width='960' height='1'/>
+<text class='t' x='8' y='{foot}'>mutex {mutex}</text>
+<text class='t x' x='1232' y='{foot}'>{ticks}</text>
+"
+    )
 }
 
-/// The line below the row's bars, the mutex, and its ticks.
-#[tactic(auto, unfolding(crate::specs::HoldBars::mutex_text))]
 fn mutex_text(alloc: Global, holds: &[Hold], top: u64, mutex: u8) -> Result<String, AllocError>
     requires top { top < 2 ^ 32 }
     requires few { length holds.now < 2 ^ 32 }
     ensures { IfOk result (λ s. string_bytes s ≡ mutex_text holds.now top mutex) }
 {
-    let place = Place {
-        x: LEFT,
-        y: top + 10,
-        width: PLOT,
-        height: 1,
-    };
-    let mut text = rect(alloc, "g", place)?;
-    let name = mutex_name(alloc, mutex)?;
-    push_line(&mut text, words_at(alloc, "t", 8, top + 9, name.as_str())?)?;
-    let ticks = held_ticks(holds, mutex);
-    push_line(&mut text, number_at(alloc, "t x", 1232, top + 9, ticks)?)?;
-    Ok(text)
+    mutex_line(alloc, top + 10, top + 9, mutex, held_ticks(holds, mutex))
 }
 
 /// Adds the rows.

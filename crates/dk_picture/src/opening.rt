@@ -1,9 +1,9 @@
 //! The beginning of a picture: its size, title, description, style and head.
 ghost use Rattle.std.specs.Prelude.{◌≡◌, ◌<◌, ◌≤◌, ◌^◌, ◌++◌, IfOk, OnOk, flat_map, length, string_bytes};
-ghost use Rattle.dk_picture.specs.Opening.{bounds_text, desc_end, desc_text, ground_text, head_text, head_words, intro_text, level_words, levels_words, opening_text, process_line, process_words, root_text, sums_text, title_text};
+ghost use Rattle.dk_picture.specs.Opening.{bounds_text, desc_end, desc_text, ground_text, head_text, head_words, intro_text, level_words, levels_words, opening_text, process_words, sums_text};
 
 use crate::columns::{Sort, sort_sum};
-use crate::elements::{Place, push_line, push_words, rect, words_at};
+use crate::elements::{push_line, push_words};
 use crate::frame::Frame;
 use crate::span::Span;
 use crate::style::STYLE;
@@ -11,13 +11,15 @@ use dk_certify::TableRow;
 use dk_ledger::{Header, LedgerLine, ProcessLine};
 use std::alloc::{AllocError, Global};
 
-/// The root. Its width is that of the plot with the columns beside it.
-#[tactic(auto, unfolding(crate::specs::Opening::root_text))]
-fn root_text(alloc: Global, height: u64) -> Result<String, AllocError>
-    ensures { IfOk result (λ s. string_bytes s ≡ root_text height) }
+/// The root and the title. Its width is that of the plot with the columns beside it.
+#[tactic(auto, unfolding(crate::specs::Opening::intro_text))]
+fn intro_text(alloc: Global, height: u64, head: &str) -> Result<String, AllocError>
+    ensures { IfOk result (λ s. string_bytes s ≡ intro_text height head.now) }
 {
     format!(in alloc;
-        "<svg xmlns='http://www.w3.org/2000/svg' width='1456' height='{height}' viewBox='0 0 1456 {height}' style='max-width:100%;height:auto' role='img' aria-labelledby='a b' font-family='ui-monospace,Menlo,DejaVu Sans Mono,monospace' font-size='11'>\n"
+        "<svg xmlns='http://www.w3.org/2000/svg' width='1456' height='{height}' viewBox='0 0 1456 {height}' style='max-width:100%;height:auto' role='img' aria-labelledby='a b' font-family='ui-monospace,Menlo,DejaVu Sans Mono,monospace' font-size='11'>
+<title id='a'>deosk ledger, {head}</title>
+<desc id='b'>"
     )
 }
 
@@ -63,13 +65,6 @@ fn head_words(
     Ok(text)
 }
 
-#[tactic(auto, unfolding(crate::specs::Opening::title_text))]
-fn title_text(alloc: Global, head: &str) -> Result<String, AllocError>
-    ensures { IfOk result (λ s. string_bytes s ≡ title_text head.now) }
-{
-    format!(in alloc; "<title id='a'>deosk ledger, {head}</title>\n<desc id='b'>")
-}
-
 #[tactic(auto, unfolding(crate::specs::Opening::level_words))]
 fn level_words(alloc: Global, level: u8, row: &TableRow) -> Result<String, AllocError>
     ensures { IfOk result (λ s. string_bytes s ≡ level_words level row.now) }
@@ -97,16 +92,13 @@ fn add_levels(alloc: Global, text: &mut String, rows: &[TableRow]) -> Result<(),
     Ok(())
 }
 
-fn process_line(alloc: Global, name: &str, level: u8, budget: u32) -> Result<String, AllocError>
-    ensures { IfOk result (λ s. string_bytes s ≡ process_line name.now level budget) }
-{
-    format!(in alloc; "process {name} level {level} budget {budget}; ")
-}
-
 fn process_words(alloc: Global, line: &ProcessLine) -> Result<String, AllocError>
     ensures { IfOk result (λ s. string_bytes s ≡ process_words line.now) }
 {
-    process_line(alloc, line.name.as_str(), line.level, line.budget)
+    let name = line.name.as_str();
+    let level = line.level;
+    let budget = line.budget;
+    format!(in alloc; "process {name} level {level} budget {budget}; ")
 }
 
 /// Adds the lines of the processes.
@@ -148,25 +140,11 @@ fn desc_end(alloc: Global, bounds: &str) -> Result<String, AllocError>
 fn head_text(alloc: Global, height: u64, head: &str) -> Result<String, AllocError>
     ensures { IfOk result (λ s. string_bytes s ≡ head_text height head.now) }
 {
-    let place = Place {
-        x: 0,
-        y: 0,
-        width: 1456,
-        height,
-    };
-    let mut text = rect(alloc, "bg", place)?;
-    push_line(&mut text, words_at(alloc, "b", 8, 20, head)?)?;
-    Ok(text)
-}
-
-/// The root and the title.
-#[tactic(auto, unfolding(crate::specs::Opening::intro_text))]
-fn intro_text(alloc: Global, height: u64, head: &str) -> Result<String, AllocError>
-    ensures { IfOk result (λ s. string_bytes s ≡ intro_text height head.now) }
-{
-    let mut text = root_text(alloc, height)?;
-    push_line(&mut text, title_text(alloc, head)?)?;
-    Ok(text)
+    format!(in alloc;
+        "<rect class='bg' x='0' y='0' width='1456' height='{height}'/>
+<text class='b' x='8' y='20'>{head}</text>
+"
+    )
 }
 
 fn style_text(alloc: Global) -> Result<String, AllocError>

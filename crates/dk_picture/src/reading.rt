@@ -15,7 +15,7 @@ use std::alloc::{AllocError, Global};
 pub const MAX_GROUPS: usize = 4_000;
 
 /// Why there is no picture.
-#[derive(Clone, Copy, Debug, PartialEq, Eq)]
+#[derive(Clone, Copy)]
 pub enum PictureFault {
     /// The range has more than `MAX_GROUPS` groups; one up to this tick has as many.
     TooMany(u32),

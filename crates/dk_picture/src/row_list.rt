@@ -1,8 +1,8 @@
 //! Which rows a picture has.
-ghost use Rattle.std.specs.Prelude.{◌≡◌, ◌≤◌, ◌++◌, IfOk, OnOk, length, map};
-ghost use Rattle.dk_picture.specs.Rows.{level_of, level_rows, process_rows, rows_at_level, rows_of, thread_of_process};
+ghost use Rattle.std.specs.Prelude.{◌≡◌, ◌≤◌, ◌+◌, ◌++◌, IfOk, OnOk, length, map};
+ghost use Rattle.dk_picture.specs.Rows.{is_seen, level_of, level_rows, main_rows, process_rows, quiet_main, quiet_mains, rows_at_level, rows_of, thread_of_process};
 
-use crate::rows::{Row, Rows};
+use crate::rows::{Row, Rows, takes};
 use crate::threads::children;
 use dk_config::NoMemory;
 use dk_ledger::{Header, LedgerLine};
@@ -21,6 +21,29 @@ pub(crate) fn level_of(header: &Header, process: u8) -> u8
     }
 }
 
+/// Whether the process's main has a tick.
+pub(crate) fn is_seen(groups: &[LedgerLine], process: u8) -> bool
+    ensures { result ≡ is_seen groups.now process }
+{
+    let main = Row::Thread(ThreadId { process, serial: 0 });
+    for group in groups {
+        if takes(main, group.label) {
+            return true;
+        }
+    }
+    false
+}
+
+/// Adds the main's row where it has a tick.
+fn add_main(rows: &mut Vec<Row>, groups: &[LedgerLine], process: u8) -> Result<(), NoMemory>
+    ensures { OnOk result (rows.new.items ≡ rows.old.items ++ main_rows groups.now process) }
+{
+    if is_seen(groups, process) {
+        rows.push(Row::Thread(ThreadId { process, serial: 0 }))?;
+    }
+    Ok(())
+}
+
 /// Adds the rows of a process: its main's, and those of its children.
 fn add_process(
     alloc: Global,
@@ -30,7 +53,7 @@ fn add_process(
 ) -> Result<(), NoMemory>
     ensures { OnOk result (rows.new.items ≡ rows.old.items ++ process_rows groups.now process) }
 {
-    rows.push(Row::Thread(ThreadId { process, serial: 0 }))?;
+    add_main(rows, groups, process)?;
     let serials = children(alloc, groups, process)?;
     if serials.len() > OWN_ROWS {
         rows.push(Row::Children(process))?;
@@ -112,4 +135,32 @@ pub(crate) fn rows_of(
     ensures { IfOk result (λ rows. rows ≡ rows_of header.now groups.now) }
 {
     Ok(Rows::new(row_list(alloc, header, groups)?))
+}
+
+/// Adds the process where its main has no tick.
+fn add_quiet(quiet: &mut Vec<u8>, groups: &[LedgerLine], process: u8) -> Result<(), NoMemory>
+    ensures main { OnOk result (quiet.new.items ≡ quiet.old.items ++ quiet_main groups.now process) }
+    ensures few { OnOk result (length quiet.new.items ≤ length quiet.old.items + 1) }
+{
+    if !is_seen(groups, process) {
+        quiet.push(process)?;
+    }
+    Ok(())
+}
+
+/// The processes whose mains have no tick.
+pub(crate) fn quiet_mains(
+    alloc: Global,
+    header: &Header,
+    groups: &[LedgerLine],
+) -> Result<Vec<u8>, NoMemory>
+    requires { length header.now.processes ≤ 32 }
+    ensures mains { IfOk result (λ quiet. quiet.items ≡ quiet_mains header.now groups.now) }
+    ensures few { IfOk result (λ quiet. length quiet.items ≤ 32) }
+{
+    let mut quiet = Vec::new(alloc);
+    for process in 0..header.processes.len() as u8 {
+        add_quiet(&mut quiet, groups, process)?;
+    }
+    Ok(quiet)
 }

@@ -1,16 +1,17 @@
 //! The rows with their names and numbers.
-ghost use Rattle.std.specs.Prelude.{◌≡◌, ◌<◌, ◌^◌, ◌++◌, IfOk, OnOk, codes, length, string_bytes};
-ghost use Rattle.dk_picture.specs.RowTexts.{budget_of, counted, counts_head, counts_text, name_text, pair_text, period_of, row_name, row_text, rows_head, rows_text, share_of, share_text};
+ghost use Rattle.std.specs.Prelude.{◌≡◌, ◌≤◌, ◌<◌, ◌^◌, ◌++◌, IfOk, OnOk, codes, length, string_bytes};
+ghost use Rattle.dk_picture.specs.RowTexts.{counted, counts_text, lane_class, name_line, name_text, pair_text, row_name, row_text, rows_head, rows_text, terms_part, terms_text};
 
 use crate::columns::{Column, column_sum};
-use crate::elements::{Place, number_at, push_line, rect, words_at};
+use crate::drawing::Drawing;
+use crate::elements::{number_at, push_line};
 use crate::frame::Frame;
 use crate::lines::{name_of, thread_words};
-use crate::row_list::level_of;
 use crate::rows::Row;
-use crate::span::{LEFT, PLOT};
+use crate::span::Span;
+use crate::terms::{Terms, period_of, terms_of};
+use crate::windows::add_own_windows;
 use dk_ledger::{Header, LedgerLine};
-use dk_trace::ThreadId;
 use std::alloc::{AllocError, Global};
 
 fn children_name(alloc: Global, name: &str) -> Result<String, AllocError>
@@ -29,111 +30,160 @@ fn row_name(alloc: Global, header: &Header, row: Row) -> Result<String, AllocErr
     }
 }
 
-pub(crate) fn budget_of(header: &Header, process: u8) -> u32
-    ensures { result ≡ budget_of header.now process }
+/// What a thread may use of windows of so many ticks, and in windows of which level.
+#[tactic(auto, unfolding(crate::specs::RowTexts::pair_text))]
+fn pair(alloc: Global, y: u64, budget: u32, period: u32, level: u8) -> Result<String, AllocError>
+    ensures { IfOk result (λ s. string_bytes s ≡ pair_text y budget period level) }
 {
-    match header.processes.as_slice().get(process as usize) {
-        Some(line) => line.budget,
-        None => 0,
+    format!(in alloc;
+        "<text class='m s' x='8' y='{y}'>{budget} of {period}, level {level}</text>\n"
+    )
+}
+
+/// Adds these terms below the row's name, and where windows of its level begin.
+#[tactic(auto, unfolding(crate::specs::RowTexts::terms_text))]
+fn add_terms(
+    alloc: Global,
+    text: &mut String,
+    header: &Header,
+    span: Span,
+    top: u64,
+    terms: Terms,
+) -> Result<(), AllocError>
+    requires low { 5 ≤ top }
+    requires high { top < 2 ^ 32 }
+    ensures { OnOk result (string_bytes text.new ≡ string_bytes text.old ++ terms_text header.now span top terms) }
+{
+    let Terms {
+        budget,
+        period,
+        level,
+    } = terms;
+    push_line(text, pair(alloc, top + 21, budget, period, level)?)?;
+    add_own_windows(alloc, text, span, top, level, period_of(header, level))
+}
+
+fn add_terms_part(
+    alloc: Global,
+    text: &mut String,
+    header: &Header,
+    span: Span,
+    top: u64,
+    terms: Option<Terms>,
+) -> Result<(), AllocError>
+    requires low { 5 ≤ top }
+    requires high { top < 2 ^ 32 }
+    ensures { OnOk result (string_bytes text.new ≡ string_bytes text.old ++ terms_part header.now span top terms) }
+{
+    match terms {
+        Some(terms) => add_terms(alloc, text, header, span, top, terms),
+        None => Ok(()),
     }
 }
 
-pub(crate) fn period_of(header: &Header, level: u8) -> u32
-    ensures { result ≡ period_of header.now level }
-{
-    match header.levels.as_slice().get(level as usize) {
-        Some(row) => row.period,
-        None => 0,
-    }
-}
-
-fn pair(alloc: Global, y: u64, budget: u32, period: u32) -> Result<String, AllocError>
-    ensures { IfOk result (λ s. string_bytes s ≡ pair_text y budget period) }
-{
-    format!(in alloc; "<text class='m s' x='8' y='{y}'>{budget} of {period}</text>\n")
-}
-
-fn share_of(alloc: Global, header: &Header, y: u64, thread: ThreadId) -> Result<String, AllocError>
-    ensures { IfOk result (λ s. string_bytes s ≡ share_of header.now y thread) }
-{
-    if thread.serial != 0 {
-        return Ok(String::new(alloc));
-    }
-    let period = period_of(header, level_of(header, thread.process));
-    pair(alloc, y, budget_of(header, thread.process), period)
-}
-
-/// A main's budget and its period, below its name.
-fn share_text(alloc: Global, header: &Header, y: u64, row: Row) -> Result<String, AllocError>
-    ensures { IfOk result (λ s. string_bytes s ≡ share_text header.now y row) }
-{
-    match row {
-        Row::Thread(thread) => share_of(alloc, header, y, thread),
-        _ => Ok(String::new(alloc)),
-    }
-}
-
-/// A number that ends there, where it isn't 0.
-fn counted(alloc: Global, class: &str, x: u64, y: u64, number: u64) -> Result<String, AllocError>
-    ensures { IfOk result (λ s. string_bytes s ≡ counted class.now x y number) }
+/// Adds a number that ends there, where it isn't 0.
+fn add_counted(
+    alloc: Global,
+    text: &mut String,
+    class: &str,
+    x: u64,
+    y: u64,
+    number: u64,
+) -> Result<(), AllocError>
+    ensures { OnOk result (string_bytes text.new ≡ string_bytes text.old ++ counted class.now x y number) }
 {
     if number == 0 {
-        return Ok(String::new(alloc));
+        return Ok(());
     }
-    number_at(alloc, class, x, y, number)
+    push_line(text, number_at(alloc, class, x, y, number)?)
 }
 
-/// The numbers of the row.
+/// Adds the numbers of the row.
 #[tactic(auto, unfolding(crate::specs::RowTexts::counts_text))]
-fn counts_text(alloc: Global, y: u64, row: Row, groups: &[LedgerLine]) -> Result<String, AllocError>
+fn add_counts(
+    alloc: Global,
+    text: &mut String,
+    y: u64,
+    row: Row,
+    groups: &[LedgerLine],
+) -> Result<(), AllocError>
     requires { length groups.now < 2 ^ 16 }
-    ensures { IfOk result (λ s. string_bytes s ≡ counts_text y row groups.now) }
+    ensures { OnOk result (string_bytes text.new ≡ string_bytes text.old ++ counts_text y row groups.now) }
 {
     let ticks = column_sum(groups, row, Column::Ticks);
     let slack = column_sum(groups, row, Column::Slack);
     let refused = column_sum(groups, row, Column::Refused);
     let faults = column_sum(groups, row, Column::Faults);
-    let mut text = number_at(alloc, "t x", 1232, y, ticks)?;
-    push_line(&mut text, counted(alloc, "t x", 1304, y, slack)?)?;
-    push_line(&mut text, counted(alloc, "u x", 1376, y, refused)?)?;
-    push_line(&mut text, counted(alloc, "u x", 1448, y, faults)?)?;
-    Ok(text)
+    push_line(text, number_at(alloc, "t x", 1232, y, ticks)?)?;
+    add_counted(alloc, text, "t x", 1304, y, slack)?;
+    add_counted(alloc, text, "u x", 1376, y, refused)?;
+    add_counted(alloc, text, "u x", 1448, y, faults)
 }
 
-/// The line below the row's bars, and its name.
-#[tactic(auto, unfolding(crate::specs::RowTexts::name_text))]
-fn name_text(alloc: Global, header: &Header, top: u64, row: Row) -> Result<String, AllocError>
-    requires { top < 2 ^ 32 }
-    ensures { IfOk result (λ s. string_bytes s ≡ name_text header.now top row) }
+/// Each second row has a lane of another shade.
+fn lane_class(place: u16) -> &'static str
+    ensures { result.now ≡ lane_class place }
 {
-    let place = Place {
-        x: LEFT,
-        y: top + 12,
-        width: PLOT,
-        height: 1,
-    };
-    let mut text = rect(alloc, "g", place)?;
-    let name = row_name(alloc, header, row)?;
-    push_line(&mut text, words_at(alloc, "t", 8, top + 10, name.as_str())?)?;
-    push_line(&mut text, share_text(alloc, header, top + 21, row)?)?;
-    Ok(text)
+    if place % 2 == 0 { "l" } else { "bg" }
 }
 
-#[tactic(auto, unfolding(crate::specs::RowTexts::row_text))]
-fn row_text(
+/// The row's lane, the line below its bars, and its name.
+#[tactic(auto, unfolding(crate::specs::RowTexts::name_line))]
+fn name_line(
+    alloc: Global,
+    lane: &str,
+    high: u64,
+    low: u64,
+    foot: u64,
+    name: &str,
+) -> Result<String, AllocError>
+    ensures { IfOk result (λ s. string_bytes s ≡ name_line lane.now high low foot name.now) }
+{
+    format!(in alloc;
+        "<rect class='{lane}' x='0' y='{high}' width='1456' height='38'/>
+<rect class='g' x='200' y='{low}' width='960' height='1'/>
+<text class='t' x='8' y='{foot}'>{name}</text>
+"
+    )
+}
+
+fn name_text(
     alloc: Global,
     header: &Header,
+    place: u16,
     top: u64,
     row: Row,
-    groups: &[LedgerLine],
 ) -> Result<String, AllocError>
-    requires top { top < 2 ^ 32 }
-    requires few { length groups.now < 2 ^ 16 }
-    ensures { IfOk result (λ s. string_bytes s ≡ row_text header.now groups.now top row) }
+    requires low { 10 ≤ top }
+    requires high { top < 2 ^ 32 }
+    ensures { IfOk result (λ s. string_bytes s ≡ name_text header.now place top row) }
 {
-    let mut text = name_text(alloc, header, top, row)?;
-    push_line(&mut text, counts_text(alloc, top + 10, row, groups)?)?;
-    Ok(text)
+    let name = row_name(alloc, header, row)?;
+    let lane = lane_class(place);
+    name_line(alloc, lane, top - 10, top + 12, top + 10, name.as_str())
+}
+
+/// Adds a row.
+#[tactic(auto, unfolding(crate::specs::RowTexts::row_text))]
+fn add_row(
+    alloc: Global,
+    text: &mut String,
+    header: &Header,
+    span: Span,
+    drawing: &Drawing,
+    place: u16,
+    top: u64,
+    row: Row,
+) -> Result<(), AllocError>
+    requires low { 10 ≤ top }
+    requires high { top < 2 ^ 32 }
+    ensures { OnOk result (string_bytes text.new
+        ≡ string_bytes text.old ++ row_text header.now span drawing.now place top row) }
+{
+    push_line(text, name_text(alloc, header, place, top, row)?)?;
+    let terms = terms_of(header, drawing.makings(), row);
+    add_terms_part(alloc, text, header, span, top, terms)?;
+    add_counts(alloc, text, top + 10, row, drawing.groups())
 }
 
 /// Adds the rows.
@@ -142,31 +192,19 @@ pub(crate) fn add_rows(
     text: &mut String,
     header: &Header,
     frame: Frame,
+    span: Span,
+    drawing: &Drawing,
     rows: &[Row],
-    groups: &[LedgerLine],
 ) -> Result<(), AllocError>
-    requires rows { length rows.now < 2 ^ 16 }
-    requires few { length groups.now < 2 ^ 16 }
+    requires { length rows.now < 2 ^ 16 }
     ensures { OnOk result (string_bytes text.new
-        ≡ string_bytes text.old ++ rows_text header.now groups.now frame 0 rows.now) }
+        ≡ string_bytes text.old ++ rows_text header.now frame span drawing.now 0 rows.now) }
 {
     for (place, row) in rows.iter().enumerate() {
-        let line = row_text(alloc, header, frame.top(place as u16), *row, groups)?;
-        push_line(text, line)?;
+        let top = frame.top(place as u16);
+        add_row(alloc, text, header, span, drawing, place as u16, top, *row)?;
     }
     Ok(())
-}
-
-/// The heads of what is counted.
-#[tactic(auto, unfolding(crate::specs::RowTexts::counts_head))]
-fn counts_head(alloc: Global, y: u64) -> Result<String, AllocError>
-    ensures { IfOk result (λ s. string_bytes s ≡ counts_head y) }
-{
-    let mut text = words_at(alloc, "m x", 1232, y, "ticks")?;
-    push_line(&mut text, words_at(alloc, "m x", 1304, y, "slack")?)?;
-    push_line(&mut text, words_at(alloc, "m x", 1376, y, "refused")?)?;
-    push_line(&mut text, words_at(alloc, "m x", 1448, y, "faults")?)?;
-    Ok(text)
 }
 
 /// The heads of the columns.
@@ -174,7 +212,12 @@ fn counts_head(alloc: Global, y: u64) -> Result<String, AllocError>
 pub(crate) fn rows_head(alloc: Global, y: u64) -> Result<String, AllocError>
     ensures { IfOk result (λ s. string_bytes s ≡ rows_head y) }
 {
-    let mut text = words_at(alloc, "m", 8, y, "threads, budget of period")?;
-    push_line(&mut text, counts_head(alloc, y)?)?;
-    Ok(text)
+    format!(in alloc;
+        "<text class='m' x='8' y='{y}'>threads, budget of period, level</text>
+<text class='m x' x='1232' y='{y}'>ticks</text>
+<text class='m x' x='1304' y='{y}'>slack</text>
+<text class='m x' x='1376' y='{y}'>refused</text>
+<text class='m x' x='1448' y='{y}'>faults</text>
+"
+    )
 }

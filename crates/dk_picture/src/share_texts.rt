@@ -1,14 +1,15 @@
 //! The words that tell what each main used of its budget, in each of its windows that lies in the range.
 ghost use Rattle.std.specs.Prelude.{◌≡◌, ◌<◌, ◌≤◌, ◌++◌, IfOk, OnOk, length, string_bytes};
-ghost use Rattle.dk_picture.specs.Shares.{share_line, share_of, share_text, share_words, shares, shares_of, shares_of_process, shares_text};
+ghost use Rattle.dk_picture.specs.Shares.{done_line, share_class, share_line, share_of, share_text, share_words, shares, shares_of, shares_of_process, shares_text};
 
 use crate::drawing::Drawing;
-use crate::elements::{push_line, words_at};
+use crate::elements::{Place, push_line, rect, words_at};
 use crate::frame::Frame;
-use crate::row_list::level_of;
-use crate::row_texts::period_of;
-use crate::shares::{Share, has_room, is_whole, share_in};
+use crate::labels::room_in;
+use crate::row_list::{is_seen, level_of};
+use crate::shares::{Share, is_whole, share_in};
 use crate::span::Span;
+use crate::terms::period_of;
 use crate::windows::{Window, window_at, window_count};
 use dk_ledger::Header;
 use std::alloc::{AllocError, Global};
@@ -28,35 +29,63 @@ fn share_words(alloc: Global, share: Share) -> Result<String, AllocError>
     }
 }
 
+/// That of a window that was overrun is urgent.
+fn share_class(share: Share) -> &'static str
+    ensures { result.now ≡ share_class share }
+{
+    if share.overran { "u s x" } else { "m s x" }
+}
+
 /// The words below the window's end.
 fn share_line(
     alloc: Global,
     frame: Frame,
     span: Span,
-    drawing: &Drawing,
     share: Share,
     words: &str,
 ) -> Result<String, AllocError>
-    ensures { IfOk result (λ s. string_bytes s ≡ share_line frame span drawing.now share words.now) }
+    ensures { IfOk result (λ s. string_bytes s ≡ share_line frame span share words.now) }
 {
-    if !has_room(span, drawing, share, words.len() as u64) {
+    if words.len() as u64 > room_in(span, share.first, share.end) {
         return Ok(String::new(alloc));
     }
     let x = span.place(share.end) - 3;
-    words_at(alloc, "m s x", x, frame.top(share.row) + 21, words)
+    words_at(
+        alloc,
+        share_class(share),
+        x,
+        frame.top(share.row) + 27,
+        words,
+    )
 }
 
-fn share_text(
-    alloc: Global,
-    frame: Frame,
-    span: Span,
-    drawing: &Drawing,
-    share: Share,
-) -> Result<String, AllocError>
-    ensures { IfOk result (λ s. string_bytes s ≡ share_text frame span drawing.now share) }
+/// A line below the bars, from the window's begin on, until the main is done.
+fn done_line(alloc: Global, frame: Frame, span: Span, share: Share) -> Result<String, AllocError>
+    ensures { IfOk result (λ s. string_bytes s ≡ done_line frame span share) }
+{
+    if share.used == 0 {
+        return Ok(String::new(alloc));
+    }
+    let x = span.place(share.first);
+    let place = Place {
+        x,
+        y: frame.top(share.row) + 12,
+        width: span.place(share.done).saturating_sub(x),
+        height: 1,
+    };
+    rect(alloc, "e", place)
+}
+
+fn share_text(alloc: Global, frame: Frame, span: Span, share: Share) -> Result<String, AllocError>
+    ensures { IfOk result (λ s. string_bytes s ≡ share_text frame span share) }
 {
     let words = share_words(alloc, share)?;
-    share_line(alloc, frame, span, drawing, share, words.as_str())
+    let mut text = done_line(alloc, frame, span, share)?;
+    push_line(
+        &mut text,
+        share_line(alloc, frame, span, share, words.as_str())?,
+    )?;
+    Ok(text)
 }
 
 /// What the main used in the window, where that lies in the range.
@@ -70,11 +99,11 @@ fn share_of(
     window: Window,
 ) -> Result<String, AllocError>
     ensures { IfOk result (λ s. string_bytes s
-        ≡ shares_text frame span drawing.now (share_of header.now span drawing.now process window)) }
+        ≡ shares_text frame span (share_of header.now span drawing.now process window)) }
 {
     if is_whole(span, window) {
         let share = share_in(header, drawing, process, window);
-        share_text(alloc, frame, span, drawing, share)
+        share_text(alloc, frame, span, share)
     } else {
         Ok(String::new(alloc))
     }
@@ -94,7 +123,7 @@ fn add_windows(
 ) -> Result<(), AllocError>
     requires { 0 < period }
     ensures { OnOk result (string_bytes text.new ≡ string_bytes text.old
-        ++ shares_text frame span drawing.now (shares_of header.now span drawing.now process level period)) }
+        ++ shares_text frame span (shares_of header.now span drawing.now process level period)) }
 {
     let first = span.from / period;
     for number in 0..window_count(span, period) {
@@ -116,11 +145,14 @@ fn add_main(
     process: u8,
 ) -> Result<(), AllocError>
     ensures { OnOk result (string_bytes text.new ≡ string_bytes text.old
-        ++ shares_text frame span drawing.now (shares_of_process header.now span drawing.now process)) }
+        ++ shares_text frame span (shares_of_process header.now span drawing.now process)) }
 {
     let level = level_of(header, process);
     let period = period_of(header, level);
-    if period > 0 && span.has_pixels(period as u64, LEAST_PIXELS) {
+    if is_seen(drawing.groups(), process)
+        && period > 0
+        && span.has_pixels(period as u64, LEAST_PIXELS)
+    {
         add_windows(
             alloc, text, header, frame, span, drawing, process, level, period,
         )
@@ -140,7 +172,7 @@ pub(crate) fn add_shares(
 ) -> Result<(), AllocError>
     requires { length header.now.processes ≤ 32 }
     ensures { OnOk result (string_bytes text.new ≡ string_bytes text.old
-        ++ shares_text frame span drawing.now (shares header.now span drawing.now)) }
+        ++ shares_text frame span (shares header.now span drawing.now)) }
 {
     for process in 0..header.processes.len() as u8 {
         add_main(alloc, text, header, frame, span, drawing, process)?;

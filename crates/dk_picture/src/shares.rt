@@ -1,16 +1,14 @@
-//! What each main used of its budget in a window, and whether it has room below the window's end.
-ghost use Rattle.std.specs.Prelude.{◌≡◌, ◌<◌, ◌^◌, length};
+//! What each main used of its budget in a window, and whether it overran it.
+ghost use Rattle.std.specs.Prelude.{◌≡◌, ◌<◌, ◌^◌, false, length};
 ghost use Rattle.std.specs.List.{list_any};
-ghost use Rattle.dk_trace.specs.Entries.{is_budget_of, quiet};
-ghost use Rattle.dk_picture.specs.Shares.{has_room, is_free, is_in_way, is_urgent_event, is_whole, main_of, share_in, ticks_within, used_in, used_weight};
+ghost use Rattle.std.specs.Option.{option_map_or};
+ghost use Rattle.dk_trace.specs.Entries.{is_budget_of, is_same, quiet};
+ghost use Rattle.dk_picture.specs.Shares.{done_by, done_weight, is_done_in, is_last, is_whole, main_of, share_in, ticks_within, used_in, used_weight};
 
 use crate::drawing::Drawing;
-use crate::labels::room_in;
 use crate::makings::has_made;
-use crate::marks::is_urgent;
-use crate::row_texts::budget_of;
-use crate::rows::Rows;
 use crate::span::Span;
+use crate::terms::budget_of;
 use crate::windows::Window;
 use dk_ledger::{Header, LedgerLine};
 use dk_trace::{Event, Label, ThreadId};
@@ -22,6 +20,9 @@ pub(crate) struct Share {
     pub(crate) first: u64,
     pub(crate) end: u64,
     pub(crate) used: u64,
+    /// Behind the last tick that the budget paid for.
+    pub(crate) done: u64,
+    pub(crate) overran: bool,
     pub(crate) budget: u32,
     /// Whether children may have a part of the budget.
     pub(crate) shared: bool,
@@ -77,16 +78,78 @@ fn used_in(groups: &[LedgerLine], thread: ThreadId, first: u64, end: u64) -> u64
     sum
 }
 
+/// The tick behind the group's last one in the window that the thread's budget paid for.
+fn done_weight(thread: ThreadId, first: u64, end: u64, group: &LedgerLine) -> u64
+    ensures { result ≡ done_weight thread first end group.now }
+{
+    if used_weight(thread, first, end, group) > 0 {
+        (group.start as u64 + group.count as u64).min(end)
+    } else {
+        0
+    }
+}
+
+/// The tick behind the last one in the window that the thread's budget paid for, or 0.
+fn done_by(groups: &[LedgerLine], thread: ThreadId, first: u64, end: u64) -> u64
+    ensures { result ≡ done_by groups.now thread first end }
+{
+    let mut done = 0;
+    for group in groups {
+        done = done.max(done_weight(thread, first, end, group));
+    }
+    done
+}
+
+fn is_last(event: Option<Event>) -> bool
+    ensures { result ≡ option_map_or is_last event false }
+{
+    matches!(event, Some(Event::Wait | Event::Exit | Event::Fault(_)))
+}
+
+fn is_owner(thread: ThreadId, owner: Option<ThreadId>) -> bool
+    ensures { result ≡ option_map_or (is_same thread) owner false }
+{
+    match owner {
+        Some(owner) => thread.is_same(owner),
+        None => false,
+    }
+}
+
+/// Whether the thread's group ends in the window, with a call that ends its job or an event that ends it.
+fn is_done_in(thread: ThreadId, first: u64, end: u64, group: &LedgerLine) -> bool
+    ensures { result ≡ is_done_in thread first end group.now }
+{
+    let behind = group.start as u64 + group.count as u64;
+    (is_owner(thread, group.label.thread()) && is_last(group.event))
+        && (first < behind && behind <= end)
+}
+
+fn has_done(groups: &[LedgerLine], thread: ThreadId, first: u64, end: u64) -> bool
+    ensures { result ≡ list_any (is_done_in thread first end) groups.now }
+{
+    for group in groups {
+        if is_done_in(thread, first, end, group) {
+            return true;
+        }
+    }
+    false
+}
+
 /// What the main of the process used in the window.
 pub(crate) fn share_in(header: &Header, drawing: &Drawing, process: u8, window: Window) -> Share
     ensures { result ≡ share_in header.now drawing.now process window }
 {
     let main = main_of(process);
+    let groups = drawing.groups();
+    let used = used_in(groups, main, window.first, window.end);
+    let done = has_done(groups, main, window.first, window.end);
     Share {
         row: drawing.rows().at(Label::Run(main)),
         first: window.first,
         end: window.end,
-        used: used_in(drawing.groups(), main, window.first, window.end),
+        used,
+        done: done_by(groups, main, window.first, window.end),
+        overran: used > 0 && !done,
         budget: budget_of(header, process),
         shared: has_made(drawing.makings(), main, window.first),
     }
@@ -97,61 +160,4 @@ pub(crate) fn is_whole(span: Span, window: Window) -> bool
     ensures { result ≡ is_whole span window }
 {
     span.from as u64 <= window.first && window.end <= span.to as u64
-}
-
-fn is_urgent_event(event: Option<Event>) -> bool
-    ensures { result ≡ is_urgent_event event }
-{
-    match event {
-        Some(event) => is_urgent(event),
-        None => false,
-    }
-}
-
-/// Whether a mark below the bars of the row stands between these places.
-fn is_in_way(span: Span, rows: &Rows, row: u16, left: u64, right: u64, group: &LedgerLine) -> bool
-    ensures { result ≡ is_in_way span rows.now row left right group.now }
-{
-    let x = span.middle(group.start as u64 + (group.count as u64).saturating_sub(1));
-    is_urgent_event(group.event) && rows.at(group.label) == row && left < x && x < right
-}
-
-fn is_marked(
-    span: Span,
-    rows: &Rows,
-    row: u16,
-    left: u64,
-    right: u64,
-    groups: &[LedgerLine],
-) -> bool
-    ensures { result ≡ list_any (is_in_way span rows.now row left right) groups.now }
-{
-    groups
-        .iter()
-        .any(|group| is_in_way(span, rows, row, left, right, group))
-}
-
-/// No mark, which is 9 pixels wide, meets words of so many letters that end 3 pixels before the window does.
-fn is_free(span: Span, drawing: &Drawing, share: Share, letters: u64) -> bool
-    requires { letters < 2 ^ 48 }
-    ensures { result ≡ is_free span drawing.now share letters }
-{
-    let edge = span.place(share.end);
-    let left = edge.saturating_sub(6 * letters + 8);
-    let right = edge + 2;
-    !is_marked(
-        span,
-        drawing.rows(),
-        share.row,
-        left,
-        right,
-        drawing.groups(),
-    )
-}
-
-/// Whether the words have room below the window's end.
-pub(crate) fn has_room(span: Span, drawing: &Drawing, share: Share, letters: u64) -> bool
-    ensures { result ≡ has_room span drawing.now share letters }
-{
-    letters <= room_in(span, share.first, share.end) && is_free(span, drawing, share, letters)
 }

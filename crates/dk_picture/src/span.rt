@@ -43,7 +43,8 @@ impl Span {
 
     /// Where the middle of the tick is, in pixels from the left.
     pub(crate) fn middle(self, tick: u64) -> u64
-        ensures { result ≡ middle_of self tick }
+        ensures value { result ≡ middle_of self tick }
+        ensures small { result < 2 ^ 48 }
     {
         LEFT + (2 * self.before(tick) + 1) * PLOT / (2 * self.ticks())
     }

@@ -5,7 +5,7 @@ ghost use Rattle.dk_picture.specs.Rows.{child_of, children, with_child};
 
 use dk_config::NoMemory;
 use dk_ledger::LedgerLine;
-use dk_trace::{Label, ThreadId};
+use dk_trace::Label;
 use std::alloc::Global;
 
 /// The serial of a child of the process that had the group.
@@ -27,7 +27,12 @@ fn child_of(process: u8, label: Label) -> Option<u32>
 fn is_among(serials: &[u32], serial: u32) -> bool
     ensures { result ≡ list_any (λ s. s == serial) serials.now }
 {
-    serials.iter().any(|s| *s == serial)
+    for made in serials {
+        if *made == serial {
+            return true;
+        }
+    }
+    false
 }
 
 /// Adds the child where it isn't there.

@@ -5,6 +5,7 @@ ghost use Rattle.dk_groups.specs.Groups.{groups};
 ghost use Rattle.dk_hold_spans.specs.HoldLists.{holds_in};
 ghost use Rattle.dk_picture.specs.Makings.{makings_in};
 ghost use Rattle.dk_picture.specs.Numbers.{max_groups};
+ghost use Rattle.dk_picture.specs.Windows.{windows_head};
 ghost use Rattle.dk_picture.specs.Pictures.{IsShown, IsTooMany, body_text, drawn_text, foot_text, legend_head, legend_text, names_text, parts_text, picture_text, svg_text};
 
 use crate::axis::add_axis;
@@ -13,16 +14,17 @@ use crate::drawing::Drawing;
 use crate::elements::{push_line, push_words};
 use crate::frame::Frame;
 use crate::labels::add_labels;
-use crate::levels::{add_levels, windows_head};
+use crate::levels::add_levels;
 use crate::makings::read_makings;
 use crate::marks::add_marks;
 use crate::mutex_texts::add_mutexes;
 use crate::opening::add_opening;
+use crate::quiet_texts::add_quiet;
 use crate::reading::{PictureFault, read_groups};
 use crate::row_texts::{add_rows, rows_head};
 use crate::share_texts::add_shares;
 use crate::span::Span;
-use crate::style::LEGEND;
+use crate::style::{LEGEND, WINDOWS_HEAD};
 use dk_config::NoMemory;
 use dk_groups::GroupReader;
 use dk_hold_spans::read_holds;
@@ -56,21 +58,23 @@ fn add_foot(alloc: Global, text: &mut String, span: Span, frame: Frame) -> Resul
     push_line(text, legend_text(alloc, frame.bottom())?)
 }
 
-/// Adds the rows with their names and numbers, those of the mutexes last.
+/// Adds the rows with their names and numbers, the mains without a tick, and the rows of the mutexes.
 #[tactic(auto, unfolding(crate::specs::Pictures::names_text))]
 fn add_names(
     alloc: Global,
     text: &mut String,
     header: &Header,
     frame: Frame,
+    span: Span,
     drawing: &Drawing,
 ) -> Result<(), AllocError>
     ensures { OnOk result (string_bytes text.new
-        ≡ string_bytes text.old ++ names_text header.now frame drawing.now) }
+        ≡ string_bytes text.old ++ names_text header.now frame span drawing.now) }
 {
     push_line(text, rows_head(alloc, frame.head() + 8)?)?;
     let rows = drawing.rows().as_slice();
-    add_rows(alloc, text, header, frame, rows, drawing.groups())?;
+    add_rows(alloc, text, header, frame, span, drawing, rows)?;
+    add_quiet(alloc, text, header, frame, drawing.quiet())?;
     add_mutexes(alloc, text, drawing.holds(), frame, drawing.mutexes())
 }
 
@@ -91,8 +95,14 @@ fn add_drawn(
     add_plot(alloc, text, header, frame, span, drawing)?;
     add_labels(alloc, text, header, frame, span, drawing)?;
     add_shares(alloc, text, header, frame, span, drawing)?;
-    let groups = drawing.groups();
-    add_marks(alloc, text, header, frame, drawing.rows(), span, groups)
+    add_marks(alloc, text, header, frame, span, drawing)
+}
+
+/// Adds the heads of the columns of the levels.
+fn add_head(text: &mut String) -> Result<(), AllocError>
+    ensures { OnOk result (string_bytes text.new ≡ string_bytes text.old ++ windows_head) }
+{
+    push_words(text, WINDOWS_HEAD)
 }
 
 /// Adds the windows, the rows, their bars and the marks.
@@ -110,9 +120,9 @@ fn add_body(
     ensures { OnOk result (string_bytes text.new
         ≡ string_bytes text.old ++ body_text header.now frame span drawing.now) }
 {
-    push_line(text, windows_head(alloc)?)?;
-    add_levels(alloc, text, span, frame, header.levels.as_slice())?;
-    add_names(alloc, text, header, frame, drawing)?;
+    add_head(text)?;
+    add_levels(alloc, text, span, header.levels.as_slice())?;
+    add_names(alloc, text, header, frame, span, drawing)?;
     add_drawn(alloc, text, header, frame, span, drawing)
 }
 

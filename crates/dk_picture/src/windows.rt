@@ -1,9 +1,9 @@
-//! The windows of each level, as a ruler above the rows and as lines through them.
-ghost use Rattle.std.specs.Prelude.{◌≡◌, ◌<◌, ◌+◌, ◌/◌, ◌^◌, ◌++◌, IfOk, OnOk, string_bytes};
-ghost use Rattle.dk_picture.specs.Windows.{begin_text, line_class, number_text, stripe, window_at, window_count, window_line, window_rect, window_text, window_title, window_width, windows_text};
+//! The windows of each level, as a ruler above the rows and as lines across the bars of rows.
+ghost use Rattle.std.specs.Prelude.{◌≡◌, ◌≤◌, ◌<◌, ◌+◌, ◌/◌, ◌^◌, ◌++◌, IfOk, OnOk, string_bytes};
+ghost use Rattle.dk_picture.specs.Windows.{begin_line, begin_lines, begin_text, number_text, own_windows, stripe, window_at, window_count, window_rect, window_text, window_title, window_width, windows_text};
 
 use crate::elements::{Place, number_at, push_line, rect, titled_rect};
-use crate::frame::{Frame, level_top};
+use crate::frame::level_top;
 use crate::span::{Span, room_for};
 use std::alloc::{AllocError, Global};
 
@@ -57,33 +57,6 @@ fn window_width(span: Span, window: Window) -> u64
         .saturating_sub(span.place(window.first))
 }
 
-fn line_class(level: u8) -> &'static str
-    ensures { result.now ≡ line_class level }
-{
-    if level == 0 { "g" } else { "w" }
-}
-
-/// The line at which the window begins, where it has room. A slower level's is thicker.
-fn window_line(
-    alloc: Global,
-    span: Span,
-    frame: Frame,
-    window: Window,
-) -> Result<String, AllocError>
-    ensures { IfOk result (λ s. string_bytes s ≡ window_line span frame window) }
-{
-    if window_width(span, window) < 24 {
-        return Ok(String::new(alloc));
-    }
-    let place = Place {
-        x: span.place(window.first),
-        y: frame.head() - 6,
-        width: 1 + window.level.min(1) as u64,
-        height: frame.lines_height(),
-    };
-    rect(alloc, line_class(window.level), place)
-}
-
 /// The window's first tick as a number, where it has room.
 fn number_text(alloc: Global, span: Span, window: Window) -> Result<String, AllocError>
     ensures { IfOk result (λ s. string_bytes s ≡ number_text span window) }
@@ -103,28 +76,22 @@ fn number_text(alloc: Global, span: Span, window: Window) -> Result<String, Allo
 }
 
 /// What is drawn where a window begins in the range.
-fn begin_text(alloc: Global, span: Span, frame: Frame, window: Window) -> Result<String, AllocError>
-    ensures { IfOk result (λ s. string_bytes s ≡ begin_text span frame window) }
+fn begin_text(alloc: Global, span: Span, window: Window) -> Result<String, AllocError>
+    ensures { IfOk result (λ s. string_bytes s ≡ begin_text span window) }
 {
     if window.first < span.from as u64 {
-        return Ok(String::new(alloc));
+        Ok(String::new(alloc))
+    } else {
+        number_text(alloc, span, window)
     }
-    let mut text = window_line(alloc, span, frame, window)?;
-    push_line(&mut text, number_text(alloc, span, window)?)?;
-    Ok(text)
 }
 
 #[tactic(auto, unfolding(crate::specs::Windows::window_text))]
-fn window_text(
-    alloc: Global,
-    span: Span,
-    frame: Frame,
-    window: Window,
-) -> Result<String, AllocError>
-    ensures { IfOk result (λ s. string_bytes s ≡ window_text span frame window) }
+fn window_text(alloc: Global, span: Span, window: Window) -> Result<String, AllocError>
+    ensures { IfOk result (λ s. string_bytes s ≡ window_text span window) }
 {
     let mut text = window_rect(alloc, span, window)?;
-    push_line(&mut text, begin_text(alloc, span, frame, window)?)?;
+    push_line(&mut text, begin_text(alloc, span, window)?)?;
     Ok(text)
 }
 
@@ -146,19 +113,74 @@ pub(crate) fn add_windows(
     alloc: Global,
     text: &mut String,
     span: Span,
-    frame: Frame,
     level: u8,
     period: u32,
 ) -> Result<(), AllocError>
     requires { 0 < period }
-    ensures { OnOk result (string_bytes text.new ≡ string_bytes text.old ++ windows_text span frame level period) }
+    ensures { OnOk result (string_bytes text.new ≡ string_bytes text.old ++ windows_text span level period) }
 {
     let first = span.from / period;
     for number in 0..window_count(span, period) {
-        let line = window_text(alloc, span, frame, window_at(level, period, first + number))?;
+        let line = window_text(alloc, span, window_at(level, period, first + number))?;
         push_line(text, line)?;
     }
     Ok(())
+}
+
+/// A line across a row's bars where the window begins in the range.
+fn begin_line(alloc: Global, span: Span, top: u64, window: Window) -> Result<String, AllocError>
+    requires { 5 ≤ top }
+    ensures { IfOk result (λ s. string_bytes s ≡ begin_line span top window) }
+{
+    if window.first < span.from as u64 {
+        return Ok(String::new(alloc));
+    }
+    let place = Place {
+        x: span.place(window.first),
+        y: top - 5,
+        width: 1,
+        height: 23,
+    };
+    rect(alloc, "w", place)
+}
+
+fn add_begin_lines(
+    alloc: Global,
+    text: &mut String,
+    span: Span,
+    top: u64,
+    level: u8,
+    period: u32,
+) -> Result<(), AllocError>
+    requires some { 0 < period }
+    requires top { 5 ≤ top }
+    ensures { OnOk result (string_bytes text.new ≡ string_bytes text.old ++ begin_lines span top level period) }
+{
+    let first = span.from / period;
+    for number in 0..window_count(span, period) {
+        let line = begin_line(alloc, span, top, window_at(level, period, first + number))?;
+        push_line(text, line)?;
+    }
+    Ok(())
+}
+
+/// Adds the lines at which windows of the level begin, where one has 12 pixels.
+pub(crate) fn add_own_windows(
+    alloc: Global,
+    text: &mut String,
+    span: Span,
+    top: u64,
+    level: u8,
+    period: u32,
+) -> Result<(), AllocError>
+    requires { 5 ≤ top }
+    ensures { OnOk result (string_bytes text.new ≡ string_bytes text.old ++ own_windows span top level period) }
+{
+    if period > 0 && span.has_pixels(period as u64, 12) {
+        add_begin_lines(alloc, text, span, top, level, period)
+    } else {
+        Ok(())
+    }
 }
 
 /// How many windows have a tick in the range.

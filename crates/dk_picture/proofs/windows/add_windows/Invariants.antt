@@ -6,4 +6,4 @@ use Rattle.dk_picture.proofs.windows.add_windows.Given as goal
 -- the windows so far are added
 abbrev pub invariant-loop-number : goal.invariant-loop-number
 invariant-loop-number l =
-    string_bytes l.text ≡ string_bytes l.initial.text ++ flat_map (λ i. window_text l.span l.frame (window_at l.level l.period (l.first + i))) (below l.number)
+    string_bytes l.text ≡ string_bytes l.initial.text ++ flat_map (λ i. window_text l.span (window_at l.level l.period (l.first + i))) (below l.number)

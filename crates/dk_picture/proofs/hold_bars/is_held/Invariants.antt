@@ -1,0 +1,8 @@
+use Rattle.std.proofs.Common.{◌≡◌, drop}
+use Rattle.std.specs.List.{list_any}
+use Rattle.dk_picture.specs.HoldBars.{is_of_mutex}
+use Rattle.dk_picture.proofs.hold_bars.is_held.Given as goal
+
+-- none so far
+abbrev pub invariant-loop-hold : goal.invariant-loop-hold
+invariant-loop-hold l = list_any (is_of_mutex l.mutex) (drop l.hold-index l.holds) ≡ list_any (is_of_mutex l.mutex) l.holds

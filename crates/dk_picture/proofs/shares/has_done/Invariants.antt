@@ -1,0 +1,8 @@
+use Rattle.std.proofs.Common.{◌≡◌, drop}
+use Rattle.std.specs.List.{list_any}
+use Rattle.dk_picture.specs.Shares.{is_done_in}
+use Rattle.dk_picture.proofs.shares.has_done.Given as goal
+
+-- none so far
+abbrev pub invariant-loop-group : goal.invariant-loop-group
+invariant-loop-group l = list_any (is_done_in l.thread l.first l.end) (drop l.group-index l.groups) ≡ list_any (is_done_in l.thread l.first l.end) l.groups
