@@ -1,9 +1,6 @@
 -- Texts that are added one behind the other.
-use Rattle.std.proofs.Common.{◌≡◌, ◌∙◌, ◌+◌, ◌++◌, [], ◌∷◌, ℕ, List, refl, ap, sym, append_assoc}
-use Rattle.std.specs.Prelude.{flat_map, Result, Ok, Err, IfOk, OnOk}
-use Rattle.std.proofs.lemmas.Grind.{flat_map-append}
-use Rattle.dk_config.specs.Sums.{below}
-use Rattle.dk_hold_spans.proofs.Adding.{each_added}
+use Rattle.dk_picture.proofs.Names.{◌≡◌, ◌∙◌, ◌+◌, ◌++◌, [], ◌∷◌, ℕ, List, refl, ap, sym, append_assoc, Result, Ok, Err, IfOk, OnOk, flat_map-append, below, each_added}
+use Rattle.std.specs.Prelude.{flat_map}
 
 -- a text under another name
 pub same_text : {A E : Type 0} (f : A → List ℕ) (r : Result A E) (x y : List ℕ) → x ≡ y → IfOk r (λ s. f s ≡ x) → IfOk r (λ s. f s ≡ y)

@@ -1,26 +1,7 @@
 -- Each label of the groups has a row that takes it.
-use Rattle.std.proofs.Common.{ℕ, zero, suc, ◌≡◌, ◌∙◌, ◌+◌, ◌-◌, ◌<◌, ◌≤◌, ◌++◌, [], ◌∷◌, List, length, map, take, drop, sym, ap, subst, refl, arith, eq-eqb, length-drop}
-use Rattle.std.specs.Prelude.{Bool, true, false, ◌||◌, ◌&&◌, ◌==◌, not, Option, Some, None, flat_map, fold, nat_le, slice_get, if◌then◌else◌}
-use Rattle.std.specs.List.{AllByRecursion, list_any}
-use Rattle.std.specs.Option.{option_map_or}
-use Rattle.dk_config.specs.Sums.{below, numbers}
-use Rattle.dk_trace.specs.declared.ThreadId.{ThreadId}
-use Rattle.dk_trace.specs.declared.Label.{Label}
-use Rattle.dk_trace.specs.Ranges.{HasEntry, HasLabel}
-use Rattle.dk_trace.specs.declared.Entry.{Entry}
-use Rattle.std.proofs.lemmas.List.{length-take}
-use Rattle.std.proofs.lemmas.Bool.{eqb-true, eqb-false}
-use Rattle.dk_groups.proofs.InTurn.{groups_filled, groups_in_turn}
-use Rattle.dk_ledger.specs.declared.header.ProcessLine.{ProcessLine}
-use Rattle.dk_ledger.specs.declared.line.LedgerLine.{LedgerLine}
-use Rattle.dk_ledger.specs.Heading.{Heading}
-use Rattle.dk_ledger.specs.Readable.{IsProcessLine, IsReadable, IsReadableHeading, size_in}
-use Rattle.dk_ledger.proofs.EntryLists.{IsReadableLine, lines_readable}
-use Rattle.dk_groups.specs.Groups.{groups}
-use Rattle.dk_groups.proofs.Slices.{whole_slice}
-use Rattle.dk_picture.specs.declared.rows.Row.{Row}
+use Rattle.dk_picture.proofs.Names.{ℕ, zero, suc, ◌≡◌, ◌∙◌, ◌+◌, ◌-◌, ◌<◌, ◌≤◌, ◌++◌, [], ◌∷◌, List, length, map, take, drop, sym, ap, subst, refl, arith, eq-eqb, length-drop, Bool, true, false, ◌||◌, ◌&&◌, ◌==◌, not, Option, Some, None, fold, nat_le, slice_get, if◌then◌else◌, AllByRecursion, list_any, option_map_or, below, numbers, ThreadId, Label, HasEntry, HasLabel, Entry, length-take, eqb-true, eqb-false, groups_filled, groups_in_turn, ProcessLine, LedgerLine, Heading, IsProcessLine, IsReadable, IsReadableHeading, size_in, IsReadableLine, lines_readable, groups, whole_slice, Row, child_of, child_rows, children, is_seen, level_of, level_rows, main_rows, own_child, process_rows, rows_at_level, rows_of, takes, takes_thread, thread_of_process, with_child}
+use Rattle.std.specs.Prelude.{flat_map}
 use Rattle.dk_picture.specs.declared.rows.Row.TheVariants as row
-use Rattle.dk_picture.specs.Rows.{child_of, child_rows, children, is_seen, level_of, level_rows, main_rows, own_child, process_rows, rows_at_level, rows_of, takes, takes_thread, thread_of_process, with_child}
 
 -- ---- lists in which some element passes
 

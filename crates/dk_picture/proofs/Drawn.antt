@@ -1,20 +1,6 @@
 -- The bars of groups in turn, and the marks of their events.
-use Rattle.std.proofs.Common.{ℕ, zero, suc, ◌≡◌, ◌∙◌, ◌+◌, ◌-◌, ◌<◌, ◌≤◌, ◌++◌, [], ◌∷◌, List, length, map, drop, sym, ap, subst, refl, arith, length-append, length-drop, append_assoc}
-use Rattle.std.specs.Prelude.{None, flat_map, replicate}
-use Rattle.std.proofs.lemmas.List.{append-nil, length-replicate, length-take, map-append}
-use Rattle.dk_trace.specs.declared.Label.{Label}
-use Rattle.dk_trace.specs.declared.Entry.{Entry}
-use Rattle.dk_ledger.specs.declared.line.LedgerLine.{LedgerLine}
-use Rattle.dk_ledger.specs.Heading.{Heading}
-use Rattle.dk_ledger.specs.Cuts.{entries_of, AreFilled, AreInTurn}
-use Rattle.dk_ledger.proofs.EntryLists.{length-entries}
-use Rattle.dk_groups.specs.Groups.{groups, slice}
-use Rattle.dk_groups.proofs.Slices.{whole_slice}
-use Rattle.dk_picture.specs.declared.rows.Row.{Row}
-use Rattle.dk_picture.specs.Bars.{bar_of, bars}
-use Rattle.dk_picture.specs.Marks.{Mark, marks, marks_at, marks_of}
-use Rattle.dk_picture.specs.Laws.{AddUp, AreBarsOf, Cell, cell_of, cells_of, marks_from}
-use Rattle.dk_groups.proofs.InTurn.{groups_filled, groups_in_turn}
+use Rattle.dk_picture.proofs.Names.{ℕ, zero, suc, ◌≡◌, ◌∙◌, ◌+◌, ◌-◌, ◌<◌, ◌≤◌, ◌++◌, [], ◌∷◌, List, length, map, drop, sym, ap, subst, refl, arith, length-append, length-drop, append_assoc, None, replicate, append-nil, length-replicate, length-take, map-append, Label, Entry, LedgerLine, Heading, entries_of, AreFilled, AreInTurn, length-entries, groups, slice, whole_slice, Row, bar_of, bars, Mark, marks, marks_at, marks_of, AddUp, AreBarsOf, Cell, cell_of, cells_of, marks_from, groups_filled, groups_in_turn}
+use Rattle.std.specs.Prelude.{flat_map}
 
 module _ (h : Heading) (rows : List Row) where
   adds_up : (from s n : ℕ) (gs : List LedgerLine) → AreFilled gs → AreInTurn s gs → from ≤ s → n ≡ (s - from) + length (flat_map entries_of gs) → AddUp (s - from) (bars h rows from gs) n

@@ -1,15 +1,6 @@
 -- The tick at which the first group too many begins is the greatest end that fits.
-use Rattle.std.proofs.Common.{ℕ, zero, suc, ◌≡◌, ◌∙◌, ◌+◌, ◌-◌, ◌<◌, ◌≤◌, ◌++◌, [], ◌∷◌, List, length, sym, ap, refl, arith}
-use Rattle.std.specs.Prelude.{Bool, true, false, Some, None, flat_map, if◌then◌else◌, max, min, nat_lt, option_to_list, slice_get, ◌==◌}
-use Rattle.std.proofs.lemmas.Bool.{le-ltb, lt-ltb, ltb-false}
-use borrow.Author.Tests.{ltb-true}
-use Rattle.dk_trace.specs.declared.Entry.{Entry}
-use Rattle.dk_ledger.specs.declared.line.LedgerLine.{LedgerLine}
-use Rattle.dk_ledger.specs.Cuts.{AreFilled, AreInTurn}
-use Rattle.dk_ledger.specs.Lines.{lines_of}
-use Rattle.dk_ledger.proofs.OneCut.{is_cut}
-use Rattle.dk_groups.specs.Groups.{groups, part_of_line}
-use Rattle.dk_picture.specs.Pictures.{IsGreatestEnd, IsTooMany}
+use Rattle.dk_picture.proofs.Names.{ℕ, zero, suc, ◌≡◌, ◌∙◌, ◌+◌, ◌-◌, ◌<◌, ◌≤◌, ◌++◌, [], ◌∷◌, List, length, sym, ap, refl, arith, Bool, true, false, Some, None, if◌then◌else◌, max, min, nat_lt, option_to_list, slice_get, ◌==◌, le-ltb, lt-ltb, ltb-false, ltb-true, Entry, LedgerLine, AreFilled, AreInTurn, lines_of, is_cut, groups, part_of_line, IsGreatestEnd, IsTooMany}
+use Rattle.std.specs.Prelude.{flat_map}
 
 some_same : {A : Type 0} {x y : A} → Some x ≡ Some y → x ≡ y
 some_same e = cc

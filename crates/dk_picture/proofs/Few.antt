@@ -1,13 +1,7 @@
 -- A picture has few rows.
-use Rattle.std.proofs.Common.{ℕ, ◌≡◌, ◌*◌, ◌<◌, ◌≤◌, [], ◌∷◌, List, length, map, arith, refl, length-append}
-use Rattle.std.specs.Prelude.{Bool, true, false, flat_map, nat_le, ◌==◌, if◌then◌else◌}
-use Rattle.std.proofs.lemmas.List.{length-map}
-use Rattle.dk_config.specs.Sums.{below}
-use Rattle.dk_config.proofs.Counting.{length-numbers}
-use Rattle.dk_ledger.specs.declared.line.LedgerLine.{LedgerLine}
-use Rattle.dk_ledger.specs.Heading.{Heading}
+use Rattle.dk_picture.proofs.Names.{ℕ, ◌≡◌, ◌*◌, ◌<◌, ◌≤◌, [], ◌∷◌, List, length, map, arith, refl, length-append, Bool, true, false, nat_le, ◌==◌, if◌then◌else◌, length-map, below, length-numbers, LedgerLine, Heading, child_rows, children, is_seen, level_of, level_rows, main_rows, process_rows, rows_at_level, rows_of, thread_of_process}
+use Rattle.std.specs.Prelude.{flat_map}
 use Rattle.dk_picture.specs.declared.rows.Row.TheVariants as row
-use Rattle.dk_picture.specs.Rows.{child_rows, children, is_seen, level_of, level_rows, main_rows, process_rows, rows_at_level, rows_of, thread_of_process}
 
 length-flat_map : {A B : Type 0} (f : A → List B) (k : ℕ) → ((x : A) → length (f x) ≤ k) → (xs : List A) → length (flat_map f xs) ≤ k * length xs
 length-flat_map f k few [] = omega arith

@@ -1,18 +1,5 @@
 -- The parts of a picture, one after another.
-use Rattle.std.proofs.Common.{ℕ, ◌≡◌, ◌∙◌, ◌≤◌, ◌++◌, [], List, length, ap, sym, subst, append_assoc}
-use Rattle.std.specs.Prelude.{Result, Ok, Err, IfOk}
-use Rattle.dk_trace.specs.declared.Entry.{Entry}
-use Rattle.dk_ledger.specs.declared.line.LedgerLine.{LedgerLine}
-use Rattle.dk_ledger.specs.Heading.{Heading}
-use Rattle.dk_ledger.specs.Readable.{Journal}
-use Rattle.dk_groups.specs.Groups.{groups}
-use Rattle.dk_hold_spans.specs.declared.hold.Hold.{Hold}
-use Rattle.dk_hold_spans.specs.HoldLists.{holds_in}
-use Rattle.dk_picture.specs.declared.frame.Frame.{Frame}
-use Rattle.dk_picture.specs.declared.span.Span.{Span}
-use Rattle.dk_picture.specs.Makings.{makings_in}
-use Rattle.dk_picture.specs.Pictures.{IsShown, framed_text, parts_text, picture_text, svg_text}
-use Rattle.dk_picture.specs.Scenes.{Scene, frame_of, scene_of}
+use Rattle.dk_picture.proofs.Names.{ℕ, ◌≡◌, ◌∙◌, ◌≤◌, ◌++◌, [], List, length, ap, sym, subst, append_assoc, Result, Ok, Err, IfOk, Entry, LedgerLine, Heading, Journal, groups, Hold, holds_in, Frame, Span, makings_in, IsShown, framed_text, parts_text, picture_text, svg_text, Scene, frame_of, scene_of}
 
 pub three_parts : (a b d t0 t1 t2 t3 : List ℕ) → t0 ≡ [] → t1 ≡ t0 ++ a → t2 ≡ t1 ++ b → t3 ≡ t2 ++ d → t3 ≡ a ++ (b ++ d)
 three_parts a b d t0 t1 t2 t3 none is1 is2 is3 =

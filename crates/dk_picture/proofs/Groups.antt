@@ -1,16 +1,5 @@
 -- The groups that have been read are the first of all, and where one comes behind as many as a picture has, they are too many.
-use Rattle.std.proofs.Common.{ℕ, ◌≡◌, ◌∙◌, ◌++◌, [], ◌∷◌, List, length, sym, ap, arith, append_assoc, length-append}
-use Rattle.std.specs.Prelude.{slice_get}
-use Rattle.std.proofs.lemmas.Grind.{flat_map-append}
-use Rattle.std.proofs.lemmas.List.{append-nil}
-use Rattle.dk_ledger.specs.declared.line.LedgerLine.{LedgerLine}
-use Rattle.dk_ledger.specs.Readable.{Journal, IsReadable}
-use Rattle.dk_ledger.proofs.EntryLists.{get_seam}
-use Rattle.dk_groups.specs.Groups.{groups}
-use Rattle.dk_groups.specs.Cutting.{Cutting, HasGiven}
-use Rattle.dk_groups.proofs.NextLine.{groups_in_order}
-use Rattle.dk_picture.specs.Makings.{making_of, makings}
-use Rattle.dk_picture.specs.Pictures.{IsTooMany}
+use Rattle.dk_picture.proofs.Names.{ℕ, ◌≡◌, ◌∙◌, ◌++◌, [], ◌∷◌, List, length, sym, ap, arith, append_assoc, length-append, slice_get, flat_map-append, append-nil, LedgerLine, Journal, IsReadable, get_seam, groups, Cutting, HasGiven, groups_in_order, making_of, makings, IsTooMany}
 
 pub too_many : (j : Journal) (gs : List LedgerLine) (g : LedgerLine) (c : Cutting) (from to t : ℕ) → IsReadable j → HasGiven j (gs ++ g ∷ []) c
     → c.from ≡ from → c.to ≡ to → length gs ≡ 4000 → t ≡ g.start → IsTooMany (groups from to j.entries) t

@@ -1,18 +1,6 @@
 -- Each hold has the row of its mutex.
-use Rattle.std.proofs.Common.{ℕ, zero, suc, ◌≡◌, ◌∙◌, ◌+◌, ◌<◌, ◌≤◌, [], ◌∷◌, List, length, take, sym, ap, refl, arith, eq-eqb}
-use Rattle.std.specs.Prelude.{Bool, true, false, not, ◌||◌, ◌==◌, Option, Some, None, cond, flat_map, if◌then◌else◌, max, nat_lt, reverse, slice_get, unwrap_or}
-use Rattle.std.specs.List.{AllByRecursion, list_any, position_or_len}
-use Rattle.std.proofs.lemmas.Bool.{eqb-true}
-use Rattle.std.proofs.lemmas.Option.{slice_get_within}
-use Rattle.dk_config.specs.Sums.{below, numbers}
-use Rattle.dk_trace.specs.declared.Entry.{Entry}
-use Rattle.dk_ledger.proofs.EntryLists.{all_both}
-use Rattle.dk_holds.specs.declared.holding.Holding.{Holding}
-use Rattle.dk_holds.specs.Holds.{ended, holding}
-use Rattle.dk_hold_spans.specs.declared.hold.Hold.{Hold}
-use Rattle.dk_hold_spans.specs.HoldLists.{ended_hold, ended_holds, holds_behind, holds_in, open_hold, part_from}
-use Rattle.dk_picture.specs.HoldBars.{is_of_mutex, mutex_row, mutex_rows, row_of_mutex}
-use Rattle.dk_picture.specs.Laws.{HasMutexRow}
+use Rattle.dk_picture.proofs.Names.{ℕ, zero, suc, ◌≡◌, ◌∙◌, ◌+◌, ◌<◌, ◌≤◌, [], ◌∷◌, List, length, take, sym, ap, refl, arith, eq-eqb, Bool, true, false, not, ◌||◌, ◌==◌, Option, Some, None, cond, if◌then◌else◌, max, nat_lt, reverse, slice_get, unwrap_or, AllByRecursion, list_any, position_or_len, eqb-true, slice_get_within, below, numbers, Entry, all_both, Holding, ended, holding, Hold, ended_hold, ended_holds, holds_behind, holds_in, open_hold, part_from, is_of_mutex, mutex_row, mutex_rows, row_of_mutex, HasMutexRow}
+use Rattle.std.specs.Prelude.{flat_map}
 use Rattle.dk_picture.proofs.Covered.{any_first, any_later, any_numbered}
 
 module _ (m : ℕ) where

@@ -1,19 +1,8 @@
 -- The legend of the code is that of the definitions, and names what is drawn.
-use Rattle.std.proofs.Common.{ℕ, ◌≡◌, ◌++◌, List, refl, sym, inl, inr, ◌⊎◌}
+use Rattle.dk_picture.proofs.Names.{ℕ, ◌≡◌, ◌++◌, List, refl, sym, inl, inr, ◌⊎◌, Event, Label, Source, Work, Has, arguments_of, word_of, argument_words, event_text, behind, event_blanks, LEGEND, WINDOWS_HEAD, class_of, meaning_of, meanings, named_classes}
 use Rattle.std.specs.Fmt.{digits}
-use Rattle.dk_trace.specs.declared.Event.{Event}
-use Rattle.dk_trace.specs.declared.Label.{Label}
-use Rattle.dk_trace.specs.declared.Source.{Source}
-use Rattle.dk_trace.specs.declared.Work.{Work}
-use Rattle.dk_trace.specs.Members.{Has}
-use Rattle.dk_trace.specs.Says.{arguments_of, word_of}
-use Rattle.dk_ledger.specs.LineText.{argument_words, event_text}
-use Rattle.dk_entry_words.specs.Parted.{behind}
-use Rattle.dk_entry_words.proofs.ReadBack.{event_blanks}
-use Rattle.dk_picture.specs.declared.style.TheConstants.{LEGEND, WINDOWS_HEAD}
-use Rattle.dk_picture.specs.Bars.{class_of}
 use Rattle.dk_picture.specs.Elements.{rect_head, words_at}
-use Rattle.dk_picture.specs.Legends.{legend_rows, meaning_of, meanings, named_classes}
+use Rattle.dk_picture.specs.Legends.{legend_rows}
 use Rattle.dk_picture.specs.Windows.{windows_head}
 
 pub legend_is : LEGEND.now ≡ legend_rows

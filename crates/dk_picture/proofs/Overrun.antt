@@ -1,30 +1,6 @@
 -- A window that is told as overrun is one by the entries, as the report of windows counts it.
-use Rattle.std.proofs.Common.{ℕ, zero, suc, ◌≡◌, ◌∙◌, ◌+◌, ◌-◌, ◌<◌, ◌≤◌, ◌%◌, ◌⊎◌, inl, inr, ◌++◌, [], ◌∷◌, List, length, sym, ap, refl, arith}
-use Rattle.std.specs.Prelude.{Bool, true, false, not, ◌&&◌, ◌||◌, ◌==◌, Option, Some, None, count_by, flat_map, if◌then◌else◌, max, min, nat_le, nat_lt, option_to_list, replicate, reverse}
-use Rattle.std.specs.List.{list_any}
-use Rattle.std.specs.Option.{option_map_or}
-use Rattle.std.proofs.lemmas.Grind.{flat_map-append}
-use Rattle.std.proofs.lemmas.Bool.{eqb-true, eqb-false, ltb-false}
-use Rattle.std.proofs.lemmas.Bool.Decides.{nat_tests}
-use Rattle.std.proofs.lemmas.List.Folds.{list_any-append}
-use Rattle.std.proofs.lemmas.List.Sorted.{IsPermutation-reverse, list_any-IsPermutation}
-use borrow.Author.Tests.{ltb-true}
-use Rattle.dk_config.specs.Configuration.{Configuration}
-use Rattle.dk_config.specs.Windows.{period}
-use Rattle.dk_trace.specs.declared.ThreadId.{ThreadId}
-use Rattle.dk_trace.specs.declared.Event.{Event}
-use Rattle.dk_trace.specs.declared.Entry.{Entry}
-use Rattle.dk_trace.specs.declared.Label.{Label}
-use Rattle.dk_trace.specs.Entries.{does, is_budget_of, is_end, is_of, is_same, is_wait, stops, thread_of, window}
-use Rattle.dk_trace.specs.Guarantees.{past_at}
-use Rattle.dk_ledger.specs.declared.line.LedgerLine.{LedgerLine}
-use Rattle.dk_ledger.specs.Cuts.{AreFilled, entries_of}
-use Rattle.dk_ledger.specs.Lines.{lines_of}
-use Rattle.dk_ledger.proofs.OneCut.{is_cut}
-use Rattle.dk_groups.specs.Groups.{groups, slice}
-use Rattle.dk_groups.proofs.Slices.{whole_slice}
-use Rattle.dk_window_report.specs.Windows.{did_in, is_overrun}
-use Rattle.dk_picture.specs.Shares.{is_done_in, is_last, main_of, overran_in, used_in}
+use Rattle.dk_picture.proofs.Names.{ℕ, zero, suc, ◌≡◌, ◌∙◌, ◌+◌, ◌-◌, ◌<◌, ◌≤◌, ◌%◌, ◌⊎◌, inl, inr, ◌++◌, [], ◌∷◌, List, length, sym, ap, refl, arith, Bool, true, false, not, ◌&&◌, ◌||◌, ◌==◌, Option, Some, None, count_by, if◌then◌else◌, max, min, nat_le, nat_lt, option_to_list, replicate, reverse, list_any, option_map_or, flat_map-append, eqb-true, eqb-false, ltb-false, nat_tests, list_any-append, IsPermutation-reverse, list_any-IsPermutation, ltb-true, Configuration, period, ThreadId, Event, Entry, Label, does, is_budget_of, is_end, is_of, is_same, is_wait, stops, thread_of, window, past_at, LedgerLine, AreFilled, entries_of, lines_of, is_cut, groups, slice, whole_slice, did_in, is_overrun, is_done_in, is_last, main_of, overran_in, used_in}
+use Rattle.std.specs.Prelude.{flat_map}
 use Rattle.dk_picture.proofs.Shared.{counted_back, end_in, first_in, part, parts, used_counted, window_of}
 
 and_false : (a b : Bool) → b ≡ false → (a && b) ≡ false

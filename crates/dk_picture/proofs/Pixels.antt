@@ -1,9 +1,5 @@
 -- A tick's place and its middle are in the pixels of its bar.
-use Rattle.std.proofs.Common.{ℕ, ◌≡◌, ◌+◌, ◌-◌, ◌*◌, ◌/◌, ◌<◌, ◌≤◌, sym, subst, arith}
-use Rattle.std.proofs.Math.Nat.{add-mul, div-mul-le_self, lt-div-mul-add, mul_left_comm}
-use Rattle.dk_picture.specs.declared.span.Span.{Span}
-use Rattle.dk_picture.specs.Pixels.{BeginsAt, IsInBar}
-use Rattle.dk_picture.specs.Places.{before, middle_of, place_of, ticks_in}
+use Rattle.dk_picture.proofs.Names.{ℕ, ◌≡◌, ◌+◌, ◌-◌, ◌*◌, ◌/◌, ◌<◌, ◌≤◌, sym, subst, arith, add-mul, div-mul-le_self, lt-div-mul-add, mul_left_comm, Span, BeginsAt, IsInBar, before, middle_of, place_of, ticks_in}
 
 one_more : (q n : ℕ) → (q + 1) * n ≡ q * n + n
 one_more q n = let both = add-mul q 1 n in omega (arith, both)

@@ -1,39 +1,7 @@
 -- The words that a picture has from a ledger are of letters, digits, dots, stars, underscores and blanks.
-use Rattle.std.proofs.Common.{ℕ, ◌≡◌, ◌+◌, ◌-◌, ◌++◌, [], ◌∷◌, List, length, refl, subst, arith, codes}
-use Rattle.std.specs.Fmt.{digits}
-use Rattle.std.specs.Prelude.{true, decimal, Option, Some, None}
-use Rattle.std.specs.List.{AllByRecursion, list_all}
-use Rattle.std.specs.Option.{option_map_or}
-use Rattle.std.proofs.lemmas.Bool.Decides.{nat_tests}
-use Rattle.dk_config.specs.Rules.{is_name, is_word}
-use Rattle.dk_trace.specs.declared.ThreadId.{ThreadId}
-use Rattle.dk_trace.specs.declared.Label.{Label}
-use Rattle.dk_trace.specs.declared.Event.{Event}
-use Rattle.dk_trace.specs.declared.Entry.{Entry}
-use Rattle.dk_trace.specs.Entries.{thread_of}
-use Rattle.dk_ledger.specs.declared.header.ProcessLine.{ProcessLine}
-use Rattle.dk_ledger.specs.declared.line.LedgerLine.{LedgerLine}
-use Rattle.dk_ledger.specs.Heading.{Heading, name_of}
-use Rattle.dk_ledger.specs.LineText.{event_text, line_body, thread_text}
-use Rattle.dk_ledger.specs.Words.{event_words, is_spelled, line_words}
-use Rattle.dk_ledger.specs.Readable.{IsProcessLine, IsReadable, IsReadableHeading}
-use Rattle.dk_ledger.proofs.EntryLists.{all_both}
-use Rattle.dk_ledger.proofs.NameLemmas.{both_right}
-use Rattle.dk_ledger.proofs.Spelled.{all_append, event_spelled, line_spelled, number_spelled, process_spelled, thread_spelled}
-use Rattle.dk_entry_words.proofs.ReadBack.{event_blanks, line_blanks, printable}
-use Rattle.dk_entry_words.proofs.Spelled.{parted_all, word_all}
-use Rattle.dk_ledger.proofs.WordBytes.{all_more}
-use Rattle.dk_groups.specs.Groups.{groups}
-use Rattle.dk_hold_spans.specs.declared.hold.Hold.{Hold}
-use Rattle.dk_hold_spans.specs.HoldLists.{holds_in}
-use Rattle.dk_picture.specs.declared.rows.Row.{Row}
+use Rattle.dk_picture.proofs.Names.{ℕ, ◌≡◌, ◌+◌, ◌-◌, ◌++◌, [], ◌∷◌, List, length, refl, subst, arith, codes, digits, true, decimal, Option, Some, None, AllByRecursion, list_all, option_map_or, nat_tests, is_name, is_word, ThreadId, Label, Event, Entry, thread_of, ProcessLine, LedgerLine, Heading, name_of, event_text, line_body, thread_text, event_words, is_spelled, line_words, IsProcessLine, IsReadable, IsReadableHeading, all_both, both_right, all_append, event_spelled, line_spelled, number_spelled, process_spelled, thread_spelled, event_blanks, line_blanks, printable, parted_all, word_all, all_more, groups, Hold, holds_in, Row, bars, hold_bars, mutex_rows, mark_title, marks, marks_at, marks_of, owner_words, ArePlain, IsPlain, is_plain, rows_of, row_name}
+use Rattle.dk_picture.specs.HoldBars.{hold_words}
 use Rattle.dk_picture.specs.declared.rows.Row.TheVariants as row
-use Rattle.dk_picture.specs.Bars.{bars}
-use Rattle.dk_picture.specs.HoldBars.{hold_bars, hold_words, mutex_rows}
-use Rattle.dk_picture.specs.Marks.{mark_title, marks, marks_at, marks_of, owner_words}
-use Rattle.dk_picture.specs.PlainWords.{ArePlain, IsPlain, is_plain}
-use Rattle.dk_picture.specs.Rows.{rows_of}
-use Rattle.dk_picture.specs.RowTexts.{row_name}
 
 both : (s t : List ℕ) → IsPlain s → IsPlain t → IsPlain (s ++ t)
 both = all_append is_plain

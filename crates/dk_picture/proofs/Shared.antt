@@ -1,44 +1,6 @@
 -- What is told of a main's window is what the entries of its ticks say, and the main has a row.
-use Rattle.std.proofs.Common.{ℕ, zero, suc, ◌≡◌, ◌∙◌, ◌+◌, ◌-◌, ◌*◌, ◌/◌, ◌%◌, ◌<◌, ◌≤◌, inl, ◌++◌, [], ◌∷◌, List, length, take, drop, sym, ap, subst, refl, arith, length-drop, append_assoc}
-use Rattle.std.specs.Prelude.{Some, None, Bool, true, false, cond, count_by, flat_map, replicate, reverse, option_to_list, Option, max, min, nat_le, nat_lt, ◌==◌, ◌&&◌, if◌then◌else◌, sum_by}
-use Rattle.std.specs.List.{list_any}
-use Rattle.std.proofs.lemmas.Grind.{flat_map-append}
-use Rattle.std.proofs.lemmas.Bool.{ltb-false}
-use Rattle.std.proofs.lemmas.List.{append-nil, length-reverse, length-take-le, reverse-append, take-append-drop}
-use Rattle.std.proofs.lemmas.List.Sorted.{IsPermutation-reverse, sum_by-IsPermutation}
-use Rattle.std.proofs.lemmas.List.Sums.{sum_by-append, sum_by-cons}
-use Rattle.std.proofs.lemmas.Nat.{le-div}
-use Rattle.std.proofs.Math.Nat.{div-le_of_le-mul, mul_comm}
-use Rattle.std.proofs.Math.Seq.{drop-append_seam, take-append_seam}
-use borrow.Author.Tests.{ltb-true}
-use Rattle.dk_config.specs.Configuration.{Configuration}
-use Rattle.dk_config.specs.Windows.{period}
-use Rattle.dk_trace.specs.declared.ThreadId.{ThreadId}
-use Rattle.dk_trace.specs.declared.Label.{Label}
-use Rattle.dk_trace.specs.declared.Event.{Event}
-use Rattle.dk_trace.specs.declared.Entry.{Entry}
-use Rattle.dk_trace.specs.Entries.{is_budget_of, quiet, window}
-use Rattle.dk_trace.specs.Guarantees.{job_from, past_at}
-use Rattle.dk_trace.specs.Members.{Has}
-use Rattle.dk_trace.specs.Threads.{Thread}
-use Rattle.dk_trace.proofs.Members.{flat-has}
-use Rattle.dk_trace.proofs.Windows.{count_by-cons}
-use Rattle.dk_ledger.specs.declared.line.LedgerLine.{LedgerLine}
-use Rattle.dk_ledger.specs.Heading.{Heading}
-use Rattle.dk_ledger.specs.Readable.{IsReadableHeading}
-use Rattle.dk_ledger.specs.Cuts.{entries_of}
-use Rattle.dk_ledger.specs.Lines.{lines_of}
-use Rattle.dk_groups.specs.Groups.{groups, part_of_line, slice}
-use Rattle.dk_groups.proofs.Slices.{whole_slice}
-use Rattle.dk_picture.specs.declared.shares.Share.{Share}
-use Rattle.dk_picture.specs.declared.span.Span.{Span}
-use Rattle.dk_picture.specs.Laws.{IsTold}
-use Rattle.dk_picture.specs.Places.{has_pixels}
-use Rattle.dk_picture.specs.Rows.{is_seen, level_of, rows_of, takes}
-use Rattle.dk_picture.specs.Scenes.{Scene}
-use Rattle.dk_picture.specs.Shares.{is_whole, main_of, share_in, share_of, shares, shares_of, shares_of_process, ticks_within, used_in, used_weight}
-use Rattle.dk_picture.specs.Terms.{period_of}
-use Rattle.dk_picture.specs.Windows.{window_at, window_count}
+use Rattle.dk_picture.proofs.Names.{ℕ, zero, suc, ◌≡◌, ◌∙◌, ◌+◌, ◌-◌, ◌*◌, ◌/◌, ◌%◌, ◌<◌, ◌≤◌, inl, ◌++◌, [], ◌∷◌, List, length, take, drop, sym, ap, subst, refl, arith, length-drop, append_assoc, Some, None, Bool, true, false, cond, count_by, replicate, reverse, option_to_list, Option, max, min, nat_le, nat_lt, ◌==◌, ◌&&◌, if◌then◌else◌, list_any, flat_map-append, ltb-false, append-nil, length-reverse, length-take-le, reverse-append, take-append-drop, IsPermutation-reverse, sum_by-IsPermutation, sum_by-append, sum_by-cons, le-div, div-le_of_le-mul, mul_comm, drop-append_seam, take-append_seam, ltb-true, Configuration, period, ThreadId, Label, Event, Entry, is_budget_of, quiet, window, job_from, past_at, Has, Thread, flat-has, count_by-cons, LedgerLine, Heading, IsReadableHeading, entries_of, lines_of, groups, part_of_line, slice, whole_slice, Share, Span, IsTold, has_pixels, is_seen, level_of, rows_of, takes, Scene, is_whole, main_of, share_in, share_of, shares, shares_of, shares_of_process, ticks_within, used_in, used_weight, period_of, window_at, window_count}
+use Rattle.std.specs.Prelude.{flat_map, sum_by}
 use Rattle.dk_picture.proofs.Covered.{thread_covered}
 
 abbrev pub first_in : ℕ → LedgerLine → ℕ

@@ -1,18 +1,7 @@
 -- The style sheet of the code is that of the definitions, and what its rules say.
-use Rattle.std.proofs.Common.{ℕ, ◌≡◌, ◌∙◌, [], ◌∷◌, List, length, sym, ap, refl, codes}
+use Rattle.dk_picture.proofs.Names.{ℕ, ◌≡◌, ◌∙◌, [], ◌∷◌, List, length, sym, ap, refl, codes, Bool, true, false, ◌==◌, if◌then◌else◌, bytes_eq, Event, Label, Source, Work, first_same, STYLE, class_of, shift_of, hold_class, is_urgent, mark_class, HasOneFill, dark_fills, fills_of}
 use Rattle.std.specs.Fmt.{digits}
-use Rattle.std.specs.Prelude.{Bool, true, false, ◌==◌, if◌then◌else◌}
-use Rattle.std.specs.Str.{bytes_eq}
-use Rattle.dk_trace.specs.declared.Event.{Event}
-use Rattle.dk_trace.specs.declared.Label.{Label}
-use Rattle.dk_trace.specs.declared.Source.{Source}
-use Rattle.dk_trace.specs.declared.Work.{Work}
-use Rattle.dk_groups.proofs.ListParts.{first_same}
-use Rattle.dk_picture.specs.declared.style.TheConstants.{STYLE}
-use Rattle.dk_picture.specs.Bars.{class_of, shift_of}
-use Rattle.dk_picture.specs.HoldBars.{hold_class}
-use Rattle.dk_picture.specs.Marks.{is_urgent, mark_class}
-use Rattle.dk_picture.specs.Styles.{HasOneFill, bands_text, dark, dark_fills, fills_of, light, style_text}
+use Rattle.dk_picture.specs.Styles.{bands_text, dark, light, style_text}
 
 pub style_is : STYLE.now ≡ style_text
 unfolding digits style_text light dark bands_text

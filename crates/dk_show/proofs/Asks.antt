@@ -1,18 +1,7 @@
 -- What reads hand out, and which of them stray.
-use Rattle.std.proofs.Common.{ℕ, ◌≡◌, ◌∙◌, ◌+◌, List, length, refl, sym, ap, subst, arith}
-use Rattle.std.proofs.lemmas.List.{length-take}
-use Rattle.std.specs.Prelude.{false, Option, Some, None, IfSome, Result, Ok, Err, IsErrAnd}
-use Rattle.dk_config.specs.Configuration.{Configuration}
-use Rattle.dk_outside.specs.Files.{CountsStray, IsReading}
-use Rattle.dk_outside.specs.Views.{DepotView}
-use Rattle.dk_loader.specs.declared.fault.LoadFault.{LoadFault}
+use Rattle.dk_show.proofs.Names.{ℕ, ◌≡◌, ◌∙◌, ◌+◌, List, length, refl, sym, ap, subst, arith, length-take, false, Option, Some, None, IfSome, Result, Ok, Err, IsErrAnd, Configuration, CountsStray, IsReading, DepotView, LoadFault, CountsReads, bytes_read, loading, reading, Refusal, Files, is_silent, Asks, IsLoud, MissesAfter, handed_after, handed_out}
 use Rattle.dk_loader.specs.declared.fault.LoadFault.TheVariants as fault
-use Rattle.dk_loader.specs.Programs.{CountsReads, bytes_read, loading}
-use Rattle.dk_loader.specs.Reading.{reading}
-use Rattle.dk_show.specs.declared.refusal.Refusal.{Refusal}
 use Rattle.dk_show.specs.declared.refusal.Refusal.TheVariants as why
-use Rattle.dk_show.specs.Answers.{Files, is_silent}
-use Rattle.dk_show.specs.Asking.{Asks, IsLoud, MissesAfter, handed_after, handed_out}
 
 module _ {A B : Type 0} (files : Option Files) (bytes : Files → ℕ) (Missing : Files → Type 0) (old new : DepotView) where
   -- what follows on an answer asks for nothing more

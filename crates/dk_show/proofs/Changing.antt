@@ -1,14 +1,6 @@
 -- Where a change is told with the status of what is done, no other status stands.
-use Rattle.std.proofs.Common.{ℕ, ◌≡◌, ◌∙◌, inl, inr, List, sym}
-use Rattle.std.specs.Prelude.{Result, Ok, Err}
-use Rattle.dk_loader.specs.Workload.{Workload}
-use Rattle.dk_show.specs.declared.refusal.Refusal.{Refusal}
-use Rattle.dk_show.specs.declared.status.Status.{Status}
+use Rattle.dk_show.proofs.Names.{ℕ, ◌≡◌, ◌∙◌, inl, inr, List, sym, Result, Ok, Err, Workload, Refusal, Status, Files, ChangeAsk, EndsBy, IsOfChange, IsOfImpact, impact_end, IsOf, IsOfLoaded, loaded}
 use Rattle.dk_show.specs.declared.status.Status.TheVariants as status
-use Rattle.dk_show.specs.Answers.{Files}
-use Rattle.dk_show_request.specs.Change.{ChangeAsk}
-use Rattle.dk_show.specs.Impacts.{EndsBy, IsOfChange, IsOfImpact, impact_end}
-use Rattle.dk_show.specs.Loading.{IsOf, IsOfLoaded, loaded}
 
 by-ends : (Only : Type 0) (s : Status) → EndsBy Only status.Done → EndsBy Only s → s ≡ status.Done
 by-ends Only s (inl (only, done)) (inl (also, is)) = is

@@ -1,42 +1,14 @@
 -- Where a text stands with the status of what is done, no other status stands.
-use Rattle.std.proofs.Common.{ℕ, ◌≡◌, ◌∙◌, ◌⊎◌, ◌<◌, inl, inr, List, length, reverse, sym, ap, subst, refl, arith}
-use Rattle.std.specs.Prelude.{Bool, true, false, MatchBool, Option, Some, None, IfSome, Result, Ok, Err}
-use Rattle.dk_config.specs.declared.TheConstants.{MAX_CONFIG_BYTES, MAX_LEDGER_BYTES}
-use Rattle.dk_config.specs.Configuration.{Configuration}
-use Rattle.dk_certify.specs.declared.certifying.Verdict.{Verdict}
+use Rattle.dk_show.proofs.Names.{ℕ, ◌≡◌, ◌∙◌, ◌⊎◌, ◌<◌, inl, inr, List, length, reverse, sym, ap, subst, refl, arith, Bool, true, false, MatchBool, Option, Some, None, IfSome, Result, Ok, Err, MAX_CONFIG_BYTES, MAX_LEDGER_BYTES, Configuration, Verdict, verdict_of, LoadFault, reading, Journal, one_text, MAX_GROUPS, Telling, Range, RangeRequest, Request, Refusal, Status, IsAnswer, IsFaulty, refusal_status, IsOwnHeading, AreReactionsTold, ChainIn, IsChainTold, IsOfOther, IsOfReactions, chain_at, IsOf, certified_at, IsOfSource, is_source_name, IsOfProfile, MAX_PROFILE_BYTES, MAX_SOURCE_BYTES, IsSought, IsOfHolds, IsOfOwnHolds, IsOfWindows, windows_end, WindowsForm, IsBehind, IsDrawn, IsOfBytes, IsOfDocument, IsOfFaults, IsOfPicture, IsOfReading, IsOfRequest, IsPicture, IsToldOf, groups_asked, to_of}
 use Rattle.dk_certify.specs.declared.certifying.Verdict.TheVariants as verdict
-use Rattle.dk_certify.specs.Verdicts.{verdict_of}
-use Rattle.dk_loader.specs.declared.fault.LoadFault.{LoadFault}
 use Rattle.dk_loader.specs.declared.fault.LoadFault.TheVariants as fault
-use Rattle.dk_loader.specs.Reading.{reading}
-use Rattle.dk_ledger.specs.Readable.{Journal}
-use Rattle.dk_ledger.proofs.Readings.{one_text}
-use Rattle.dk_picture.specs.declared.reading.TheConstants.{MAX_GROUPS}
-use Rattle.dk_show_request.specs.declared.commands.Telling.{Telling}
 use Rattle.dk_show_request.specs.declared.commands.Telling.TheVariants as telling
-use Rattle.dk_show_request.specs.declared.request.Range.{Range}
-use Rattle.dk_show_request.specs.declared.request.RangeRequest.{RangeRequest}
-use Rattle.dk_show_request.specs.declared.request.Request.{Request}
 use Rattle.dk_show_request.specs.declared.request.Request.TheVariants as request
-use Rattle.dk_show.specs.declared.refusal.Refusal.{Refusal}
 use Rattle.dk_show.specs.declared.refusal.Refusal.TheVariants as why
-use Rattle.dk_show.specs.declared.status.Status.{Status}
 use Rattle.dk_show.specs.declared.status.Status.TheVariants as status
-use Rattle.dk_show.specs.Answers.{IsAnswer, IsFaulty, refusal_status}
-use Rattle.dk_audit.specs.Findings.{IsOwnHeading}
-use Rattle.dk_show.specs.Chains.{AreReactionsTold, ChainIn, IsChainTold, IsOfOther, IsOfReactions, chain_at}
-use Rattle.dk_show.specs.Loading.{IsOf, certified_at}
-use Rattle.dk_show.specs.Sources.{IsOfSource, is_source_name}
-use Rattle.dk_show.specs.Replays.{IsOfProfile}
-use Rattle.dk_profile.specs.declared.TheConstants.{MAX_PROFILE_BYTES}
-use Rattle.dk_asm.specs.declared.TheConstants.{MAX_SOURCE_BYTES}
-use Rattle.dk_show_request.specs.Meaning.{IsSought}
 use Rattle.dk_show.proofs.Changing.{impact_ends}
 use Rattle.dk_show.proofs.HoldEnds.{holds_ends, own_ends}
-use Rattle.dk_show.specs.Held.{IsOfHolds, IsOfOwnHolds}
-use Rattle.dk_show.specs.Windowed.{IsOfWindows, windows_end}
-use Rattle.dk_show_request.specs.declared.request.WindowsForm.{WindowsForm}
-use Rattle.dk_show.specs.Output.{Files, IsBehind, IsDrawn, IsOfBytes, IsOfDocument, IsOfFaults, IsOfNamed, IsOfPicture, IsOfReading, IsOfRequest, IsPicture, IsToldOf, groups_asked, to_of}
+use Rattle.dk_show.specs.Output.{Files, IsOfNamed}
 
 drawn_ends : (r : RangeRequest) (j k : Journal) (t u : List ℕ) (s : Status) → j ≡ k
     → IsDrawn r j t status.Done ⊎ IsBehind r j t status.Done → IsDrawn r k u s ⊎ IsBehind r k u s → s ≡ status.Done

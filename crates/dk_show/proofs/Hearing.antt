@@ -1,17 +1,6 @@
 -- What is told of the reactions of a chain in a ledger.
-use Rattle.std.proofs.Common.{ℕ, ◌≡◌, List, refl, subst, sym}
-use Rattle.std.specs.Prelude.{Option}
-use Rattle.dk_config.specs.Configuration.{Configuration}
-use Rattle.dk_trace.specs.declared.Entry.{Entry}
-use Rattle.dk_ledger.specs.Heading.{Heading}
-use Rattle.dk_ledger.specs.Readable.{Journal}
-use Rattle.dk_audit.specs.Findings.{IsOwnHeading}
-use Rattle.dk_chain_ledger.specs.declared.reactions.Reactions.{Reactions}
-use Rattle.dk_chain_ledger.specs.Reactions.{TellsReactions, reaction_in}
-use Rattle.dk_chain_ledger.specs.Text.{reactions_line}
-use Rattle.dk_chain_report.specs.Report.{IsChainText}
+use Rattle.dk_show.proofs.Names.{ℕ, ◌≡◌, List, refl, subst, sym, Option, Configuration, Entry, Heading, Journal, IsOwnHeading, Reactions, TellsReactions, reaction_in, reactions_line, IsChainText, AreReactionsTold, ChainIn}
 use Rattle.dk_show.specs.declared.status.Status.TheVariants as status
-use Rattle.dk_show.specs.Chains.{AreReactionsTold, ChainIn}
 
 pub told_of : (chain : ChainIn) (j : Journal) (c : Configuration) (h : Heading) (es : List Entry) (first : ℕ) (rest line text page : List ℕ) (seen : Option Reactions)
     → record { config = c; first = first; rest = rest } ≡ chain → record { heading = h; entries = es } ≡ j → IsOwnHeading c h

@@ -1,12 +1,6 @@
 -- Where it is told with the status of what is done how long mutexes were held, no other status stands.
-use Rattle.std.proofs.Common.{ℕ, ◌≡◌, ◌∙◌, ◌⊎◌, inl, inr, List, sym, subst}
-use Rattle.dk_config.specs.Configuration.{Configuration}
-use Rattle.dk_ledger.specs.Readable.{Journal}
-use Rattle.dk_ledger.proofs.Readings.{one_text}
-use Rattle.dk_audit.specs.Findings.{IsOwnHeading}
-use Rattle.dk_show.specs.declared.status.Status.{Status}
+use Rattle.dk_show.proofs.Names.{ℕ, ◌≡◌, ◌∙◌, ◌⊎◌, inl, inr, List, sym, subst, Configuration, Journal, one_text, IsOwnHeading, Status, IsHeldUnder, IsOfHolds, IsOfOwnHolds}
 use Rattle.dk_show.specs.declared.status.Status.TheVariants as status
-use Rattle.dk_show.specs.Held.{IsHeldUnder, IsOfHolds, IsOfOwnHolds}
 
 pub holds_ends : (bytes x y : List ℕ) (s : Status) → IsOfHolds bytes x status.Done → IsOfHolds bytes y s → s ≡ status.Done
 holds_ends bytes x y s (inl wrong) other = let bad = wrong.says.1 in cc

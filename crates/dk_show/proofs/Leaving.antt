@@ -1,16 +1,8 @@
 -- What stands in the output, and what a call leaves.
-use Rattle.std.proofs.Common.{ℕ, ◌≡◌, ◌⊎◌, inl, inr, List, sym, subst, refl}
-use Rattle.std.specs.Prelude.{Option, Some, None, IfSome, Ok, Err, true, false}
-use Rattle.dk_outside.specs.Views.{SinkView}
-use Rattle.dk_show.specs.declared.work.Work.{Work}
-use Rattle.dk_show.specs.declared.refusal.Refusal.{Refusal}
+use Rattle.dk_show.proofs.Names.{ℕ, ◌≡◌, ◌⊎◌, inl, inr, List, sym, subst, refl, Option, Some, None, IfSome, Ok, Err, true, false, SinkView, Work, Refusal, Status, IsAnswer, is_silent, refusal_status, refusal_text, Leaves, Says, HasText, Plans, ended_of}
 use Rattle.dk_show.specs.declared.refusal.Refusal.TheVariants as why
-use Rattle.dk_show.specs.declared.status.Status.{Status}
 use Rattle.dk_show.specs.declared.status.Status.TheVariants as status
-use Rattle.dk_show.specs.Answers.{IsAnswer, is_silent, refusal_status, refusal_text}
-use Rattle.dk_show.specs.Leaves.{Leaves}
-use Rattle.dk_show.specs.Output.{Files, Says}
-use Rattle.dk_show.specs.Works.{HasText, Plans, ended_of}
+use Rattle.dk_show.specs.Output.{Files}
 
 -- what stands by the files, where they are told
 module _ (Stands : Files → List ℕ → Status → Type 0) where

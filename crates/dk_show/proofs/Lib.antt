@@ -1,3 +1,4 @@
+pub mod Names
 pub mod Leaving
 pub mod Picturing
 pub mod Planning

@@ -1,15 +1,7 @@
 -- The reads of the programs hand out few bytes.
-use Rattle.std.proofs.Common.{ℕ, ◌+◌, ◌*◌, ◌^◌, ◌≤◌, List, length, arith}
-use Rattle.std.proofs.lemmas.List.Sums.{sum_by-le}
-use Rattle.std.specs.Prelude.{Option, Some, None, IfSome, Result, Ok, Err, sum_by}
-use Rattle.dk_config.specs.declared.TheConstants.{MAX_PROCESSES, MAX_PROGRAM_BYTES}
-use Rattle.dk_loader.specs.declared.fault.LoadFault.{LoadFault}
+use Rattle.dk_show.proofs.Names.{ℕ, ◌+◌, ◌*◌, ◌^◌, ◌≤◌, List, length, arith, sum_by-le, Option, Some, None, IfSome, Result, Ok, Err, sum_by, MAX_PROCESSES, MAX_PROGRAM_BYTES, LoadFault, TakesAll, Took, Refusal, Files, Loads}
 use Rattle.dk_loader.specs.declared.fault.LoadFault.TheVariants as fault
-use Rattle.dk_loader.specs.Programs.{TakesAll, Took}
-use Rattle.dk_show.specs.declared.refusal.Refusal.{Refusal}
 use Rattle.dk_show.specs.declared.refusal.Refusal.TheVariants as why
-use Rattle.dk_show.specs.Answers.{Files}
-use Rattle.dk_show.specs.Loading.{Loads}
 
 few_bytes : (old new count more : ℕ) (reads : List (List ℕ)) → length reads ≤ count → count ≤ MAX_PROCESSES → more ≤ MAX_PROGRAM_BYTES + 1
     → Took old new reads more → new ≤ old + 2 ^ 29

@@ -1,16 +1,7 @@
 -- What is shown of a ledger in the range that is asked for.
-use Rattle.std.proofs.Common.{ℕ, ◌≡◌, ◌∙◌, ◌<◌, ◌≤◌, List, length, sym, ap, subst, refl}
-use Rattle.std.specs.Prelude.{Option}
-use Rattle.dk_ledger.specs.declared.line.LedgerLine.{LedgerLine}
-use Rattle.dk_ledger.specs.Readable.{Journal}
-use Rattle.dk_groups.specs.Groups.{groups}
-use Rattle.dk_picture.specs.declared.reading.TheConstants.{MAX_GROUPS}
-use Rattle.dk_picture.specs.Pictures.{IsTooMany, svg_text}
-use Rattle.dk_show_request.specs.declared.request.Range.{Range}
+use Rattle.dk_show.proofs.Names.{ℕ, ◌≡◌, ◌∙◌, ◌<◌, ◌≤◌, List, length, sym, ap, subst, refl, Option, LedgerLine, Journal, groups, MAX_GROUPS, IsTooMany, svg_text, Range, refusal_text, IsCrowded, IsPastEnd, IsPictured, from_of, groups_asked, to_of}
 use Rattle.dk_show.specs.declared.refusal.Refusal.TheVariants as why
 use Rattle.dk_show.specs.declared.status.Status.TheVariants as status
-use Rattle.dk_show.specs.Answers.{refusal_text}
-use Rattle.dk_show.specs.Output.{IsCrowded, IsPastEnd, IsPictured, from_of, groups_asked, to_of}
 
 module _ (range : Option Range) (j : Journal) (from to ticks : ℕ) (count : length j.entries ≡ ticks) (is_from : from ≡ from_of range) (is_to : to ≡ to_of range ticks) where
   all : to ≡ to_of range (length j.entries)

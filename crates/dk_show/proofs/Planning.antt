@@ -1,17 +1,7 @@
 -- What is drawn of a ledger is that of the one ledger of its bytes.
-use Rattle.std.proofs.Common.{ℕ, ◌≡◌, ◌∙◌, ◌≤◌, List, length, inr, sym, ap, subst, refl}
-use Rattle.std.specs.Prelude.{Option, Some, None, IfSome, Result, Ok, Err}
-use Rattle.dk_ledger.specs.Readable.{Journal, IsReadable, text_of}
-use Rattle.dk_ledger.proofs.Readings.{one_text}
-use Rattle.dk_show_request.specs.declared.request.RangeRequest.{RangeRequest}
-use Rattle.dk_show.specs.declared.work.Work.{Work}
-use Rattle.dk_show.specs.declared.refusal.Refusal.{Refusal}
-use Rattle.dk_show.specs.declared.status.Status.{Status}
+use Rattle.dk_show.proofs.Names.{ℕ, ◌≡◌, ◌∙◌, ◌≤◌, List, length, inr, sym, ap, subst, refl, Option, Some, None, IfSome, Result, Ok, Err, Journal, IsReadable, text_of, one_text, RangeRequest, Work, Refusal, Status, refusal_status, refusal_text, IsDrawn, drawn_text, from_of, to_of, IsOf, Plans, ended_of}
 use Rattle.dk_show.specs.declared.status.Status.TheVariants as status
-use Rattle.dk_show.specs.Answers.{refusal_status, refusal_text}
-use Rattle.dk_show.specs.Output.{Files, IsDrawn, IsOfNamed, drawn_text, from_of, to_of}
-use Rattle.dk_show.specs.Loading.{IsOf}
-use Rattle.dk_show.specs.Works.{Plans, ended_of}
+use Rattle.dk_show.specs.Output.{Files, IsOfNamed}
 
 pub is_drawn : (r : RangeRequest) (j k : Journal) (bytes text : List ℕ) (from to ticks : ℕ) → IsReadable j → text_of j ≡ bytes → IsReadable k → text_of k ≡ bytes
     → ticks ≡ length j.entries → to ≤ ticks → from ≡ from_of r.range → to ≡ to_of r.range ticks → text ≡ drawn_text r.drawing from to k → IsDrawn r j text status.Done

@@ -1,19 +1,9 @@
 -- The files of a check of needs.
-use Rattle.std.proofs.Common.{ℕ, ◌≡◌, ◌∙◌, ◌+◌, List, ap, refl, sym, subst, arith}
-use Rattle.std.specs.Prelude.{Option, Some, None, IfSome, Result, Ok, Err, false, true}
-use Rattle.dk_config.specs.Configuration.{Configuration}
+use Rattle.dk_show.proofs.Names.{ℕ, ◌≡◌, ◌∙◌, ◌+◌, List, ap, refl, sym, subst, arith, Option, Some, None, IfSome, Result, Ok, Err, false, true, Configuration, bytes_read, loading, Workload, DepotView, Refusal, Files, Asks, IsLoud, MissesAfter, handed_programs, Loads, certified_at, programs_of, AskedIn, ReadyIn, asked_by, asked_of, asks_programs, ready_by, ready_of, running}
 use Rattle.dk_loader.specs.declared.fault.LoadFault.TheVariants as fault
-use Rattle.dk_loader.specs.Programs.{bytes_read, loading}
-use Rattle.dk_loader.specs.Workload.{Workload}
 use Rattle.dk_needs.specs.Reading.{reading}
-use Rattle.dk_outside.specs.Views.{DepotView}
 use Rattle.dk_show.specs.declared.checks.Layout.TheVariants as layout
-use Rattle.dk_show.specs.declared.refusal.Refusal.{Refusal}
 use Rattle.dk_show.specs.declared.refusal.Refusal.TheVariants as why
-use Rattle.dk_show.specs.Answers.{Files}
-use Rattle.dk_show.specs.Asking.{Asks, IsLoud, MissesAfter, handed_programs}
-use Rattle.dk_show.specs.Loading.{Loads, certified_at, programs_of}
-use Rattle.dk_show.specs.Needed.{AskedIn, ReadyIn, asked_by, asked_of, asks_programs, ready_by, ready_of, running}
 
 -- where a file isn't there, a read fails
 pub missed_needs : (held : Option (List ℕ)) (read : Result Configuration Refusal) → MissesAfter (λ (_ : Configuration). held ≡ None) read

@@ -1,9 +1,6 @@
 -- A work that is whole is ready.
-use Rattle.std.specs.Prelude.{Result, Ok, Err, IfOk}
-use Rattle.dk_show.specs.declared.refusal.Refusal.{Refusal}
-use Rattle.dk_show.specs.declared.work.Work.{Work}
+use Rattle.dk_show.proofs.Names.{Result, Ok, Err, IfOk, Refusal, Work, IsReady, IsWhole}
 use Rattle.dk_show.specs.declared.work.Work.TheVariants as work
-use Rattle.dk_show.specs.Works.{IsReady, IsWhole}
 
 pub whole_ready : (result : Result Work Refusal) → IfOk result IsWhole → IfOk result IsReady
 whole_ready (Err e) is = tt

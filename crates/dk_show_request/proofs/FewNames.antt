@@ -1,23 +1,7 @@
 -- The words never ask for a chain of more than 32 processes.
-use Rattle.std.proofs.Common.{ℕ, ◌≡◌, ◌<◌, inl, inr, List, [], ◌∷◌, length, arith, drop, subst, sym}
-use Rattle.std.specs.Prelude.{Bool, Option, Some, None, IfOk, IfSome, Result, Ok, Err, codes, nat_lt, option_and_then, option_map}
-use Rattle.std.proofs.lemmas.Bool.{cases_Bool}
-use Rattle.std.proofs.lemmas.Bool.Decides.{nat_tests}
-use Rattle.clap.specs.Words.{Row, all_of, first_of}
-use Rattle.dk_config.specs.declared.TheConstants.{MAX_PROCESSES}
-use Rattle.dk_show_request.specs.declared.commands.Command.{Command}
+use Rattle.dk_show_request.proofs.Names.{ℕ, ◌≡◌, ◌<◌, inl, inr, List, [], ◌∷◌, length, arith, drop, subst, sym, Bool, Option, Some, None, IfOk, IfSome, Result, Ok, Err, nat_lt, option_and_then, option_map, cases_Bool, nat_tests, Row, all_of, first_of, MAX_PROCESSES, Command, Drawing, Telling, CheckForm, Range, Request, WindowsForm, app_for, given_by, has, form_of, HasFewNames, asked, asked_by, chain_by, chain_of, chain_with, check_by, check_form_in, drawing_by, faults_by, holds_by, impact_by, picture_by, range_in, repeats_by, repeats_of, replay_by, telling_by, windows_by, windows_form_in, ticks_in, fits}
+use Rattle.std.specs.Prelude.{codes}
 use Rattle.dk_show_request.specs.declared.commands.Command.TheVariants as command
-use Rattle.dk_show_request.specs.declared.commands.Drawing.{Drawing}
-use Rattle.dk_show_request.specs.declared.commands.Telling.{Telling}
-use Rattle.dk_show_request.specs.declared.request.CheckForm.{CheckForm}
-use Rattle.dk_show_request.specs.declared.request.Range.{Range}
-use Rattle.dk_show_request.specs.declared.request.Request.{Request}
-use Rattle.dk_show_request.specs.declared.request.WindowsForm.{WindowsForm}
-use Rattle.dk_show_request.specs.Clap.{app_for, given_by, has}
-use Rattle.dk_show_request.specs.Forms.{form_of}
-use Rattle.dk_show_request.specs.Meaning.{HasFewNames, asked, asked_by, chain_by, chain_of, chain_with, check_by, check_form_in, drawing_by, faults_by, holds_by, impact_by, picture_by, range_in, repeats_by, repeats_of, replay_by, telling_by, windows_by, windows_form_in}
-use Rattle.dk_show_request.specs.Numbers.{ticks_in}
-use Rattle.dk_show_request.specs.Words.{fits}
 
 abbrev pub Few : Option Request → Type 0
 Few o = IfSome o HasFewNames

@@ -1,8 +1,5 @@
 -- What is looked for in words as the program has them.
-use Rattle.std.proofs.Common.{◌≡◌, List, [], ◌∷◌, ap, map, length, refl, inl, inr}
-use Rattle.std.specs.Prelude.{Bool, ◌||◌, filter, find, option_map}
-use Rattle.std.specs.List.{list_any}
-use Rattle.std.proofs.lemmas.Bool.{cases_Bool}
+use Rattle.dk_show_request.proofs.Names.{◌≡◌, List, [], ◌∷◌, ap, map, length, refl, inl, inr, Bool, ◌||◌, filter, find, option_map, list_any, cases_Bool}
 
 pub find-map : {A B : Type 0} (f : A → B) (p : B → Bool) (xs : List A) → find p (map f xs) ≡ option_map f (find (λ x. p (f x)) xs)
 find-map f p [] = refl

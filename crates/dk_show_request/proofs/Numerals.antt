@@ -1,12 +1,5 @@
 -- Numbers that are spelled.
-use Rattle.std.proofs.Common.{◌≡◌, ◌<◌, ◌==◌, ◌^◌, ℕ, true, false, List, [], ◌∷◌, length, refl, arith, inl, inr}
-use Rattle.std.specs.Prelude.{◌&&◌, nat_le, nat_lt, None}
-use Rattle.std.specs.List.{list_all}
-use Rattle.std.specs.Str.Parse.{AllDigits, IsNumeral, digits_value, without_leading_plus}
-use Rattle.std.specs.Char.{digit_value}
-use Rattle.std.proofs.lemmas.Bool.{cases_Bool, and_parts}
-use Rattle.std.proofs.lemmas.Bool.Decides.{nat_tests}
-use Rattle.dk_show_request.specs.Numbers.{is_digit_byte, is_spelled, ticks_in}
+use Rattle.dk_show_request.proofs.Names.{◌≡◌, ◌<◌, ◌==◌, ◌^◌, ℕ, true, false, List, [], ◌∷◌, length, refl, arith, inl, inr, ◌&&◌, nat_le, nat_lt, None, list_all, AllDigits, IsNumeral, digits_value, without_leading_plus, digit_value, cases_Bool, and_parts, nat_tests, is_digit_byte, is_spelled, ticks_in}
 
 pub digit_value-digit : (c : ℕ) → is_digit_byte c ≡ true → digit_value c < 10
 digit_value-digit c h = grind (arith, nat_tests)

@@ -1,20 +1,10 @@
 -- What is told of words that mean nothing is one line.
-use Rattle.std.proofs.Common.{ℕ, zero, suc, ◌≡◌, ◌==◌, ◌∙◌, Bool, true, false, List, [], ◌∷◌, ◌++◌, codes, refl, sym, ap, subst, length, append_assoc, inl, inr}
-use Rattle.std.specs.Prelude.{◌||◌, Option, Some, None, decimal, slice_get}
-use Rattle.std.specs.List.{list_any}
+use Rattle.dk_show_request.proofs.Names.{ℕ, zero, suc, ◌≡◌, ◌==◌, ◌∙◌, true, false, List, [], ◌∷◌, ◌++◌, codes, refl, sym, ap, subst, length, append_assoc, inl, inr, ◌||◌, Option, Some, None, decimal, slice_get, list_any, cases_Bool, list_any-append, MAX_PROCESSES, MAX_RUN_TICKS, Command, form_of, command_named, word_of, Reason, is_control, reason, reason_text, shown, wrong_with, marks_text, AreLines, Holds, IsLine}
 use Rattle.std.specs.Fmt.{digits}
-use Rattle.std.proofs.lemmas.Bool.{cases_Bool}
-use Rattle.std.proofs.lemmas.List.Folds.{list_any-append}
-use Rattle.dk_config.specs.declared.TheConstants.{MAX_PROCESSES, MAX_RUN_TICKS}
-use Rattle.dk_show_request.specs.declared.commands.Command.{Command}
+use Rattle.std.proofs.Common.{Bool}
 use Rattle.dk_show_request.specs.declared.commands.Command.TheVariants as command
 use Rattle.dk_show_request.specs.declared.commands.Drawing.TheVariants as drawing
 use Rattle.dk_show_request.specs.declared.commands.Telling.TheVariants as telling
-use Rattle.dk_show_request.specs.Forms.{form_of}
-use Rattle.dk_show_request.specs.Commands.{command_named, word_of}
-use Rattle.dk_show_request.specs.Reasons.{Reason, is_control, reason, reason_text, shown, wrong_with}
-use Rattle.dk_show_request.specs.Usage.{marks_text}
-use Rattle.dk_show_request.specs.TrueReasons.{AreLines, Holds, IsLine}
 use Rattle.dk_show_request.proofs.TrueReasons.{reasons_hold}
 
 -- no byte of it is a control character

@@ -1,8 +1,7 @@
 -- Words that mean nothing, each with its line.
-use Rattle.std.proofs.Common.{ℕ, ◌≡◌, List, [], ◌∷◌, codes, refl}
+use Rattle.dk_show_request.proofs.Names.{ℕ, ◌≡◌, List, [], ◌∷◌, codes, refl, wrong_text}
 use Rattle.std.specs.Fmt.{digits}
 use Rattle.dk_show_request.specs.Commands.{command_named}
-use Rattle.dk_show_request.specs.Reasons.{wrong_text}
 
 -- behind the program's name
 abbrev Says : List (List ℕ) → List ℕ → Type 0

@@ -1,12 +1,9 @@
 -- Each command of `clap` that is made here is simple, and no argument of it has a rule on another.
-use Rattle.std.proofs.Common.{◌≡◌, refl, true}
-use Rattle.clap.specs.Words.{is_simple_and_free}
+use Rattle.dk_show_request.proofs.Names.{◌≡◌, refl, true, is_simple_and_free, Command, app_for}
 use Rattle.clap.proofs.OnLiterals.{clap_on_literals}
-use Rattle.dk_show_request.specs.declared.commands.Command.{Command}
 use Rattle.dk_show_request.specs.declared.commands.Command.TheVariants as command
 use Rattle.dk_show_request.specs.declared.commands.Drawing.TheVariants as drawing
 use Rattle.dk_show_request.specs.declared.commands.Telling.TheVariants as telling
-use Rattle.dk_show_request.specs.Clap.{app_for}
 
 pub simple_for : (c : Command) → is_simple_and_free (app_for c) ≡ true
 unfolding clap_on_literals

@@ -1,20 +1,8 @@
 -- The reason that is told holds of the words.
-use Rattle.std.proofs.Common.{ℕ, ◌≡◌, ◌<◌, ◌+◌, ◌==◌, ◌∙◌, Bool, true, false, List, [], ◌∷◌, length, refl, sym, subst, arith, inl, inr}
-use Rattle.std.specs.Prelude.{◌-◌, ◌&&◌, ◌||◌, not, Option, Some, None, drop, find, is_some, nat_lt, slice_get, unwrap_or, if◌then◌else◌}
-use Rattle.std.specs.Option.{option_map_or}
-use Rattle.std.proofs.lemmas.Bool.{cases_Bool, and_parts}
-use Rattle.std.proofs.lemmas.Bool.Decides.{nat_tests}
-use Rattle.std.proofs.lemmas.List.Folds.{find_at}
-use Rattle.std.specs.List.{position_or_len}
-use Rattle.dk_config.specs.declared.TheConstants.{MAX_PROCESSES}
-use Rattle.dk_show_request.specs.declared.commands.Command.{Command}
+use Rattle.dk_show_request.proofs.Names.{ℕ, ◌≡◌, ◌<◌, ◌+◌, ◌==◌, ◌∙◌, true, false, List, [], ◌∷◌, length, refl, sym, subst, arith, inl, inr, ◌-◌, ◌&&◌, ◌||◌, not, Option, Some, None, find, is_some, nat_lt, slice_get, unwrap_or, if◌then◌else◌, option_map_or, cases_Bool, and_parts, nat_tests, find_at, position_or_len, MAX_PROCESSES, Command, Form, form_of, ticks_in, marks_text, arguments, ends_bare, is_mark, is_option, is_plain_word, is_repeated, is_unfit, unfit_word, word_at, Reason, count_reason, has_many_names, is_below, is_disordered, is_no_ticks, mark_reason, missing_name, names_reason, no_ticks_word, order_reason, surplus_reason, surplus_word, ticks_reason, unfit_reason, AreNotBelow, HoldsOf, LeavesOut, ReasonsHold, StandsIn}
+use Rattle.std.proofs.Common.{Bool}
+use Rattle.std.specs.Prelude.{drop}
 use Rattle.dk_show_request.specs.declared.commands.Command.TheVariants as command
-use Rattle.dk_show_request.specs.Forms.{Form, form_of}
-use Rattle.dk_show_request.specs.Numbers.{ticks_in}
-use Rattle.dk_show_request.specs.Usage.{marks_text}
-use Rattle.dk_show_request.specs.Words.{arguments, ends_bare, is_mark, is_option, is_plain_word, is_repeated, is_unfit, unfit_word, word_at}
-use Rattle.dk_show_request.specs.Reasons.{Reason, count_reason, has_many_names, is_below, is_disordered, is_no_ticks, mark_reason, missing_name, names_reason, no_ticks_word, order_reason, surplus_reason, surplus_word, ticks_reason, unfit_reason}
-use Rattle.dk_show_request.specs.TrueReasons.{AreNotBelow, HoldsOf, LeavesOut, ReasonsHold, StandsIn}
 
 or_else : {X : Type 0} (P : Reason → Type 0) (g : X → Reason) (o : Option X) (d : Reason)
     → ((x : X) → o ≡ Some x → P (g x)) → (o ≡ None → P d) → P (option_map_or g o d)

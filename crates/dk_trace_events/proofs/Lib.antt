@@ -1,3 +1,4 @@
+pub mod Names
 pub mod Safe
 pub mod ReadBack
 pub mod Mutexes

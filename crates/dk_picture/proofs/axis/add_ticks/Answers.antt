@@ -1,8 +1,5 @@
-use Rattle.std.proofs.Common.{◌+◌, ◌*◌, ◌/◌, ◌≤◌, arith}
-use Rattle.std.proofs.Math.Nat.{mul-le-mul_left}
+use Rattle.dk_picture.proofs.Names.{◌+◌, ◌*◌, ◌/◌, ◌≤◌, arith, mul-le-mul_left, tick_text, each_added}
 use Rattle.std.specs.Prelude.{string_bytes}
-use Rattle.dk_picture.specs.Axis.{tick_text}
-use Rattle.dk_hold_spans.proofs.Adding.{each_added}
 use Rattle.dk_picture.proofs.axis.add_ticks.Goals as goal
 
 pub overflow_mul-tick : goal.overflow_mul-tick

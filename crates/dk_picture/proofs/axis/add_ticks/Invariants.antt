@@ -1,6 +1,4 @@
-use Rattle.std.proofs.Common.{◌≡◌, ◌+◌, ◌*◌, ◌++◌, flat_map, string_bytes}
-use Rattle.dk_config.specs.Sums.{below}
-use Rattle.dk_picture.specs.Axis.{tick_text}
+use Rattle.dk_picture.proofs.Names.{◌≡◌, ◌+◌, ◌*◌, ◌++◌, flat_map, string_bytes, below, tick_text}
 use Rattle.dk_picture.proofs.axis.add_ticks.Given as goal
 
 -- the numbers so far are added

@@ -1,6 +1,4 @@
-use Rattle.std.proofs.Common.{◌≡◌, drop}
-use Rattle.std.specs.Prelude.{find}
-use Rattle.dk_picture.specs.Axis.{is_wide}
+use Rattle.dk_picture.proofs.Names.{◌≡◌, drop, find, is_wide}
 use Rattle.dk_picture.proofs.axis.first_wide.Given as goal
 
 -- none so far

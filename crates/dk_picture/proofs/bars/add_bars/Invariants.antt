@@ -1,5 +1,4 @@
-use Rattle.std.proofs.Common.{◌≡◌, ◌++◌, drop, flat_map, map, string_bytes}
-use Rattle.dk_picture.specs.Bars.{bar_of, bar_text}
+use Rattle.dk_picture.proofs.Names.{◌≡◌, ◌++◌, drop, flat_map, map, string_bytes, bar_of, bar_text}
 use Rattle.dk_picture.proofs.bars.add_bars.Given as goal
 
 -- the bars so far, before those of the groups that are left

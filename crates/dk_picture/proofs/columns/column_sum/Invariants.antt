@@ -1,5 +1,4 @@
-use Rattle.std.proofs.Common.{◌≡◌, ◌≤◌, ◌*◌, take, sum_by}
-use Rattle.dk_picture.specs.Columns.{column_weight}
+use Rattle.dk_picture.proofs.Names.{◌≡◌, ◌≤◌, ◌*◌, take, sum_by, column_weight}
 use Rattle.dk_picture.proofs.columns.column_sum.Given as goal
 
 abbrev pub invariant-loop-group : goal.invariant-loop-group

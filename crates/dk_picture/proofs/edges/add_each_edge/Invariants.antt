@@ -1,5 +1,4 @@
-use Rattle.std.proofs.Common.{◌≡◌, ◌++◌, drop, flat_map, string_bytes}
-use Rattle.dk_picture.specs.Labels.{edge_of}
+use Rattle.dk_picture.proofs.Names.{◌≡◌, ◌++◌, drop, flat_map, string_bytes, edge_of}
 use Rattle.dk_picture.proofs.edges.add_each_edge.Given as goal
 
 -- the lines so far, before those of the groups that are left

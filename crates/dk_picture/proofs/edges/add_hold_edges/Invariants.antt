@@ -1,5 +1,4 @@
-use Rattle.std.proofs.Common.{◌≡◌, ◌++◌, drop, flat_map, string_bytes}
-use Rattle.dk_picture.specs.Labels.{hold_edge_of}
+use Rattle.dk_picture.proofs.Names.{◌≡◌, ◌++◌, drop, flat_map, string_bytes, hold_edge_of}
 use Rattle.dk_picture.proofs.edges.add_hold_edges.Given as goal
 
 -- the lines so far, before those of the holds that are left

@@ -1,4 +1,4 @@
-use Rattle.std.proofs.Common.{refl}
+use Rattle.dk_picture.proofs.Names.{refl}
 use Rattle.dk_picture.proofs.Ends.{greatest_end}
 use Rattle.dk_picture.proofs.form_laws.the_end_that_is_told_is_the_greatest.Goals as goal
 

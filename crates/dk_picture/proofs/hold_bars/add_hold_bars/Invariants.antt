@@ -1,5 +1,4 @@
-use Rattle.std.proofs.Common.{◌≡◌, ◌++◌, drop, flat_map, map, string_bytes}
-use Rattle.dk_picture.specs.HoldBars.{hold_bar, hold_bar_text}
+use Rattle.dk_picture.proofs.Names.{◌≡◌, ◌++◌, drop, flat_map, map, string_bytes, hold_bar, hold_bar_text}
 use Rattle.dk_picture.proofs.hold_bars.add_hold_bars.Given as goal
 
 -- the bars so far, before those of the holds that are left

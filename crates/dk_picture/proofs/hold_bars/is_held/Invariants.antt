@@ -1,6 +1,4 @@
-use Rattle.std.proofs.Common.{◌≡◌, drop}
-use Rattle.std.specs.List.{list_any}
-use Rattle.dk_picture.specs.HoldBars.{is_of_mutex}
+use Rattle.dk_picture.proofs.Names.{◌≡◌, drop, list_any, is_of_mutex}
 use Rattle.dk_picture.proofs.hold_bars.is_held.Given as goal
 
 -- none so far

@@ -1,6 +1,4 @@
-use Rattle.std.proofs.Common.{[], refl, arith}
-use Rattle.dk_picture.specs.HoldBars.{row_of_mutex}
-use Rattle.dk_hold_spans.proofs.Adding.{each_added}
+use Rattle.dk_picture.proofs.Names.{[], refl, arith, row_of_mutex, each_added}
 use Rattle.dk_picture.proofs.hold_bars.mutex_rows.Goals as goal
 
 pub loop-mutex-preserved : goal.loop-mutex-preserved

@@ -1,6 +1,4 @@
-use Rattle.std.proofs.Common.{◌≡◌, ◌≤◌, flat_map, length}
-use Rattle.dk_config.specs.Sums.{below}
-use Rattle.dk_picture.specs.HoldBars.{row_of_mutex}
+use Rattle.dk_picture.proofs.Names.{◌≡◌, ◌≤◌, flat_map, length, below, row_of_mutex}
 use Rattle.dk_picture.proofs.hold_bars.mutex_rows.Given as goal
 
 abbrev pub invariant-loop-mutex : goal.invariant-loop-mutex

@@ -1,5 +1,4 @@
-use Rattle.std.proofs.Common.{◌≡◌, ◌++◌, drop, flat_map, string_bytes}
-use Rattle.dk_picture.specs.Labels.{group_label}
+use Rattle.dk_picture.proofs.Names.{◌≡◌, ◌++◌, drop, flat_map, string_bytes, group_label}
 use Rattle.dk_picture.proofs.labels.add_group_labels.Given as goal
 
 -- the words at the bars so far, before those of the groups that are left

@@ -1,5 +1,4 @@
-use Rattle.std.proofs.Common.{◌≡◌, ◌++◌, drop, flat_map, string_bytes}
-use Rattle.dk_picture.specs.Labels.{hold_label}
+use Rattle.dk_picture.proofs.Names.{◌≡◌, ◌++◌, drop, flat_map, string_bytes, hold_label}
 use Rattle.dk_picture.proofs.labels.add_hold_labels.Given as goal
 
 -- the words so far, before those of the holds that are left

@@ -1,5 +1,4 @@
-use Rattle.dk_groups.specs.Groups.{groups}
-use Rattle.dk_picture.specs.Rows.{rows_of}
+use Rattle.dk_picture.proofs.Names.{groups, rows_of}
 use Rattle.dk_picture.proofs.Drawn.{bars_drawn}
 use Rattle.dk_picture.proofs.laws.bars_are_the_ticks.Goals as goal
 

@@ -1,4 +1,4 @@
-use Rattle.dk_groups.specs.Groups.{groups}
+use Rattle.dk_picture.proofs.Names.{groups}
 use Rattle.dk_picture.proofs.Overrun.{overrun_is}
 use Rattle.dk_picture.proofs.Shared.{main_in_rows, used_is_job, window_told}
 use Rattle.dk_picture.proofs.laws.shares_are_the_windows.Goals as goal

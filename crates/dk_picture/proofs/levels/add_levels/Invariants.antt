@@ -1,5 +1,4 @@
-use Rattle.std.proofs.Common.{◌≡◌, ◌++◌, drop, string_bytes}
-use Rattle.dk_picture.specs.Windows.{levels_text}
+use Rattle.dk_picture.proofs.Names.{◌≡◌, ◌++◌, drop, string_bytes, levels_text}
 use Rattle.dk_picture.proofs.levels.add_levels.Given as goal
 
 -- the levels so far, before those that are left

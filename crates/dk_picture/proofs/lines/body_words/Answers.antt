@@ -1,4 +1,5 @@
-use Rattle.std.proofs.Common.{ℕ, List, ◌≡◌, ◌++◌, append_assoc, sym, codes, decimal, string_bytes}
+use Rattle.dk_picture.proofs.Names.{ℕ, List, ◌≡◌, ◌++◌, append_assoc, sym, codes, string_bytes}
+use Rattle.std.proofs.Common.{decimal}
 use Rattle.dk_picture.proofs.Adding.{same_text}
 use Rattle.dk_picture.proofs.lines.body_words.Goals as goal
 

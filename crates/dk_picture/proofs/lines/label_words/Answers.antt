@@ -1,4 +1,4 @@
-use Rattle.std.proofs.Common.{string_bytes}
+use Rattle.dk_picture.proofs.Names.{string_bytes}
 use Rattle.dk_picture.proofs.Adding.{same_text}
 use Rattle.dk_picture.proofs.LabelParts.{label_is}
 use Rattle.dk_picture.proofs.lines.label_words.Goals as goal

@@ -1,8 +1,4 @@
-use Rattle.std.proofs.Common.{◌∙◌, ◌++◌, [], ◌∷◌, ap}
-use Rattle.dk_ledger.proofs.NextItem.{if_ok}
-use Rattle.dk_ledger.proofs.Readings.{some_is}
-use Rattle.dk_groups.specs.Groups.{groups}
-use Rattle.dk_picture.specs.Makings.{makings}
+use Rattle.dk_picture.proofs.Names.{◌∙◌, ◌++◌, [], ◌∷◌, ap, if_ok, some_is, groups, makings}
 use Rattle.dk_picture.proofs.Groups.{one_making}
 use Rattle.dk_picture.proofs.makings.all_makings.Goals as goal
 

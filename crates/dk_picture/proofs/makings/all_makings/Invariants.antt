@@ -1,8 +1,4 @@
-use Rattle.std.proofs.Common.{◌≡◌, List, [], length}
-use Rattle.dk_ledger.specs.declared.line.LedgerLine.{LedgerLine}
-use Rattle.dk_ledger.specs.Readable.{Journal, IsReadable}
-use Rattle.dk_groups.specs.Cutting.{HasGiven, IsCutting}
-use Rattle.dk_picture.specs.Makings.{makings}
+use Rattle.dk_picture.proofs.Names.{◌≡◌, List, [], length, LedgerLine, Journal, IsReadable, HasGiven, IsCutting, makings}
 use Rattle.dk_picture.proofs.makings.all_makings.Given as goal
 
 abbrev pub invariant-loop-makings : goal.invariant-loop-makings

@@ -1,5 +1,4 @@
-use Rattle.std.proofs.Common.{◌≡◌, ◌++◌, drop, flat_map, string_bytes}
-use Rattle.dk_picture.specs.Marks.{mark_text, marks_of}
+use Rattle.dk_picture.proofs.Names.{◌≡◌, ◌++◌, drop, flat_map, string_bytes, mark_text, marks_of}
 use Rattle.dk_picture.proofs.marks.add_each.Given as goal
 
 -- the marks so far, before those of the groups that are left

@@ -1,7 +1,5 @@
-use Rattle.std.proofs.Common.{List, ◌∙◌, ap}
+use Rattle.dk_picture.proofs.Names.{List, ◌∙◌, ap, LedgerLine, mark_text, marks_of}
 use Rattle.std.specs.Prelude.{flat_map, string_bytes}
-use Rattle.dk_ledger.specs.declared.line.LedgerLine.{LedgerLine}
-use Rattle.dk_picture.specs.Marks.{mark_text, marks_of}
 use Rattle.dk_picture.proofs.Adding.{flat_map-flat_map, same_added}
 use Rattle.dk_picture.proofs.marks.add_marks.Goals as goal
 

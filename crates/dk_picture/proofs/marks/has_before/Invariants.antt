@@ -1,6 +1,4 @@
-use Rattle.std.proofs.Common.{◌≡◌, drop}
-use Rattle.std.specs.List.{list_any}
-use Rattle.dk_picture.specs.Marks.{is_before}
+use Rattle.dk_picture.proofs.Names.{◌≡◌, drop, list_any, is_before}
 use Rattle.dk_picture.proofs.marks.has_before.Given as goal
 
 -- none so far

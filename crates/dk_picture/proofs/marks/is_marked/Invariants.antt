@@ -1,6 +1,4 @@
-use Rattle.std.proofs.Common.{◌≡◌, drop}
-use Rattle.std.specs.List.{list_any}
-use Rattle.dk_picture.specs.Marks.{is_in_way}
+use Rattle.dk_picture.proofs.Names.{◌≡◌, drop, list_any, is_in_way}
 use Rattle.dk_picture.proofs.marks.is_marked.Given as goal
 
 -- none so far

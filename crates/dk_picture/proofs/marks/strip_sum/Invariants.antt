@@ -1,5 +1,4 @@
-use Rattle.std.proofs.Common.{◌≡◌, ◌≤◌, take, sum_by}
-use Rattle.dk_picture.specs.Marks.{strip_weight}
+use Rattle.dk_picture.proofs.Names.{◌≡◌, ◌≤◌, take, sum_by, strip_weight}
 use Rattle.dk_picture.proofs.marks.strip_sum.Given as goal
 
 abbrev pub invariant-loop-group : goal.invariant-loop-group

@@ -1,5 +1,4 @@
-use Rattle.std.proofs.Common.{◌≡◌, ◌++◌, drop, string_bytes}
-use Rattle.dk_picture.specs.HoldBars.{mutexes_text}
+use Rattle.dk_picture.proofs.Names.{◌≡◌, ◌++◌, drop, string_bytes, mutexes_text}
 use Rattle.dk_picture.proofs.mutex_texts.add_mutexes.Given as goal
 
 -- the rows so far, before those that are left

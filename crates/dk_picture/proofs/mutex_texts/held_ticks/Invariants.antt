@@ -1,5 +1,4 @@
-use Rattle.std.proofs.Common.{◌≡◌, ◌≤◌, ◌*◌, take, sum_by}
-use Rattle.dk_picture.specs.HoldBars.{held_weight}
+use Rattle.dk_picture.proofs.Names.{◌≡◌, ◌≤◌, ◌*◌, take, sum_by, held_weight}
 use Rattle.dk_picture.proofs.mutex_texts.held_ticks.Given as goal
 
 abbrev pub invariant-loop-hold : goal.invariant-loop-hold

@@ -1,5 +1,4 @@
-use Rattle.std.proofs.Common.{◌≡◌, ◌++◌, drop, string_bytes}
-use Rattle.dk_picture.specs.Opening.{levels_words}
+use Rattle.dk_picture.proofs.Names.{◌≡◌, ◌++◌, drop, string_bytes, levels_words}
 use Rattle.dk_picture.proofs.opening.add_levels.Given as goal
 
 abbrev pub invariant-loop-level : goal.invariant-loop-level

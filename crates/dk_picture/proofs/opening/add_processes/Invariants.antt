@@ -1,5 +1,4 @@
-use Rattle.std.proofs.Common.{◌≡◌, ◌++◌, drop, flat_map, string_bytes}
-use Rattle.dk_picture.specs.Opening.{process_words}
+use Rattle.dk_picture.proofs.Names.{◌≡◌, ◌++◌, drop, flat_map, string_bytes, process_words}
 use Rattle.dk_picture.proofs.opening.add_processes.Given as goal
 
 abbrev pub invariant-loop-process : goal.invariant-loop-process

@@ -1,6 +1,6 @@
-use Rattle.std.proofs.Common.{◌∙◌, ◌++◌, ap}
+use Rattle.dk_picture.proofs.Names.{◌∙◌, ◌++◌, ap, head_text}
+use Rattle.dk_picture.specs.Opening.{ground_text}
 use Rattle.std.specs.Prelude.{string_bytes}
-use Rattle.dk_picture.specs.Opening.{ground_text, head_text}
 use Rattle.dk_picture.proofs.Styles.{style_is}
 use Rattle.dk_picture.proofs.opening.ground_text.Goals as goal
 

@@ -1,5 +1,4 @@
-use Rattle.std.proofs.Common.{◌≡◌, ◌+◌, ◌++◌, drop, string_bytes}
-use Rattle.dk_picture.specs.RowTexts.{quiet_names}
+use Rattle.dk_picture.proofs.Names.{◌≡◌, ◌+◌, ◌++◌, drop, string_bytes, quiet_names}
 use Rattle.dk_picture.proofs.quiet_texts.add_names.Given as goal
 
 -- the names so far, before those that are left

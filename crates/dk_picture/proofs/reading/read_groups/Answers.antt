@@ -1,9 +1,4 @@
-use Rattle.std.proofs.Common.{List, ◌≡◌, ◌∙◌, ◌++◌, [], ◌∷◌, length, ap, subst, sym, arith, length-append}
-use Rattle.dk_ledger.specs.declared.line.LedgerLine.{LedgerLine}
-use Rattle.dk_ledger.proofs.NextItem.{if_ok}
-use Rattle.dk_ledger.proofs.Readings.{some_is}
-use Rattle.dk_groups.specs.Groups.{groups}
-use Rattle.dk_groups.specs.Cutting.{HasGiven}
+use Rattle.dk_picture.proofs.Names.{List, ◌≡◌, ◌∙◌, ◌++◌, [], ◌∷◌, length, ap, subst, sym, arith, length-append, LedgerLine, if_ok, some_is, groups, HasGiven}
 use Rattle.dk_picture.proofs.Groups.{too_many}
 use Rattle.dk_picture.proofs.reading.read_groups.Goals as goal
 

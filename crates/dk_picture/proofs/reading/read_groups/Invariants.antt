@@ -1,6 +1,4 @@
-use Rattle.std.proofs.Common.{◌≡◌, ◌≤◌, [], length}
-use Rattle.dk_ledger.specs.Readable.{Journal, IsReadable}
-use Rattle.dk_groups.specs.Cutting.{HasGiven, IsCutting}
+use Rattle.dk_picture.proofs.Names.{◌≡◌, ◌≤◌, [], length, Journal, IsReadable, HasGiven, IsCutting}
 use Rattle.dk_picture.proofs.reading.read_groups.Given as goal
 
 abbrev pub invariant-loop-groups : goal.invariant-loop-groups

@@ -1,5 +1,4 @@
-use Rattle.std.proofs.Common.{◌≡◌, ◌++◌, drop, map}
-use Rattle.dk_picture.specs.Rows.{thread_of_process}
+use Rattle.dk_picture.proofs.Names.{◌≡◌, ◌++◌, drop, map, thread_of_process}
 use Rattle.dk_picture.proofs.row_list.add_children.Given as goal
 
 abbrev pub invariant-loop-serial : goal.invariant-loop-serial

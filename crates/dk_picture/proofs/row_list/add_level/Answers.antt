@@ -1,6 +1,4 @@
-use Rattle.std.proofs.Common.{refl}
-use Rattle.dk_picture.specs.Rows.{rows_at_level}
-use Rattle.dk_hold_spans.proofs.Adding.{each_added}
+use Rattle.dk_picture.proofs.Names.{refl, rows_at_level, each_added}
 use Rattle.dk_picture.proofs.row_list.add_level.Goals as goal
 
 pub loop-process-preserved : goal.loop-process-preserved

@@ -1,6 +1,4 @@
-use Rattle.std.proofs.Common.{◌≡◌, ◌++◌, flat_map}
-use Rattle.dk_config.specs.Sums.{below}
-use Rattle.dk_picture.specs.Rows.{rows_at_level}
+use Rattle.dk_picture.proofs.Names.{◌≡◌, ◌++◌, flat_map, below, rows_at_level}
 use Rattle.dk_picture.proofs.row_list.add_level.Given as goal
 
 abbrev pub invariant-loop-process : goal.invariant-loop-process

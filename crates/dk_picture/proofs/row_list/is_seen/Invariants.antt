@@ -1,6 +1,4 @@
-use Rattle.std.proofs.Common.{◌≡◌, drop}
-use Rattle.std.specs.List.{list_any}
-use Rattle.dk_picture.specs.Rows.{takes, thread_of_process}
+use Rattle.dk_picture.proofs.Names.{◌≡◌, drop, list_any, takes, thread_of_process}
 use Rattle.dk_picture.proofs.row_list.is_seen.Given as goal
 
 -- none so far

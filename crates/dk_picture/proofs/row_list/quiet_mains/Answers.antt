@@ -1,6 +1,4 @@
-use Rattle.std.proofs.Common.{[], refl, arith}
-use Rattle.dk_picture.specs.Rows.{quiet_main}
-use Rattle.dk_hold_spans.proofs.Adding.{each_added}
+use Rattle.dk_picture.proofs.Names.{[], refl, arith, quiet_main, each_added}
 use Rattle.dk_picture.proofs.row_list.quiet_mains.Goals as goal
 
 pub loop-process-preserved : goal.loop-process-preserved

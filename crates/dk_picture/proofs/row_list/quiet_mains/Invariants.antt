@@ -1,6 +1,4 @@
-use Rattle.std.proofs.Common.{◌≡◌, ◌≤◌, flat_map, length}
-use Rattle.dk_config.specs.Sums.{below}
-use Rattle.dk_picture.specs.Rows.{quiet_main}
+use Rattle.dk_picture.proofs.Names.{◌≡◌, ◌≤◌, flat_map, length, below, quiet_main}
 use Rattle.dk_picture.proofs.row_list.quiet_mains.Given as goal
 
 abbrev pub invariant-loop-process : goal.invariant-loop-process

@@ -1,7 +1,5 @@
-use Rattle.std.proofs.Common.{refl, ◌∷◌, []}
+use Rattle.dk_picture.proofs.Names.{refl, ◌∷◌, [], level_rows, each_added}
 use Rattle.dk_picture.specs.declared.rows.Row.TheVariants as row
-use Rattle.dk_picture.specs.Rows.{level_rows}
-use Rattle.dk_hold_spans.proofs.Adding.{each_added}
 use Rattle.dk_picture.proofs.row_list.row_list.Goals as goal
 
 pub loop-level-preserved : goal.loop-level-preserved

@@ -1,7 +1,5 @@
-use Rattle.std.proofs.Common.{◌≡◌, ◌∷◌, flat_map}
-use Rattle.dk_config.specs.Sums.{below}
+use Rattle.dk_picture.proofs.Names.{◌≡◌, ◌∷◌, flat_map, below, level_rows}
 use Rattle.dk_picture.specs.declared.rows.Row.TheVariants as row
-use Rattle.dk_picture.specs.Rows.{level_rows}
 use Rattle.dk_picture.proofs.row_list.row_list.Given as goal
 
 abbrev pub invariant-loop-level : goal.invariant-loop-level

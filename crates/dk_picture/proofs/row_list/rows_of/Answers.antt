@@ -1,5 +1,4 @@
-use Rattle.std.proofs.Common.{List, ◌<◌, length, subst, sym}
-use Rattle.dk_picture.specs.declared.rows.Row.{Row}
+use Rattle.dk_picture.proofs.Names.{List, ◌<◌, length, subst, sym, Row}
 use Rattle.dk_picture.proofs.Few.{few_rows}
 use Rattle.dk_picture.proofs.row_list.rows_of.Goals as goal
 

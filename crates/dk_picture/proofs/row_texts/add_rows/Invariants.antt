@@ -1,5 +1,4 @@
-use Rattle.std.proofs.Common.{◌≡◌, ◌++◌, drop, string_bytes}
-use Rattle.dk_picture.specs.RowTexts.{rows_text}
+use Rattle.dk_picture.proofs.Names.{◌≡◌, ◌++◌, drop, string_bytes, rows_text}
 use Rattle.dk_picture.proofs.row_texts.add_rows.Given as goal
 
 -- the rows so far, before those that are left

@@ -1,6 +1,5 @@
-use Rattle.std.proofs.Common.{refl}
+use Rattle.dk_picture.proofs.Names.{refl, share_text, shares_of_process}
 use Rattle.std.specs.Prelude.{string_bytes}
-use Rattle.dk_picture.specs.Shares.{share_text, shares_of_process}
 use Rattle.dk_picture.proofs.Adding.{each_shown}
 use Rattle.dk_picture.proofs.share_texts.add_shares.Goals as goal
 

@@ -1,6 +1,4 @@
-use Rattle.std.proofs.Common.{◌≡◌, ◌++◌, flat_map, string_bytes}
-use Rattle.dk_config.specs.Sums.{below}
-use Rattle.dk_picture.specs.Shares.{shares_of_process, shares_text}
+use Rattle.dk_picture.proofs.Names.{◌≡◌, ◌++◌, flat_map, string_bytes, below, shares_of_process, shares_text}
 use Rattle.dk_picture.proofs.share_texts.add_shares.Given as goal
 
 -- the mains so far are added

@@ -1,7 +1,5 @@
-use Rattle.std.proofs.Common.{◌∙◌, ◌+◌, ◌/◌, ap}
+use Rattle.dk_picture.proofs.Names.{◌∙◌, ◌+◌, ◌/◌, ap, share_of, share_text, shares_text, window_at}
 use Rattle.std.specs.Prelude.{string_bytes}
-use Rattle.dk_picture.specs.Shares.{share_of, share_text, shares_text}
-use Rattle.dk_picture.specs.Windows.{window_at}
 use Rattle.dk_picture.proofs.Adding.{each_shown}
 use Rattle.dk_picture.proofs.share_texts.add_windows.Goals as goal
 

@@ -1,7 +1,4 @@
-use Rattle.std.proofs.Common.{◌≡◌, ◌+◌, ◌++◌, flat_map, string_bytes}
-use Rattle.dk_config.specs.Sums.{below}
-use Rattle.dk_picture.specs.Shares.{share_of, shares_text}
-use Rattle.dk_picture.specs.Windows.{window_at}
+use Rattle.dk_picture.proofs.Names.{◌≡◌, ◌+◌, ◌++◌, flat_map, string_bytes, below, share_of, shares_text, window_at}
 use Rattle.dk_picture.proofs.share_texts.add_windows.Given as goal
 
 -- the windows so far are added

@@ -1,6 +1,4 @@
-use Rattle.std.proofs.Common.{◌≡◌, drop}
-use Rattle.std.specs.Prelude.{max}
-use Rattle.dk_picture.specs.Shares.{done_by}
+use Rattle.dk_picture.proofs.Names.{◌≡◌, drop, max, done_by}
 use Rattle.dk_picture.proofs.shares.done_by.Given as goal
 
 -- the groups so far, before those that are left

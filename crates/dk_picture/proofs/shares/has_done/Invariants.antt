@@ -1,6 +1,4 @@
-use Rattle.std.proofs.Common.{◌≡◌, drop}
-use Rattle.std.specs.List.{list_any}
-use Rattle.dk_picture.specs.Shares.{is_done_in}
+use Rattle.dk_picture.proofs.Names.{◌≡◌, drop, list_any, is_done_in}
 use Rattle.dk_picture.proofs.shares.has_done.Given as goal
 
 -- none so far

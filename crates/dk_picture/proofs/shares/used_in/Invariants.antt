@@ -1,5 +1,4 @@
-use Rattle.std.proofs.Common.{◌≡◌, ◌≤◌, ◌*◌, take, sum_by}
-use Rattle.dk_picture.specs.Shares.{used_weight}
+use Rattle.dk_picture.proofs.Names.{◌≡◌, ◌≤◌, ◌*◌, take, sum_by, used_weight}
 use Rattle.dk_picture.proofs.shares.used_in.Given as goal
 
 abbrev pub invariant-loop-group : goal.invariant-loop-group

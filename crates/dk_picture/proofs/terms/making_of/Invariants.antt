@@ -1,6 +1,4 @@
-use Rattle.std.proofs.Common.{◌≡◌, drop}
-use Rattle.std.specs.Prelude.{find}
-use Rattle.dk_picture.specs.Terms.{makes}
+use Rattle.dk_picture.proofs.Names.{◌≡◌, drop, find, makes}
 use Rattle.dk_picture.proofs.terms.making_of.Given as goal
 
 -- none so far

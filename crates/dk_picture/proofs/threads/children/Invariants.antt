@@ -1,6 +1,4 @@
-use Rattle.std.proofs.Common.{◌≡◌, [], drop}
-use Rattle.std.specs.Prelude.{fold}
-use Rattle.dk_picture.specs.Rows.{child_of, with_child}
+use Rattle.dk_picture.proofs.Names.{◌≡◌, [], drop, fold, child_of, with_child}
 use Rattle.dk_picture.proofs.threads.children.Given as goal
 
 -- the children so far, and those of the groups that are left

@@ -1,6 +1,4 @@
-use Rattle.std.proofs.Common.{◌≡◌, drop}
-use Rattle.std.specs.List.{list_any}
-use Rattle.std.specs.Prelude.{◌==◌}
+use Rattle.dk_picture.proofs.Names.{◌≡◌, drop, list_any, ◌==◌}
 use Rattle.dk_picture.proofs.threads.is_among.Given as goal
 
 -- none so far

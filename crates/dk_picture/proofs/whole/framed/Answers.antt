@@ -1,7 +1,6 @@
-use Rattle.std.proofs.Common.{◌∙◌, ◌++◌, ap}
+use Rattle.dk_picture.proofs.Names.{◌∙◌, ◌++◌, ap, opening_text, body_text, foot_text}
+use Rattle.dk_picture.specs.Pictures.{parts_text}
 use Rattle.std.specs.Prelude.{string_bytes}
-use Rattle.dk_picture.specs.Opening.{opening_text}
-use Rattle.dk_picture.specs.Pictures.{body_text, foot_text, parts_text}
 use Rattle.dk_picture.proofs.Framed.{three_parts}
 use Rattle.dk_picture.proofs.whole.framed.Goals as goal
 

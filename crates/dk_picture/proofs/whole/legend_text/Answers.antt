@@ -1,6 +1,5 @@
-use Rattle.std.proofs.Common.{◌∙◌, ◌++◌, ap}
-use Rattle.dk_picture.specs.declared.style.TheConstants.{LEGEND}
-use Rattle.dk_picture.specs.Pictures.{legend_head, legend_text}
+use Rattle.dk_picture.proofs.Names.{◌∙◌, ◌++◌, ap, LEGEND, legend_head}
+use Rattle.dk_picture.specs.Pictures.{legend_text}
 use Rattle.dk_picture.proofs.Legends.{legend_is}
 use Rattle.dk_picture.proofs.whole.legend_text.Goals as goal
 

@@ -1,11 +1,7 @@
-use Rattle.std.proofs.Common.{◌≡◌, ◌∙◌, ◌≤◌, [], length, ap, subst}
-use Rattle.dk_ledger.specs.Heading.{Heading}
-use Rattle.std.specs.Prelude.{Err, string_bytes}
+use Rattle.dk_picture.proofs.Names.{◌≡◌, ◌∙◌, ◌≤◌, [], length, ap, subst, Heading, Err, groups, TooMany, IsTooMany}
+use Rattle.std.specs.Prelude.{string_bytes}
 use Rattle.dk_picture.proofs.Adding.{ok_wider}
 use Rattle.dk_picture.proofs.Framed.{shown_text}
-use Rattle.dk_groups.specs.Groups.{groups}
-use Rattle.dk_picture.specs.declared.reading.PictureFault.TheVariants.{TooMany}
-use Rattle.dk_picture.specs.Pictures.{IsTooMany}
 use Rattle.dk_picture.proofs.whole.picture.Goals as goal
 
 pub read_groups-requires : goal.read_groups-requires

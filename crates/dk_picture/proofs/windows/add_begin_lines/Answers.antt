@@ -1,7 +1,5 @@
-use Rattle.std.proofs.Common.{◌∙◌, ◌+◌, ◌/◌, ap}
+use Rattle.dk_picture.proofs.Names.{◌∙◌, ◌+◌, ◌/◌, ap, begin_line, window_at, each_added}
 use Rattle.std.specs.Prelude.{string_bytes}
-use Rattle.dk_picture.specs.Windows.{begin_line, window_at}
-use Rattle.dk_hold_spans.proofs.Adding.{each_added}
 use Rattle.dk_picture.proofs.windows.add_begin_lines.Goals as goal
 
 pub loop-number-preserved : goal.loop-number-preserved

@@ -1,6 +1,4 @@
-use Rattle.std.proofs.Common.{◌≡◌, ◌+◌, ◌++◌, flat_map, string_bytes}
-use Rattle.dk_config.specs.Sums.{below}
-use Rattle.dk_picture.specs.Windows.{begin_line, window_at}
+use Rattle.dk_picture.proofs.Names.{◌≡◌, ◌+◌, ◌++◌, flat_map, string_bytes, below, begin_line, window_at}
 use Rattle.dk_picture.proofs.windows.add_begin_lines.Given as goal
 
 -- the windows so far are added

@@ -1,7 +1,5 @@
-use Rattle.std.proofs.Common.{◌∙◌, ◌+◌, ◌/◌, ap}
+use Rattle.dk_picture.proofs.Names.{◌∙◌, ◌+◌, ◌/◌, ap, window_at, window_text, each_added}
 use Rattle.std.specs.Prelude.{string_bytes}
-use Rattle.dk_picture.specs.Windows.{window_at, window_text}
-use Rattle.dk_hold_spans.proofs.Adding.{each_added}
 use Rattle.dk_picture.proofs.windows.add_windows.Goals as goal
 
 pub loop-number-preserved : goal.loop-number-preserved

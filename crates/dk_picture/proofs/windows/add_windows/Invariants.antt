@@ -1,6 +1,4 @@
-use Rattle.std.proofs.Common.{◌≡◌, ◌+◌, ◌++◌, flat_map, string_bytes}
-use Rattle.dk_config.specs.Sums.{below}
-use Rattle.dk_picture.specs.Windows.{window_at, window_text}
+use Rattle.dk_picture.proofs.Names.{◌≡◌, ◌+◌, ◌++◌, flat_map, string_bytes, below, window_at, window_text}
 use Rattle.dk_picture.proofs.windows.add_windows.Given as goal
 
 -- the windows so far are added

@@ -1,6 +1,4 @@
-use Rattle.std.proofs.Common.{◌≡◌, ◌∙◌, ◌∷◌, ap, rules, sym}
-use Rattle.dk_chain_report.specs.Finding.{processes_named}
-use Rattle.dk_show.specs.Chains.{chain_of}
+use Rattle.dk_show.proofs.Names.{◌≡◌, ◌∙◌, ◌∷◌, ap, rules, sym, processes_named, chain_of}
 use Rattle.dk_show.proofs.chains.chain_named.Goals as goal
 
 pub returns-in-Some-clause-loads : goal.returns-in-Some-clause-loads

@@ -1,6 +1,4 @@
-use Rattle.std.proofs.Common.{ℕ, List, ◌∷◌, subst, sym}
-use Rattle.dk_chain.specs.Chain.{AreThere}
-use Rattle.dk_show.specs.Chains.{ChainIn}
+use Rattle.dk_show.proofs.Names.{ℕ, List, ◌∷◌, subst, sym, AreThere, ChainIn}
 use Rattle.dk_show.proofs.chains.of_chain.Goals as goal
 
 pub chain_report-requires-clause-there : goal.chain_report-requires-clause-there

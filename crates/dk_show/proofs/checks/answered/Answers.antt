@@ -1,11 +1,5 @@
-use Rattle.std.proofs.Common.{ℕ, ◌≡◌, List, subst, sym}
-use Rattle.std.specs.Prelude.{IfSome, None, Option, Some}
-use Rattle.dk_config.specs.declared.TheConstants.{MAX_LEDGER_BYTES}
+use Rattle.dk_show.proofs.Names.{ℕ, ◌≡◌, List, subst, sym, IfSome, None, Option, Some, MAX_LEDGER_BYTES, IsOfNamed, Asks, MissesLedger, handed_ledger, handed_out, IsOfCheck, IsOfNeeds, Plans}
 use Rattle.dk_show.specs.declared.refusal.Refusal.TheVariants as why
-use Rattle.dk_show.specs.Answers.{IsOfNamed}
-use Rattle.dk_show.specs.Asking.{Asks, MissesLedger, handed_ledger, handed_out}
-use Rattle.dk_show.specs.Needed.{IsOfCheck, IsOfNeeds}
-use Rattle.dk_show.specs.Works.{Plans}
 use Rattle.dk_show.proofs.Wanting.{asks_nothing}
 use Rattle.dk_show.proofs.Planning.{in_any}
 use Rattle.dk_show.proofs.checks.answered.Goals as goal

@@ -1,10 +1,4 @@
-use Rattle.std.proofs.Common.{ℕ, ◌≡◌, List, ap, subst}
-use Rattle.std.specs.Prelude.{IfSome, Ok, None, Option}
-use Rattle.dk_config.specs.declared.TheConstants.{MAX_CONFIG_BYTES}
-use Rattle.dk_show.specs.Answers.{Files}
-use Rattle.dk_show.specs.Asking.{Asks, handed_out}
-use Rattle.dk_show.specs.Loading.{Loads, certified_at}
-use Rattle.dk_show.specs.Needed.{asked_of}
+use Rattle.dk_show.proofs.Names.{ℕ, ◌≡◌, List, ap, subst, IfSome, Ok, None, Option, MAX_CONFIG_BYTES, Files, Asks, handed_out, Loads, certified_at, asked_of}
 use Rattle.dk_show.proofs.Asks.{asks_after}
 use Rattle.dk_show.proofs.Wanting.{loads_needs}
 use Rattle.dk_show.proofs.checks.asked_at.Goals as goal

@@ -1,9 +1,4 @@
-use Rattle.std.proofs.Common.{◌≡◌, subst}
-use Rattle.std.specs.Prelude.{IfSome, None, Option}
-use Rattle.dk_show.specs.Answers.{Files}
-use Rattle.dk_show.specs.Asking.{Asks, MissesLedger, MissesReady, handed_ledger, handed_ready}
-use Rattle.dk_show.specs.Needed.{IsOfCheck, asked_at, ready_at}
-use Rattle.dk_show.specs.Works.{Plans}
+use Rattle.dk_show.proofs.Names.{◌≡◌, subst, IfSome, None, Option, Files, Asks, MissesLedger, MissesReady, handed_ledger, handed_ready, IsOfCheck, asked_at, ready_at, Plans}
 use Rattle.dk_show.proofs.Asks.{asks_after}
 use Rattle.dk_show.proofs.Wanting.{missed_ready}
 use Rattle.dk_show.proofs.Planning.{of_something}

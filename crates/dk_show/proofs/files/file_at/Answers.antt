@@ -1,4 +1,4 @@
-use Rattle.std.proofs.Common.{arith}
+use Rattle.dk_show.proofs.Names.{arith}
 use Rattle.dk_show.proofs.Asks.{asks_read}
 use Rattle.dk_show.proofs.files.file_at.Goals as goal
 

@@ -1,8 +1,5 @@
-use Rattle.std.proofs.Common.{ℕ, List, subst}
-use Rattle.dk_config.specs.declared.TheConstants.{MAX_LEDGER_BYTES}
+use Rattle.dk_show.proofs.Names.{ℕ, List, subst, MAX_LEDGER_BYTES, IsOfOwnHolds, Plans}
 use Rattle.dk_show.specs.declared.refusal.Refusal.TheVariants as why
-use Rattle.dk_show.specs.Held.{IsOfOwnHolds}
-use Rattle.dk_show.specs.Works.{Plans}
 use Rattle.dk_show.proofs.Planning.{named_by}
 use Rattle.dk_show.proofs.holds.holds_in.Goals as goal
 

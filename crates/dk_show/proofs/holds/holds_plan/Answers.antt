@@ -1,8 +1,4 @@
-use Rattle.std.proofs.Common.{ℕ, List, subst, sym}
-use Rattle.std.specs.Prelude.{IfSome, None, Option, Some}
-use Rattle.dk_show.specs.Asking.{Asks, MissesHeld, handed_held}
-use Rattle.dk_show.specs.Held.{IsOfHeld}
-use Rattle.dk_show.specs.Works.{Plans}
+use Rattle.dk_show.proofs.Names.{ℕ, List, subst, sym, IfSome, None, Option, Some, Asks, MissesHeld, handed_held, IsOfHeld, Plans}
 use Rattle.dk_show.proofs.holds.holds_plan.Goals as goal
 
 pub returns-in-Some-clause-plans : goal.returns-in-Some-clause-plans

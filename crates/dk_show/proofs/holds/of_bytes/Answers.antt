@@ -1,5 +1,4 @@
-use Rattle.std.proofs.Common.{[], inl, inr, rules}
-use Rattle.dk_show.specs.Held.{AreHoldsTold, IsOfHolds}
+use Rattle.dk_show.proofs.Names.{[], inl, inr, rules, AreHoldsTold, IsOfHolds}
 use Rattle.dk_show.proofs.Planning.{plans_wider}
 use Rattle.dk_show.proofs.holds.of_bytes.Goals as goal
 

@@ -1,7 +1,4 @@
-use Rattle.std.proofs.Common.{List, inl, subst}
-use Rattle.dk_config.specs.Mutex.{Mutex}
-use Rattle.dk_show.specs.Held.{AreHoldsTold, IsHeldUnder}
-use Rattle.dk_show.specs.Works.{Plans}
+use Rattle.dk_show.proofs.Names.{List, inl, subst, Mutex, AreHoldsTold, IsHeldUnder, Plans}
 use Rattle.dk_show.proofs.Planning.{plans_wider}
 use Rattle.dk_show.proofs.holds.of_own.Goals as goal
 

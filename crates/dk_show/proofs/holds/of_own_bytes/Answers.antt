@@ -1,5 +1,4 @@
-use Rattle.std.proofs.Common.{inl, inr, rules}
-use Rattle.dk_show.specs.Held.{IsHeldUnder, IsOfOwnHolds}
+use Rattle.dk_show.proofs.Names.{inl, inr, rules, IsHeldUnder, IsOfOwnHolds}
 use Rattle.dk_show.proofs.Planning.{plans_wider}
 use Rattle.dk_show.proofs.holds.of_own_bytes.Goals as goal
 

@@ -1,12 +1,5 @@
-use Rattle.std.proofs.Common.{◌≡◌, ap, subst}
-use Rattle.std.specs.Prelude.{IfSome, None, Option}
-use Rattle.dk_config.specs.declared.TheConstants.{MAX_CONFIG_BYTES, MAX_LEDGER_BYTES}
+use Rattle.dk_show.proofs.Names.{◌≡◌, ap, subst, IfSome, None, Option, MAX_CONFIG_BYTES, MAX_LEDGER_BYTES, Files, IsOfNamed, Asks, handed_out, IsOfOwnHolds, certified_at, Plans}
 use Rattle.dk_show.specs.declared.refusal.Refusal.TheVariants as why
-use Rattle.dk_show.specs.Answers.{Files, IsOfNamed}
-use Rattle.dk_show.specs.Asking.{Asks, handed_out}
-use Rattle.dk_show.specs.Held.{IsOfOwnHolds}
-use Rattle.dk_show.specs.Loading.{certified_at}
-use Rattle.dk_show.specs.Works.{Plans}
 use Rattle.dk_show.proofs.Asks.{asks_after}
 use Rattle.dk_show.proofs.Planning.{of_something}
 use Rattle.dk_show.proofs.holds.own_plan.Goals as goal

@@ -1,8 +1,4 @@
-use Rattle.std.proofs.Common.{ℕ, ◌≡◌, ◌∙◌, List, ap, subst}
-use Rattle.std.specs.Prelude.{IfSome, Ok}
-use Rattle.dk_show_request.specs.Change.{ChangeAsk}
-use Rattle.dk_show.specs.Impacts.{IsOfChange}
-use Rattle.dk_show.specs.Loading.{loaded}
+use Rattle.dk_show.proofs.Names.{ℕ, ◌≡◌, ◌∙◌, List, ap, subst, IfSome, Ok, ChangeAsk, IsOfChange, loaded}
 use Rattle.dk_show.proofs.Planning.{in_any, of_something}
 use Rattle.dk_show.proofs.impacts.change_to.Goals as goal
 

@@ -1,12 +1,5 @@
-use Rattle.std.proofs.Common.{ℕ, ◌≡◌, ◌∙◌, List, ap, subst}
-use Rattle.std.specs.Prelude.{IfSome, Ok, Err, Option}
+use Rattle.dk_show.proofs.Names.{ℕ, ◌≡◌, ◌∙◌, List, ap, subst, IfSome, Ok, Err, Option, ChangeAsk, Files, Asks, handed_load, IsOfChange, IsOfLoaded, loaded, Plans}
 use Rattle.dk_show.specs.declared.refusal.Refusal.TheVariants as why
-use Rattle.dk_show_request.specs.Change.{ChangeAsk}
-use Rattle.dk_show.specs.Answers.{Files}
-use Rattle.dk_show.specs.Asking.{Asks, handed_load}
-use Rattle.dk_show.specs.Impacts.{IsOfChange}
-use Rattle.dk_show.specs.Loading.{IsOfLoaded, loaded}
-use Rattle.dk_show.specs.Works.{Plans}
 use Rattle.dk_show.proofs.Asks.{asks_after}
 use Rattle.dk_show.proofs.Planning.{of_something}
 use Rattle.dk_show.proofs.impacts.impact_plan.Goals as goal

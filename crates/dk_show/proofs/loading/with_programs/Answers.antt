@@ -1,7 +1,5 @@
-use Rattle.std.proofs.Common.{length, rules}
-use Rattle.std.specs.Prelude.{Ok, Err}
+use Rattle.dk_show.proofs.Names.{length, rules, Ok, Err, Loaded}
 use Rattle.dk_loader.specs.declared.fault.LoadFault.TheVariants as fault
-use Rattle.dk_loader.specs.declared.loaded.Loaded.{Loaded}
 use Rattle.dk_show.proofs.Asks.{asks_programs}
 use Rattle.dk_show.proofs.Loads.{silent_loads, takes_few}
 use Rattle.dk_show.proofs.loading.with_programs.Goals as goal

@@ -1,7 +1,4 @@
-use Rattle.std.proofs.Common.{subst, sym}
-use Rattle.dk_needs_check.specs.declared.unknown.Checking.{Checking}
-use Rattle.dk_show.specs.Needed.{AreRowsTold, AreUnknownTold, IsTold}
-use Rattle.dk_show.specs.Works.{Plans}
+use Rattle.dk_show.proofs.Names.{subst, sym, Checking, AreRowsTold, AreUnknownTold, IsTold, Plans}
 use Rattle.dk_show.proofs.needed.of_found.Goals as goal
 
 pub returns-in-Unknown-clause-plans : goal.returns-in-Unknown-clause-plans

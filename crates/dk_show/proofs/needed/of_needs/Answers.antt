@@ -1,7 +1,4 @@
-use Rattle.std.proofs.Common.{ℕ, List, inl, subst}
-use Rattle.std.specs.Prelude.{Option, option_map}
-use Rattle.dk_config.specs.Configuration.{Configuration}
-use Rattle.dk_show.specs.Needed.{IsFound, IsOfAll, IsTold}
+use Rattle.dk_show.proofs.Names.{ℕ, List, inl, subst, Option, option_map, Configuration, IsFound, IsOfAll, IsTold}
 use Rattle.dk_show.proofs.Planning.{plans_wider}
 use Rattle.dk_show.proofs.needed.of_needs.Goals as goal
 

@@ -1,6 +1,4 @@
-use Rattle.std.proofs.Common.{inl, inr, refl, sym, rules}
-use Rattle.dk_ledger.specs.Readable.{Journal}
-use Rattle.dk_show.specs.Output.{IsOfPicture}
+use Rattle.dk_show.proofs.Names.{inl, inr, refl, sym, rules, Journal, IsOfPicture}
 use Rattle.dk_show.proofs.Planning.{plans_wider}
 use Rattle.dk_show.proofs.pictures.of_bytes.Goals as goal
 

@@ -1,8 +1,5 @@
-use Rattle.std.proofs.Common.{ℕ, List, subst}
-use Rattle.dk_config.specs.declared.TheConstants.{MAX_LEDGER_BYTES}
+use Rattle.dk_show.proofs.Names.{ℕ, List, subst, MAX_LEDGER_BYTES, IsOfPicture, Plans}
 use Rattle.dk_show.specs.declared.refusal.Refusal.TheVariants as why
-use Rattle.dk_show.specs.Output.{IsOfPicture}
-use Rattle.dk_show.specs.Works.{Plans}
 use Rattle.dk_show.proofs.Planning.{named_by}
 use Rattle.dk_show.proofs.pictures.picture_plan.Goals as goal
 

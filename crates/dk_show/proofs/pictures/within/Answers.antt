@@ -1,4 +1,4 @@
-use Rattle.std.proofs.Common.{◌∙◌, inl, inr}
+use Rattle.dk_show.proofs.Names.{◌∙◌, inl, inr}
 use Rattle.dk_show.proofs.Picturing.{crowded, past_end, pictured}
 use Rattle.dk_show.proofs.pictures.within.Goals as goal
 

@@ -1,6 +1,4 @@
-use Rattle.std.proofs.Common.{◌∙◌, inl, inr, refl, subst}
-use Rattle.dk_ledger.specs.Readable.{Journal, IsNoText, IsWrongLine}
-use Rattle.dk_show.specs.Output.{IsOfBytes}
+use Rattle.dk_show.proofs.Names.{◌∙◌, inl, inr, refl, subst, Journal, IsNoText, IsWrongLine, IsOfBytes}
 use Rattle.dk_show.proofs.Planning.{plans_wider}
 use Rattle.dk_show.proofs.plans.of_bytes.Goals as goal
 

@@ -1,14 +1,6 @@
-use Rattle.std.proofs.Common.{ℕ, List, sym, subst}
-use Rattle.std.specs.Prelude.{IfSome}
-use Rattle.dk_config.specs.declared.TheConstants.{MAX_LEDGER_BYTES}
+use Rattle.dk_show.proofs.Names.{ℕ, List, sym, subst, IfSome, MAX_LEDGER_BYTES, Request, IsAllWrong, IsOfPicture, IsOfRequest, IsOfHeld, IsOfLoaded, IsOfRepeats, IsOfWindows, Plans}
 use Rattle.dk_show.specs.declared.refusal.Refusal.TheVariants as why
-use Rattle.dk_show_request.specs.declared.request.Request.{Request}
-use Rattle.dk_show.specs.Output.{IsAllWrong, IsOfNamed, IsOfPicture, IsOfRequest}
-use Rattle.dk_show.specs.Held.{IsOfHeld}
-use Rattle.dk_show.specs.Loading.{IsOfLoaded}
-use Rattle.dk_show.specs.Repeats.{IsOfRepeats}
-use Rattle.dk_show.specs.Windowed.{IsOfWindows}
-use Rattle.dk_show.specs.Works.{Plans}
+use Rattle.dk_show.specs.Output.{IsOfNamed}
 use Rattle.dk_show.proofs.plans.plan.Goals as goal
 
 pub returns-in-Picture-clause-plans : goal.returns-in-Picture-clause-plans

@@ -1,4 +1,4 @@
-use Rattle.std.proofs.Common.{inl, arith}
+use Rattle.dk_show.proofs.Names.{inl, arith}
 use Rattle.dk_show.proofs.Planning.{is_drawn}
 use Rattle.dk_show.proofs.plans.within.Goals as goal
 

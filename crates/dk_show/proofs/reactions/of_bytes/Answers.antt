@@ -1,4 +1,4 @@
-use Rattle.std.proofs.Common.{inl, rules}
+use Rattle.dk_show.proofs.Names.{inl, rules}
 use Rattle.dk_show.proofs.reactions.of_bytes.Goals as goal
 
 pub returns-in-Err-Line-clause-plans : goal.returns-in-Err-Line-clause-plans

@@ -1,6 +1,4 @@
-use Rattle.std.proofs.Common.{ℕ, ◌∙◌, List, ◌∷◌, inl, subst, sym}
-use Rattle.dk_chain.specs.Chain.{AreThere}
-use Rattle.dk_show.specs.Chains.{ChainIn}
+use Rattle.dk_show.proofs.Names.{ℕ, ◌∙◌, List, ◌∷◌, inl, subst, sym, AreThere, ChainIn}
 use Rattle.dk_show.proofs.Hearing.{told_of}
 use Rattle.dk_show.proofs.reactions.of_ledger.Goals as goal
 

@@ -1,13 +1,5 @@
-use Rattle.std.proofs.Common.{ℕ, ◌≡◌, ◌∙◌, List, ap, subst}
-use Rattle.std.specs.Prelude.{IfSome, Ok, None, Option}
-use Rattle.dk_config.specs.declared.TheConstants.{MAX_CONFIG_BYTES}
-use Rattle.dk_profile.specs.declared.TheConstants.{MAX_PROFILE_BYTES}
+use Rattle.dk_show.proofs.Names.{ℕ, ◌≡◌, ◌∙◌, List, ap, subst, IfSome, Ok, None, Option, MAX_CONFIG_BYTES, MAX_PROFILE_BYTES, Files, IsOfNamed, Asks, handed_out, certified_at, IsOfProfile, Plans}
 use Rattle.dk_show.specs.declared.refusal.Refusal.TheVariants as why
-use Rattle.dk_show.specs.Answers.{Files, IsOfNamed}
-use Rattle.dk_show.specs.Asking.{Asks, handed_out}
-use Rattle.dk_show.specs.Loading.{certified_at}
-use Rattle.dk_show.specs.Replays.{IsOfProfile}
-use Rattle.dk_show.specs.Works.{Plans}
 use Rattle.dk_show.proofs.Asks.{asks_after}
 use Rattle.dk_show.proofs.Planning.{of_something}
 use Rattle.dk_show.proofs.replays.replay_plan.Goals as goal

@@ -1,12 +1,5 @@
-use Rattle.std.proofs.Common.{ℕ, ◌≡◌, ◌≢◌, ◌+◌, ◌∙◌, ◌⊎◌, List, map, string_bytes, subst, sym}
-use Rattle.std.specs.Prelude.{IfSome, Option}
-use Rattle.dk_show_request.specs.Meaning.{IsSought}
-use Rattle.dk_show_request.specs.declared.request.Request.{Request}
+use Rattle.dk_show.proofs.Names.{ℕ, ◌≡◌, ◌≢◌, ◌+◌, ◌∙◌, ◌⊎◌, List, map, string_bytes, subst, sym, IfSome, Option, IsSought, Request, IsFaulty, WordsMiss, handed_for_words, Leaves, IsOfMeaning}
 use Rattle.dk_show.specs.declared.status.Status.TheVariants as status
-use Rattle.dk_show.specs.Answers.{IsFaulty}
-use Rattle.dk_show.specs.Asking.{WordsMiss, handed_for_words}
-use Rattle.dk_show.specs.Leaves.{Leaves}
-use Rattle.dk_show.specs.Output.{IsOfMeaning}
 use Rattle.dk_show.proofs.show.deosk_show.Goals as goal
 
 pub returns-in-Ok-Some-clause-output : goal.returns-in-Ok-Some-clause-output

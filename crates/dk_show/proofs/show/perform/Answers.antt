@@ -1,6 +1,6 @@
 use Rattle.dk_show.proofs.Leaving.{leaves_said, leaves_wider, loud, refusal_stands, work_stands}
 use Rattle.dk_show.proofs.Ends.{completes}
-use Rattle.dk_show.specs.Output.{IsOfRequest}
+use Rattle.dk_show.proofs.Names.{IsOfRequest}
 use Rattle.dk_show.proofs.show.perform.Goals as goal
 
 pub returns-in-Ok-clause-output : goal.returns-in-Ok-clause-output

@@ -1,6 +1,4 @@
-use Rattle.std.proofs.Common.{◌∙◌, ap}
-use Rattle.dk_window_lines.proofs.KeptForms.{kept_lines_are, kept_sound_is}
-use Rattle.dk_show.specs.Windowed.{sound_end}
+use Rattle.dk_show.proofs.Names.{◌∙◌, ap, kept_lines_are, kept_sound_is, sound_end}
 use Rattle.dk_show.proofs.windows.lines_work.Goals as goal
 
 pub returns-clause-told : goal.returns-clause-told

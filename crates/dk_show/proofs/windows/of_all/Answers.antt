@@ -1,4 +1,4 @@
-use Rattle.std.proofs.Common.{◌∙◌, inl, inr, refl, rules}
+use Rattle.dk_show.proofs.Names.{◌∙◌, inl, inr, refl, rules}
 use Rattle.dk_show.proofs.windows.of_all.Goals as goal
 
 pub returns-in-Ok-clause-plans : goal.returns-in-Ok-clause-plans

@@ -1,5 +1,4 @@
-use Rattle.std.proofs.Common.{inl, inr, reverse, rules}
-use Rattle.dk_ledger.specs.Readable.{Journal}
+use Rattle.dk_show.proofs.Names.{inl, inr, reverse, rules, Journal}
 use Rattle.dk_show.proofs.windows.of_lines.Goals as goal
 
 pub returns-in-Ok-clause-plans : goal.returns-in-Ok-clause-plans

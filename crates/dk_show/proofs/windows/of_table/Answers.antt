@@ -1,7 +1,4 @@
-use Rattle.std.proofs.Common.{inl, inr, reverse, rules}
-use Rattle.dk_ledger.specs.Readable.{Journal}
-use Rattle.dk_window_table.specs.Table.{windows_csv}
-use Rattle.dk_show.specs.Windowed.{AreTold, IsOfPage, done_end}
+use Rattle.dk_show.proofs.Names.{inl, inr, reverse, rules, Journal, windows_csv, AreTold, IsOfPage, done_end}
 use Rattle.dk_show.proofs.Planning.{plans_wider}
 use Rattle.dk_show.proofs.windows.of_table.Goals as goal
 

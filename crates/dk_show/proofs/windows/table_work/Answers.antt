@@ -1,5 +1,4 @@
-use Rattle.std.proofs.Common.{◌∙◌, refl}
-use Rattle.dk_window_table.proofs.KeptTable.{kept_csv_is}
+use Rattle.dk_show.proofs.Names.{◌∙◌, refl, kept_csv_is}
 use Rattle.dk_show.proofs.windows.table_work.Goals as goal
 
 pub returns-clause-plans : goal.returns-clause-plans

@@ -1,7 +1,4 @@
-use Rattle.std.proofs.Common.{◌∙◌, sym, subst}
-use Rattle.dk_groups.specs.Writing.{Puts}
-use Rattle.dk_show_request.specs.declared.commands.Drawing.{Drawing}
-use Rattle.dk_show.specs.Output.{drawn_text}
+use Rattle.dk_show.proofs.Names.{◌∙◌, sym, subst, Puts, Drawing, drawn_text}
 use Rattle.dk_show.proofs.work.draw.Goals as goal
 
 pub returns-in_ok-of-in-Trace : goal.returns-in_ok-of-in-Trace

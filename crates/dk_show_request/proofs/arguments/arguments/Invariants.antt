@@ -1,6 +1,5 @@
-use Rattle.std.proofs.Common.{◌≡◌, ◌++◌, drop, string_bytes}
+use Rattle.dk_show_request.proofs.Names.{◌≡◌, ◌++◌, drop, string_bytes, arguments, arguments_behind}
 use Rattle.std.specs.Prelude.{map}
-use Rattle.dk_show_request.specs.Words.{arguments, arguments_behind}
 use Rattle.dk_show_request.proofs.arguments.arguments.Given as goal
 
 -- the arguments so far, before those among the words that are left

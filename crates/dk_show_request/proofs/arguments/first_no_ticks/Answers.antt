@@ -1,6 +1,4 @@
-use Rattle.std.proofs.Common.{◌∙◌, ap, sym}
-use Rattle.std.specs.Prelude.{option_map}
-use Rattle.dk_show_request.specs.Reasons.{is_no_ticks}
+use Rattle.dk_show_request.proofs.Names.{◌∙◌, ap, sym, option_map, is_no_ticks}
 use Rattle.dk_show_request.proofs.Finding.{find-map}
 use Rattle.dk_show_request.proofs.arguments.first_no_ticks.Goals as goal
 

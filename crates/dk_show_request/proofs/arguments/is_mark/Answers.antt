@@ -1,7 +1,4 @@
-use Rattle.std.proofs.Common.{◌≡◌, ◌∙◌, ap, map, string_bytes, sym}
-use Rattle.std.specs.List.{list_any}
-use Rattle.std.specs.Str.{bytes_eq}
-use Rattle.dk_show_request.specs.Forms.{Form}
+use Rattle.dk_show_request.proofs.Names.{◌≡◌, ◌∙◌, ap, map, string_bytes, sym, list_any, bytes_eq, Form}
 use Rattle.dk_show_request.proofs.Finding.{list_any-map}
 use Rattle.dk_show_request.proofs.arguments.is_mark.Goals as goal
 

@@ -1,6 +1,4 @@
-use Rattle.std.proofs.Common.{arith, string_bytes}
-use Rattle.std.proofs.lemmas.Bool.Decides.{nat_tests}
-use Rattle.dk_show_request.specs.Words.{is_mark}
+use Rattle.dk_show_request.proofs.Names.{arith, string_bytes, nat_tests, is_mark}
 use Rattle.dk_show_request.proofs.Finding.{length-filter-map}
 use Rattle.dk_show_request.proofs.arguments.is_repeated.Goals as goal
 

@@ -1,5 +1,4 @@
-use Rattle.std.proofs.Common.{arith, string_bytes}
-use Rattle.dk_show_request.specs.Words.{is_unfit}
+use Rattle.dk_show_request.proofs.Names.{arith, string_bytes, is_unfit}
 use Rattle.dk_show_request.proofs.Finding.{find-map}
 use Rattle.dk_show_request.proofs.arguments.unfit_word.Goals as goal
 

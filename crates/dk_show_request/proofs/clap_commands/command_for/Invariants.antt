@@ -1,7 +1,5 @@
-use Rattle.std.proofs.Common.{◌≡◌, drop}
+use Rattle.dk_show_request.proofs.Names.{◌≡◌, drop, app_of, app_for, rule_for, with_rules}
 use Rattle.std.specs.Prelude.{map}
-use Rattle.clap.specs.Words.{app_of}
-use Rattle.dk_show_request.specs.Clap.{app_for, rule_for, with_rules}
 use Rattle.dk_show_request.proofs.clap_commands.command_for.Given as goal
 
 -- with the arguments that are left the command is whole

@@ -1,5 +1,4 @@
-use Rattle.std.proofs.Common.{rules, ◌≡◌, true, sym}
-use Rattle.dk_show_request.specs.Numbers.{is_spelled}
+use Rattle.dk_show_request.proofs.Names.{rules, ◌≡◌, true, sym, is_spelled}
 use Rattle.dk_show_request.proofs.Numerals.{too_large}
 use Rattle.dk_show_request.proofs.numbers.ticks_in.Goals as goal
 

@@ -1,6 +1,5 @@
-use Rattle.std.proofs.Common.{◌≡◌, [], ap, map, string_bytes, true, Some, List}
-use Rattle.std.proofs.lemmas.Bool.{and_parts}
-use Rattle.clap.specs.Words.{App, Row, Text, app_of, fault_of, found_of, is_simple, matches_of, rows_of}
+use Rattle.dk_show_request.proofs.Names.{◌≡◌, [], ap, map, string_bytes, true, List, and_parts, App, Row, Text, app_of, fault_of, found_of, is_simple, matches_of, rows_of}
+use Rattle.std.proofs.Common.{Some}
 use Rattle.dk_show_request.proofs.reading.read.Goals as goal
 
 pub returns-in-Ok : goal.returns-in-Ok

@@ -1,6 +1,5 @@
-use Rattle.std.proofs.Common.{◌≡◌, ◌∙◌, IfOk, ap, map, string_bytes, subst, List}
-use Rattle.clap.specs.Words.{App, Text, is_simple_and_free}
-use Rattle.dk_show_request.specs.Clap.{given_by}
+use Rattle.dk_show_request.proofs.Names.{◌≡◌, ◌∙◌, ap, map, string_bytes, subst, List, App, Text, is_simple_and_free, given_by}
+use Rattle.std.proofs.Common.{IfOk}
 use Rattle.dk_show_request.proofs.SimpleApps.{simple_for}
 use Rattle.dk_show_request.proofs.reading.read_words.Goals as goal
 

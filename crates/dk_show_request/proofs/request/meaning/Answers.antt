@@ -1,4 +1,4 @@
-use Rattle.std.proofs.Common.{map, string_bytes}
+use Rattle.dk_show_request.proofs.Names.{map, string_bytes}
 use Rattle.dk_show_request.proofs.FewNames.{answers_few, asked_by_few}
 use Rattle.dk_show_request.proofs.request.meaning.Goals as goal
 

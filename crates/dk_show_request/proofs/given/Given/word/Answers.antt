@@ -1,6 +1,4 @@
-use Rattle.std.proofs.Common.{◌∙◌, ap}
-use Rattle.clap.specs.Words.{first_of, found_of}
-use Rattle.clap.proofs.WalkLemmas.{first_value-rows}
+use Rattle.dk_show_request.proofs.Names.{◌∙◌, ap, first_of, found_of, first_value-rows}
 use Rattle.dk_show_request.proofs.given.Given.word.Goals as goal
 
 pub returns : goal.returns

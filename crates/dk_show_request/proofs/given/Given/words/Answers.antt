@@ -1,6 +1,4 @@
-use Rattle.std.proofs.Common.{◌∙◌, ap}
-use Rattle.clap.specs.Words.{all_of, found_of}
-use Rattle.clap.proofs.WalkLemmas.{raw_values-rows}
+use Rattle.dk_show_request.proofs.Names.{◌∙◌, ap, all_of, found_of, raw_values-rows}
 use Rattle.dk_show_request.proofs.given.Given.words.Goals as goal
 
 pub returns : goal.returns
