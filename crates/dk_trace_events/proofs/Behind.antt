@@ -1,6 +1,25 @@
 -- What is known of the lines before one: the header has their names, and who holds which mutex there.
-use Rattle.dk_trace_events.proofs.Names.{ℕ, ◌-◌, ◌++◌, [], ◌∷◌, List, reverse, sym, subst, Option, Some, None, flat_map, replicate, AllByRecursion, reverse-append, Label, Entry, HasLabel, LedgerLine, Heading, IsNamed, entries_of, Journal, IsReadable, size_in, IsReadableLine, all_both, all_front, all_same, groups, Cutting, ComesNext, groups_in_order, groups_readable, Holding, AreHolders, AreKnown, past_of}
+use Rattle.std.proofs.Common.{ℕ, ◌-◌, ◌++◌, [], ◌∷◌, List, reverse, sym, subst}
+use Rattle.std.specs.Prelude.{Option, Some, None, flat_map, replicate}
+use Rattle.std.specs.List.{AllByRecursion}
+use Rattle.std.proofs.lemmas.List.{reverse-append}
+use Rattle.dk_trace.specs.declared.Label.{Label}
+use Rattle.dk_trace.specs.declared.Entry.{Entry}
+use Rattle.dk_trace.specs.Ranges.{HasLabel}
+use Rattle.dk_ledger.specs.declared.line.LedgerLine.{LedgerLine}
+use Rattle.dk_ledger.specs.Heading.{Heading}
+use Rattle.dk_ledger.specs.LineText.{IsNamed}
+use Rattle.dk_ledger.specs.Cuts.{entries_of}
+use Rattle.dk_ledger.specs.Readable.{Journal, IsReadable, size_in}
+use Rattle.dk_ledger.proofs.EntryLists.{IsReadableLine, all_both, all_front, all_same}
+use Rattle.dk_groups.specs.Groups.{groups}
+use Rattle.dk_groups.specs.Cutting.{Cutting, ComesNext}
+use Rattle.dk_groups.proofs.NextLine.{groups_in_order}
+use Rattle.dk_groups.proofs.Readable.{groups_readable}
+use Rattle.dk_holds.specs.declared.holding.Holding.{Holding}
+use Rattle.dk_holds.specs.Holds.{AreHolders}
 use Rattle.dk_trace_events.proofs.Mutexes.{IsNamedIn}
+use Rattle.dk_trace_events.specs.Behind.{AreKnown, past_of}
 
 pub named_label : (h : Heading) (label : Label) → HasLabel (size_in h) label → IsNamed h label
 named_label h (Label.Kernel j) known = tt

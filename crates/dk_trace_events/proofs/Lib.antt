@@ -1,4 +1,3 @@
-pub mod Names
 pub mod Safe
 pub mod ReadBack
 pub mod Mutexes

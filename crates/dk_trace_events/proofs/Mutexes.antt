@@ -1,5 +1,17 @@
 -- The threads that hold mutexes are of the header.
-use Rattle.dk_trace_events.proofs.Names.{ℕ, ◌≡◌, ◌+◌, ◌<◌, ◌∷◌, List, length, sym, refl, subst, Bool, true, false, Option, Some, None, IfSome, option_map, if◌then◌else◌, AllByRecursion, ThreadId, Entry, has_event, thread_of, LedgerLine, Heading, IsNamed, all_back, Holding, ended, ends, holding, is_lock_of, last_entry, IsHeld}
+use Rattle.std.proofs.Common.{ℕ, ◌≡◌, ◌+◌, ◌<◌, ◌∷◌, List, length, sym, refl, subst}
+use Rattle.std.specs.Prelude.{Bool, true, false, Option, Some, None, IfSome, option_map, if◌then◌else◌}
+use Rattle.std.specs.List.{AllByRecursion}
+use Rattle.dk_trace.specs.declared.ThreadId.{ThreadId}
+use Rattle.dk_trace.specs.declared.Entry.{Entry}
+use Rattle.dk_trace.specs.Entries.{has_event, thread_of}
+use Rattle.dk_ledger.specs.declared.line.LedgerLine.{LedgerLine}
+use Rattle.dk_ledger.specs.Heading.{Heading}
+use Rattle.dk_ledger.specs.LineText.{IsNamed}
+use Rattle.dk_ledger.proofs.EntryLists.{all_back}
+use Rattle.dk_holds.specs.declared.holding.Holding.{Holding}
+use Rattle.dk_holds.specs.Holds.{ended, ends, holding, is_lock_of, last_entry}
+use Rattle.dk_holds.specs.Told.{IsHeld}
 
 abbrev pub IsNamedIn : Heading → Entry → Type 0
 IsNamedIn h e = IsNamed h e.label

@@ -1,6 +1,41 @@
 -- The groups of a trace can be read back: each slice has its line of the ledger.
-use Rattle.dk_trace_events.proofs.Names.{ℕ, zero, suc, ◌+◌, ◌≡◌, ◌∙◌, ◌++◌, [], ◌∷◌, List, length, sym, ap, refl, subst, arith, codes, append_assoc, ◌≤◌, Bool, true, false, decimal, flat_map, max, nat_lt, Option, Some, None, if◌then◌else◌, AllByRecursion, append_cancel_left, MAX_MUTEXES, TableRow, ThreadId, Entry, LedgerLine, Heading, line_body, entries_of, IsReadable, IsReadableHeading, IsReadableLine, is_ascii_digit, names_fit, one_line, groups, slice, first_same, rest_same, groups_readable, whole_all, whole_slice, decimal_digits, until, Overrun, overruns, texts_behind, event_lines, group_objects, group_text, slice_rest, point_text, slack_in, slack_point, start_point, Holding, ended, holding, last_entry, line_text, lines_text, past_of, ended_holds, hold_slice, hold_text, mutex_names, open_holds, level_texts, is_shown, overrun_instant, overruns_text, shown_overrun, child_name, made_by, made_name, process_texts, end_text, groups_text, head_text, objects_text, tail_text, trace_text, printable}
+use Rattle.std.proofs.Common.{ℕ, zero, suc, ◌+◌, ◌≡◌, ◌∙◌, ◌++◌, [], ◌∷◌, List, length, sym, ap, refl, subst, arith, codes, append_assoc, ◌≤◌}
+use Rattle.std.specs.Prelude.{Bool, true, false, decimal, flat_map, max, nat_lt, Option, Some, None, if◌then◌else◌}
+use Rattle.std.specs.List.{AllByRecursion}
+use Rattle.std.proofs.lemmas.List.{append_cancel_left}
+use Rattle.dk_config.specs.declared.TheConstants.{MAX_MUTEXES}
+use Rattle.dk_certify.specs.declared.table.TableRow.{TableRow}
+use Rattle.dk_trace.specs.declared.ThreadId.{ThreadId}
+use Rattle.dk_trace.specs.declared.Entry.{Entry}
+use Rattle.dk_ledger.specs.declared.line.LedgerLine.{LedgerLine}
+use Rattle.dk_ledger.specs.Heading.{Heading}
+use Rattle.dk_ledger.specs.LineText.{line_body}
+use Rattle.dk_ledger.specs.Cuts.{entries_of}
+use Rattle.dk_ledger.specs.Readable.{IsReadable, IsReadableHeading}
+use Rattle.dk_ledger.proofs.EntryLists.{IsReadableLine}
+use Rattle.std.specs.Char.{is_ascii_digit}
+use Rattle.dk_ledger.proofs.NextItem.{names_fit}
+use Rattle.dk_ledger.proofs.OneText.{one_line}
 use Rattle.dk_groups.specs.Below.{texts_below}
+use Rattle.dk_groups.specs.Groups.{groups, slice}
+use Rattle.dk_groups.proofs.ListParts.{first_same, rest_same}
+use Rattle.dk_groups.proofs.Readable.{groups_readable, whole_all}
+use Rattle.dk_groups.proofs.Slices.{whole_slice}
+use Rattle.dk_groups.proofs.Until.{decimal_digits, until}
+use Rattle.dk_overrun_spans.specs.declared.overrun.Overrun.{Overrun}
+use Rattle.dk_overrun_spans.specs.Overruns.{overruns}
+use Rattle.dk_trace_events.specs.Texts.{texts_behind}
+use Rattle.dk_trace_events.specs.Slices.{event_lines, group_objects, group_text, slice_rest}
+use Rattle.dk_trace_events.specs.SlackPoints.{point_text, slack_in, slack_point, start_point}
+use Rattle.dk_holds.specs.declared.holding.Holding.{Holding}
+use Rattle.dk_holds.specs.Holds.{ended, holding, last_entry}
+use Rattle.dk_trace_events.specs.Behind.{line_text, lines_text, past_of}
+use Rattle.dk_trace_events.specs.HoldSlices.{ended_holds, hold_slice, hold_text, mutex_names, open_holds}
+use Rattle.dk_trace_events.specs.LevelWindows.{level_texts}
+use Rattle.dk_trace_events.specs.OverrunInstants.{is_shown, overrun_instant, overruns_text, shown_overrun}
+use Rattle.dk_trace_events.specs.Names.{child_name, made_by, made_name, process_texts}
+use Rattle.dk_trace_events.specs.Traces.{end_text, groups_text, head_text, objects_text, tail_text, trace_text}
+use Rattle.dk_entry_words.proofs.ReadBack.{printable}
 use Rattle.dk_trace_events.proofs.Safe.{is_safe, line_safe}
 
 -- what every object with a line or a name begins with

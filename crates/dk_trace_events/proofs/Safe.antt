@@ -1,5 +1,21 @@
 -- What a trace has of a ledger's words has no byte that would have to be escaped.
-use Rattle.dk_trace_events.proofs.Names.{ℕ, ◌≡◌, ◌++◌, List, refl, subst, arith, Bool, true, not, ◌&&◌, ◌==◌, nat_lt, decimal, Some, nat_tests, list_all, ThreadId, Label, Event, word_of, LedgerLine, Heading, IsPrintable, event_text, line_body, thread_text, event_words, is_spelled, line_words, all_append, event_spelled, line_spelled, number_spelled, thread_spelled, word_of_spelled, work_words, event_blanks, line_blanks, parted_all, word_all, work_words_spelled, word_text}
+use Rattle.std.proofs.Common.{ℕ, ◌≡◌, ◌++◌, List, refl, subst, arith}
+use Rattle.std.specs.Prelude.{Bool, true, not, ◌&&◌, ◌==◌, nat_lt, decimal, Some}
+use Rattle.std.proofs.lemmas.Bool.Decides.{nat_tests}
+use Rattle.std.specs.List.{list_all}
+use Rattle.dk_trace.specs.declared.ThreadId.{ThreadId}
+use Rattle.dk_trace.specs.declared.Label.{Label}
+use Rattle.dk_trace.specs.declared.Event.{Event}
+use Rattle.dk_trace.specs.Says.{word_of}
+use Rattle.dk_ledger.specs.declared.line.LedgerLine.{LedgerLine}
+use Rattle.dk_ledger.specs.Heading.{Heading, IsPrintable}
+use Rattle.dk_ledger.specs.LineText.{event_text, line_body, thread_text}
+use Rattle.dk_ledger.specs.Words.{event_words, is_spelled, line_words}
+use Rattle.dk_ledger.proofs.Spelled.{all_append, event_spelled, line_spelled, number_spelled, thread_spelled, word_of_spelled}
+use Rattle.dk_entry_words.specs.Works.{work_words}
+use Rattle.dk_entry_words.proofs.ReadBack.{event_blanks, line_blanks}
+use Rattle.dk_entry_words.proofs.Spelled.{parted_all, word_all, work_words_spelled}
+use Rattle.dk_trace_events.specs.Words.{word_text}
 
 -- a printed byte or a blank, that JSON writes as it is
 abbrev pub is_safe : ℕ → Bool

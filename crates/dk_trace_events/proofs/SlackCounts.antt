@@ -1,6 +1,22 @@
 -- The slack of groups, with one group more.
-use Rattle.dk_trace_events.proofs.Names.{ℕ, zero, suc, ◌≡◌, ◌∙◌, ◌+◌, ◌-◌, ◌<◌, ◌≤◌, ◌++◌, [], ◌∷◌, List, cond, ap, sym, refl, arith, length, length-append, append-nil, drop, zero-add, Option, None, count_by, flat_map, replicate, if◌then◌else◌, flat_map-append, count_by-le-length, length-take, length-drop, Label, Event, Entry, count_by-cons, LedgerLine, entries_of, Journal, IsReadable, length-entries, Cutting, HasGiven, groups_in_order, whole_slice, SlackUsed, is_reclaimed, is_timeline, slack_in}
-use Rattle.std.proofs.Common.{Bool, true, false}
+use Rattle.std.proofs.Common.{ℕ, zero, suc, ◌≡◌, ◌∙◌, ◌+◌, ◌-◌, ◌<◌, ◌≤◌, ◌++◌, [], ◌∷◌, List, Bool, true, false, cond, ap, sym, refl, arith, length, length-append, append-nil, drop, zero-add}
+use Rattle.std.specs.Prelude.{Option, None, count_by, flat_map, replicate, if◌then◌else◌}
+use Rattle.std.proofs.lemmas.Grind.{flat_map-append}
+use Rattle.std.proofs.lemmas.List.Sums.{count_by-le-length}
+use Rattle.std.proofs.lemmas.List.{length-take, length-drop}
+use Rattle.dk_trace.specs.declared.Label.{Label}
+use Rattle.dk_trace.specs.declared.Event.{Event}
+use Rattle.dk_trace.specs.declared.Entry.{Entry}
+use Rattle.dk_trace.proofs.Windows.{count_by-cons}
+use Rattle.dk_ledger.specs.declared.line.LedgerLine.{LedgerLine}
+use Rattle.dk_ledger.specs.Cuts.{entries_of}
+use Rattle.dk_ledger.specs.Readable.{Journal, IsReadable}
+use Rattle.dk_ledger.proofs.EntryLists.{length-entries}
+use Rattle.dk_groups.specs.Cutting.{Cutting, HasGiven}
+use Rattle.dk_groups.proofs.NextLine.{groups_in_order}
+use Rattle.dk_groups.proofs.Slices.{whole_slice}
+use Rattle.dk_trace_events.specs.declared.slack.SlackUsed.{SlackUsed}
+use Rattle.dk_trace_events.specs.SlackPoints.{is_reclaimed, is_timeline, slack_in}
 
 abbrev labelled : (Label → Bool) → Entry → Bool
 labelled p e = p e.label

@@ -1,5 +1,13 @@
 -- Texts of lines one after another, with one line more, and of all lines.
-use Rattle.dk_trace_events.proofs.Names.{ℕ, ◌≡◌, ◌∙◌, ◌++◌, [], ◌∷◌, List, ap, sym, append_assoc, append-nil, Option, Some, None, slice_get, LedgerLine, Journal, IsReadable, groups, Cutting, ComesNext, groups_in_order, all_texts, texts_behind}
+use Rattle.std.proofs.Common.{ℕ, ◌≡◌, ◌∙◌, ◌++◌, [], ◌∷◌, List, ap, sym, append_assoc, append-nil}
+use Rattle.std.specs.Prelude.{Option, Some, None, slice_get}
+use Rattle.dk_ledger.specs.declared.line.LedgerLine.{LedgerLine}
+use Rattle.dk_ledger.specs.Readable.{Journal, IsReadable}
+use Rattle.dk_groups.specs.Groups.{groups}
+use Rattle.dk_groups.specs.Cutting.{Cutting, ComesNext}
+use Rattle.dk_groups.proofs.NextLine.{groups_in_order}
+use Rattle.dk_groups.proofs.Texts.{all_texts}
+use Rattle.dk_trace_events.specs.Texts.{texts_behind}
 
 module _ (f : List LedgerLine → LedgerLine → List ℕ) where
   rest_behind : (before ls ms : List LedgerLine) → texts_behind f before (ls ++ ms) ≡ texts_behind f before ls ++ texts_behind f (before ++ ls) ms

@@ -1,5 +1,12 @@
 -- The texts of windows, one after another.
-use Rattle.dk_trace_events.proofs.Names.{ℕ, zero, suc, ◌≡◌, ◌∙◌, ◌+◌, ◌-◌, ◌<◌, ◌≤◌, ◌++◌, [], ◌∷◌, List, length, get_or, add-one, ap, sym, arith, append_assoc, append-nil, flat_map, flat_map-append, take_rest, numbers, TableRow, rest_of, level_text, level_texts}
+use Rattle.std.proofs.Common.{ℕ, zero, suc, ◌≡◌, ◌∙◌, ◌+◌, ◌-◌, ◌<◌, ◌≤◌, ◌++◌, [], ◌∷◌, List, length, get_or, add-one, ap, sym, arith, append_assoc, append-nil}
+use Rattle.std.specs.Prelude.{flat_map}
+use Rattle.std.proofs.lemmas.Grind.{flat_map-append}
+use Rattle.std.proofs.lemmas.List.{take_rest}
+use Rattle.dk_config.specs.Sums.{numbers}
+use Rattle.dk_certify.specs.declared.table.TableRow.{TableRow}
+use Rattle.dk_ledger.proofs.HeaderLemmas.{rest_of}
+use Rattle.dk_trace_events.specs.LevelWindows.{level_text, level_texts}
 
 one_number : (low n : ℕ) → numbers low (suc n) ≡ numbers low n ++ (low + n) ∷ []
 one_number low zero = let same : low ≡ low + 0 = omega arith in ap (λ k. k ∷ []) same

@@ -1,4 +1,11 @@
-use Rattle.dk_trace_events.proofs.Names.{ℕ, List, ◌≡◌, ◌<◌, ◌+◌, ◌-◌, ap, rules, arith, IsErr, Entry, LedgerLine, Heading, below_fails, last_ends, none_written, ended, holding, last_entry, hold_text}
+use Rattle.std.proofs.Common.{ℕ, List, ◌≡◌, ◌<◌, ◌+◌, ◌-◌, ap, rules, arith}
+use Rattle.std.specs.Prelude.{IsErr}
+use Rattle.dk_trace.specs.declared.Entry.{Entry}
+use Rattle.dk_ledger.specs.declared.line.LedgerLine.{LedgerLine}
+use Rattle.dk_ledger.specs.Heading.{Heading}
+use Rattle.dk_groups.proofs.Below.{below_fails, last_ends, none_written}
+use Rattle.dk_holds.specs.Holds.{ended, holding, last_entry}
+use Rattle.dk_trace_events.specs.HoldSlices.{hold_text}
 use Rattle.dk_trace_events.proofs.Mutexes.{ended_known}
 use Rattle.dk_trace_events.proofs.holds.+write_ended_holds.Goals as goal
 

@@ -1,4 +1,7 @@
-use Rattle.dk_trace_events.proofs.Names.{◌≡◌, ◌<◌, rules, arith, IsErr, below_fails, last_ends, none_written, mutex_name}
+use Rattle.std.proofs.Common.{◌≡◌, ◌<◌, rules, arith}
+use Rattle.std.specs.Prelude.{IsErr}
+use Rattle.dk_groups.proofs.Below.{below_fails, last_ends, none_written}
+use Rattle.dk_trace_events.specs.HoldSlices.{mutex_name}
 use Rattle.dk_trace_events.proofs.holds.+write_mutex_names.Goals as goal
 
 pub returns-in_err-write_mutex_names : goal.returns-in_err-write_mutex_names

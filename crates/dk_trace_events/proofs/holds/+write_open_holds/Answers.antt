@@ -1,4 +1,10 @@
-use Rattle.dk_trace_events.proofs.Names.{ℕ, List, ◌≡◌, ◌<◌, ◌-◌, ap, rules, arith, IsErr, Entry, Heading, below_fails, last_ends, none_written, holding, hold_text}
+use Rattle.std.proofs.Common.{ℕ, List, ◌≡◌, ◌<◌, ◌-◌, ap, rules, arith}
+use Rattle.std.specs.Prelude.{IsErr}
+use Rattle.dk_trace.specs.declared.Entry.{Entry}
+use Rattle.dk_ledger.specs.Heading.{Heading}
+use Rattle.dk_groups.proofs.Below.{below_fails, last_ends, none_written}
+use Rattle.dk_holds.specs.Holds.{holding}
+use Rattle.dk_trace_events.specs.HoldSlices.{hold_text}
 use Rattle.dk_trace_events.proofs.Mutexes.{open_known}
 use Rattle.dk_trace_events.proofs.holds.+write_open_holds.Goals as goal
 

@@ -1,4 +1,8 @@
-use Rattle.dk_trace_events.proofs.Names.{◌∙◌, ◌-◌, ◌++◌, ap, codes, decimal, thread_text, mutex_track, place_text}
+use Rattle.std.proofs.Common.{◌∙◌, ◌-◌, ◌++◌, ap, codes}
+use Rattle.std.specs.Prelude.{decimal}
+use Rattle.dk_ledger.specs.LineText.{thread_text}
+use Rattle.dk_trace_events.specs.HoldSlices.{mutex_track}
+use Rattle.dk_trace_events.specs.Slices.{place_text}
 use Rattle.dk_trace_events.proofs.holds.slice_of_hold.Goals as goal
 
 pub returns : goal.returns

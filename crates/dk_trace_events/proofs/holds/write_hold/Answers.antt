@@ -1,4 +1,6 @@
-use Rattle.dk_trace_events.proofs.Names.{◌∙◌, ap, sym, subst, Writes, hold_text}
+use Rattle.std.proofs.Common.{◌∙◌, ap, sym, subst}
+use Rattle.dk_outside.specs.Written.{Writes}
+use Rattle.dk_trace_events.specs.HoldSlices.{hold_text}
 use Rattle.dk_trace_events.proofs.holds.write_hold.Goals as goal
 
 pub returns-in-Some : goal.returns-in-Some

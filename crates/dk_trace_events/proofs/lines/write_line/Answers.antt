@@ -1,4 +1,9 @@
-use Rattle.dk_trace_events.proofs.Names.{refl, rules, IsErr, first_fails, second_ends, line_text, past_of, ended_holds, made_name}
+use Rattle.std.proofs.Common.{refl, rules}
+use Rattle.std.specs.Prelude.{IsErr}
+use Rattle.dk_outside.proofs.WrittenLemmas.{first_fails, second_ends}
+use Rattle.dk_trace_events.specs.Behind.{line_text, past_of}
+use Rattle.dk_trace_events.specs.HoldSlices.{ended_holds}
+use Rattle.dk_trace_events.specs.Names.{made_name}
 use Rattle.dk_trace_events.proofs.lines.write_line.Goals as goal
 
 pub returns-in_err-write_made : goal.returns-in_err-write_made

@@ -1,4 +1,15 @@
-use Rattle.dk_trace_events.proofs.Names.{List, ◌∙◌, ◌++◌, [], ◌∷◌, reverse, ap, refl, sym, subst, rules, arith, IsErr, Heading, IsNamed, if_ok, groups, all_put, comes_none, comes_some, cut_short, on_ok, one_more, stopped_behind, next_behind, nothing_put, LedgerLine, AreHolders, AreKnown, line_text, lines_text, past_of}
+use Rattle.std.proofs.Common.{List, ◌∙◌, ◌++◌, [], ◌∷◌, reverse, ap, refl, sym, subst, rules, arith}
+use Rattle.std.specs.Prelude.{IsErr}
+use Rattle.dk_ledger.specs.Heading.{Heading}
+use Rattle.dk_ledger.specs.LineText.{IsNamed}
+use Rattle.dk_ledger.proofs.NextItem.{if_ok}
+use Rattle.dk_groups.specs.Groups.{groups}
+use Rattle.dk_groups.proofs.Going.{all_put, comes_none, comes_some, cut_short, on_ok, one_more, stopped_behind}
+use Rattle.dk_groups.proofs.InTurn.{next_behind}
+use Rattle.dk_groups.proofs.Texts.{nothing_put}
+use Rattle.dk_ledger.specs.declared.line.LedgerLine.{LedgerLine}
+use Rattle.dk_holds.specs.Holds.{AreHolders}
+use Rattle.dk_trace_events.specs.Behind.{AreKnown, line_text, lines_text, past_of}
 use Rattle.dk_trace_events.proofs.Texts.{all_behind, one_behind}
 use Rattle.dk_trace_events.proofs.Behind.{known_behind, named_label}
 use Rattle.dk_trace_events.proofs.lines.write_lines.Goals as goal

@@ -1,4 +1,11 @@
-use Rattle.dk_trace_events.proofs.Names.{List, ◌≡◌, ◌+◌, [], length, option_map_or, LedgerLine, Journal, IsReadable, ComesNext, HasWritten, AreHolders, lines_text, past_of}
+use Rattle.std.proofs.Common.{List, ◌≡◌, ◌+◌, [], length}
+use Rattle.std.specs.Option.{option_map_or}
+use Rattle.dk_ledger.specs.declared.line.LedgerLine.{LedgerLine}
+use Rattle.dk_ledger.specs.Readable.{Journal, IsReadable}
+use Rattle.dk_groups.specs.Cutting.{ComesNext}
+use Rattle.dk_groups.proofs.Going.{HasWritten}
+use Rattle.dk_holds.specs.Holds.{AreHolders}
+use Rattle.dk_trace_events.specs.Behind.{lines_text, past_of}
 use Rattle.dk_trace_events.proofs.lines.write_lines.Given as goal
 
 abbrev pub invariant-loop-next : goal.invariant-loop-next

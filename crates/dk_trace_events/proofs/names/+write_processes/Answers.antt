@@ -1,4 +1,9 @@
-use Rattle.dk_trace_events.proofs.Names.{◌+◌, refl, rules, IsErr, first_fails, second_ends, rest_of, first_named, parts_of, process_text, process_texts}
+use Rattle.std.proofs.Common.{◌+◌, refl, rules}
+use Rattle.std.specs.Prelude.{IsErr}
+use Rattle.dk_outside.proofs.WrittenLemmas.{first_fails, second_ends}
+use Rattle.dk_ledger.proofs.HeaderLemmas.{rest_of, first_named}
+use Rattle.dk_groups.proofs.ProcessTexts.{parts_of}
+use Rattle.dk_trace_events.specs.Names.{process_text, process_texts}
 use Rattle.dk_trace_events.proofs.names.+write_processes.Goals as goal
 
 pub returns-in_err-write_to-in-len1-up : goal.returns-in_err-write_to-in-len1-up

@@ -1,4 +1,7 @@
-use Rattle.dk_trace_events.proofs.Names.{◌∙◌, ◌++◌, ap, append_assoc, codes, ThreadId, process_labels, process_name, process_order, track_end, track_name, extend}
+use Rattle.std.proofs.Common.{◌∙◌, ◌++◌, ap, append_assoc, codes}
+use Rattle.dk_trace.specs.declared.ThreadId.{ThreadId}
+use Rattle.dk_trace_events.specs.Names.{process_labels, process_name, process_order, track_end, track_name}
+use Rattle.dk_groups.proofs.Texts.{extend}
 use Rattle.dk_trace_events.proofs.names.process_of.Goals as goal
 
 pub returns : goal.returns

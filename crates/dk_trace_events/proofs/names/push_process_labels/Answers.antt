@@ -1,4 +1,6 @@
-use Rattle.dk_trace_events.proofs.Names.{◌+◌, ◌++◌, codes, decimal, extend}
+use Rattle.std.proofs.Common.{◌+◌, ◌++◌, codes}
+use Rattle.std.specs.Prelude.{decimal}
+use Rattle.dk_groups.proofs.Texts.{extend}
 use Rattle.dk_trace_events.proofs.names.push_process_labels.Goals as goal
 
 pub returns-clause-bytes : goal.returns-clause-bytes

@@ -1,4 +1,6 @@
-use Rattle.dk_trace_events.proofs.Names.{◌∙◌, ap, sym, subst, Writes, child_name}
+use Rattle.std.proofs.Common.{◌∙◌, ap, sym, subst}
+use Rattle.dk_outside.specs.Written.{Writes}
+use Rattle.dk_trace_events.specs.Names.{child_name}
 use Rattle.dk_trace_events.proofs.names.write_made.Goals as goal
 
 pub returns-in-Some : goal.returns-in-Some

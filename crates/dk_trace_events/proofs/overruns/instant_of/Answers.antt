@@ -1,4 +1,8 @@
-use Rattle.dk_trace_events.proofs.Names.{◌∙◌, ◌++◌, ap, codes, decimal, window_of, place_text, thread_track}
+use Rattle.std.proofs.Common.{◌∙◌, ◌++◌, ap, codes}
+use Rattle.std.specs.Prelude.{decimal}
+use Rattle.dk_trace_events.specs.OverrunInstants.{window_of}
+use Rattle.dk_trace_events.specs.Slices.{place_text}
+use Rattle.dk_trace_events.specs.Words.{thread_track}
 use Rattle.dk_trace_events.proofs.overruns.instant_of.Goals as goal
 
 pub returns : goal.returns

@@ -1,5 +1,9 @@
-use Rattle.dk_trace_events.proofs.Names.{◌<◌, ◌+◌, drop, length, refl, arith, rules, IsErr, Ok, first_fails, second_ends, line-more, lines-around, Overrun, shown_overrun}
-use Rattle.std.proofs.Common.{flat_map, take}
+use Rattle.std.proofs.Common.{◌<◌, ◌+◌, flat_map, take, drop, length, refl, arith, rules}
+use Rattle.std.specs.Prelude.{IsErr, Ok}
+use Rattle.dk_outside.proofs.WrittenLemmas.{first_fails, second_ends}
+use Rattle.dk_window_report.proofs.Lines.{line-more, lines-around}
+use Rattle.dk_overrun_spans.specs.declared.overrun.Overrun.{Overrun}
+use Rattle.dk_trace_events.specs.OverrunInstants.{shown_overrun}
 use Rattle.dk_trace_events.proofs.overruns.write_overruns.Goals as goal
 
 abbrev no_overrun : Overrun

@@ -1,4 +1,7 @@
-use Rattle.dk_trace_events.proofs.Names.{flat_map, take, Ok, Writes, SinkError, shown_overrun}
+use Rattle.std.specs.Prelude.{flat_map, take, Ok}
+use Rattle.dk_outside.specs.Written.{Writes}
+use Rattle.dk_outside.specs.declared.sink.SinkError.{SinkError}
+use Rattle.dk_trace_events.specs.OverrunInstants.{shown_overrun}
 use Rattle.dk_trace_events.proofs.overruns.write_overruns.Given as goal
 
 -- the windows so far are written

@@ -1,4 +1,6 @@
-use Rattle.dk_trace_events.proofs.Names.{◌∙◌, ap, sym, subst, Writes, point_text, start_point}
+use Rattle.std.proofs.Common.{◌∙◌, ap, sym, subst}
+use Rattle.dk_outside.specs.Written.{Writes}
+use Rattle.dk_trace_events.specs.SlackPoints.{point_text, start_point}
 use Rattle.dk_trace_events.proofs.slack.write_start.Goals as goal
 
 pub returns-in-Some : goal.returns-in-Some

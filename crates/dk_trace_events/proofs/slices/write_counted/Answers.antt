@@ -1,4 +1,9 @@
-use Rattle.dk_trace_events.proofs.Names.{◌∙◌, ◌+◌, ◌++◌, [], ◌∷◌, ap, refl, sym, rules, IsErr, first_fails, second_ends, SlackUsed, point_where, slack_in, slack_point, group_objects, group_text}
+use Rattle.std.proofs.Common.{◌∙◌, ◌+◌, ◌++◌, [], ◌∷◌, ap, refl, sym, rules}
+use Rattle.std.specs.Prelude.{IsErr}
+use Rattle.dk_outside.proofs.WrittenLemmas.{first_fails, second_ends}
+use Rattle.dk_trace_events.specs.declared.slack.SlackUsed.{SlackUsed}
+use Rattle.dk_trace_events.specs.SlackPoints.{point_where, slack_in, slack_point}
+use Rattle.dk_trace_events.specs.Slices.{group_objects, group_text}
 use Rattle.dk_trace_events.proofs.slices.write_counted.Goals as goal
 
 pub returns-in_err-write_group : goal.returns-in_err-write_group

@@ -1,4 +1,13 @@
-use Rattle.dk_trace_events.proofs.Names.{◌≡◌, ◌∙◌, ◌++◌, [], ◌∷◌, ap, refl, sym, subst, rules, arith, IsErr, IsPrintable, if_ok, groups, all_put, comes_none, comes_some, cut_short, cutting_on, on_ok, one_more, printable_on, stopped_behind, nothing_put, group_objects, is_reclaimed, is_timeline, objects_text}
+use Rattle.std.proofs.Common.{◌≡◌, ◌∙◌, ◌++◌, [], ◌∷◌, ap, refl, sym, subst, rules, arith}
+use Rattle.std.specs.Prelude.{IsErr}
+use Rattle.dk_ledger.specs.Heading.{IsPrintable}
+use Rattle.dk_ledger.proofs.NextItem.{if_ok}
+use Rattle.dk_groups.specs.Groups.{groups}
+use Rattle.dk_groups.proofs.Going.{all_put, comes_none, comes_some, cut_short, cutting_on, on_ok, one_more, printable_on, stopped_behind}
+use Rattle.dk_groups.proofs.Texts.{nothing_put}
+use Rattle.dk_trace_events.specs.Slices.{group_objects}
+use Rattle.dk_trace_events.specs.SlackPoints.{is_reclaimed, is_timeline}
+use Rattle.dk_trace_events.specs.Traces.{objects_text}
 use Rattle.dk_trace_events.proofs.SlackCounts.{few}
 use Rattle.dk_trace_events.proofs.Texts.{all_behind, one_behind}
 use Rattle.dk_trace_events.proofs.slices.write_each.Goals as goal

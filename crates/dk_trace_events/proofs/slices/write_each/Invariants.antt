@@ -1,4 +1,11 @@
-use Rattle.dk_trace_events.proofs.Names.{List, ◌≡◌, ◌+◌, [], length, option_map_or, LedgerLine, Journal, IsReadable, ComesNext, HasWritten, slack_in, objects_text}
+use Rattle.std.proofs.Common.{List, ◌≡◌, ◌+◌, [], length}
+use Rattle.std.specs.Option.{option_map_or}
+use Rattle.dk_ledger.specs.declared.line.LedgerLine.{LedgerLine}
+use Rattle.dk_ledger.specs.Readable.{Journal, IsReadable}
+use Rattle.dk_groups.specs.Cutting.{ComesNext}
+use Rattle.dk_groups.proofs.Going.{HasWritten}
+use Rattle.dk_trace_events.specs.SlackPoints.{slack_in}
+use Rattle.dk_trace_events.specs.Traces.{objects_text}
 use Rattle.dk_trace_events.proofs.slices.write_each.Given as goal
 
 abbrev pub invariant-loop-next : goal.invariant-loop-next

@@ -1,4 +1,9 @@
-use Rattle.dk_trace_events.proofs.Names.{◌++◌, [], ap, refl, groups, cut_short, then_puts, nothing_put, start_point, groups_text, objects_text}
+use Rattle.std.proofs.Common.{◌++◌, [], ap, refl}
+use Rattle.dk_groups.specs.Groups.{groups}
+use Rattle.dk_groups.proofs.Going.{cut_short, then_puts}
+use Rattle.dk_groups.proofs.Texts.{nothing_put}
+use Rattle.dk_trace_events.specs.SlackPoints.{start_point}
+use Rattle.dk_trace_events.specs.Traces.{groups_text, objects_text}
 use Rattle.dk_trace_events.proofs.Texts.{first_is}
 use Rattle.dk_trace_events.proofs.slices.write_groups.Goals as goal
 

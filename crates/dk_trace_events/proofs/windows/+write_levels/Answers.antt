@@ -1,4 +1,8 @@
-use Rattle.dk_trace_events.proofs.Names.{◌+◌, rules, IsErr, first_fails, second_ends, rest_of, level_texts}
+use Rattle.std.proofs.Common.{◌+◌, rules}
+use Rattle.std.specs.Prelude.{IsErr}
+use Rattle.dk_outside.proofs.WrittenLemmas.{first_fails, second_ends}
+use Rattle.dk_ledger.proofs.HeaderLemmas.{rest_of}
+use Rattle.dk_trace_events.specs.LevelWindows.{level_texts}
 use Rattle.dk_trace_events.proofs.WindowTexts.{level_parts}
 use Rattle.dk_trace_events.proofs.windows.+write_levels.Goals as goal
 

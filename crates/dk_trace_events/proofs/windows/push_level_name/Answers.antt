@@ -1,4 +1,8 @@
-use Rattle.dk_trace_events.proofs.Names.{◌∙◌, ◌++◌, ap, codes, decimal, level_track, place_text, extend}
+use Rattle.std.proofs.Common.{◌∙◌, ◌++◌, ap, codes}
+use Rattle.std.specs.Prelude.{decimal}
+use Rattle.dk_trace_events.specs.LevelWindows.{level_track}
+use Rattle.dk_trace_events.specs.Slices.{place_text}
+use Rattle.dk_groups.proofs.Texts.{extend}
 use Rattle.dk_trace_events.proofs.windows.push_level_name.Goals as goal
 
 pub returns-clause-bytes : goal.returns-clause-bytes

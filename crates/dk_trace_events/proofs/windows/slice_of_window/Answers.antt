@@ -1,4 +1,7 @@
-use Rattle.dk_trace_events.proofs.Names.{◌∙◌, ◌-◌, ◌++◌, ap, codes, decimal, level_track, place_text}
+use Rattle.std.proofs.Common.{◌∙◌, ◌-◌, ◌++◌, ap, codes}
+use Rattle.std.specs.Prelude.{decimal}
+use Rattle.dk_trace_events.specs.LevelWindows.{level_track}
+use Rattle.dk_trace_events.specs.Slices.{place_text}
 use Rattle.dk_trace_events.proofs.windows.slice_of_window.Goals as goal
 
 pub returns : goal.returns

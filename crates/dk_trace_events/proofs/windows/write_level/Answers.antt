@@ -1,4 +1,7 @@
-use Rattle.dk_trace_events.proofs.Names.{◌++◌, ap, sym, rules, IsErr, first_fails, second_ends, level_text, windows_of}
+use Rattle.std.proofs.Common.{◌++◌, ap, sym, rules}
+use Rattle.std.specs.Prelude.{IsErr}
+use Rattle.dk_outside.proofs.WrittenLemmas.{first_fails, second_ends}
+use Rattle.dk_trace_events.specs.LevelWindows.{level_text, windows_of}
 use Rattle.dk_trace_events.proofs.windows.write_level.Goals as goal
 
 pub returns-in_err-write_to : goal.returns-in_err-write_to

@@ -1,5 +1,11 @@
-use Rattle.dk_trace_events.proofs.Names.{ℕ, ◌≡◌, ◌<◌, ◌≤◌, ◌+◌, ◌-◌, ◌++◌, [], List, ap, refl, subst, rules, arith, le-div_iff_mul-le, Ok, IsErr, flat_map, numbers, SinkError, Writes, first_fails, second_ends, nothing_written, shown_window}
-use Rattle.std.proofs.Common.{◌/◌}
+use Rattle.std.proofs.Common.{ℕ, ◌≡◌, ◌<◌, ◌≤◌, ◌+◌, ◌-◌, ◌/◌, ◌++◌, [], List, ap, refl, subst, rules, arith, le-div_iff_mul-le}
+use Rattle.std.specs.Prelude.{Ok, IsErr, flat_map}
+use Rattle.dk_config.specs.Sums.{numbers}
+use Rattle.dk_outside.specs.declared.sink.SinkError.{SinkError}
+use Rattle.dk_outside.specs.Written.{Writes}
+use Rattle.dk_outside.proofs.WrittenLemmas.{first_fails, second_ends}
+use Rattle.dk_groups.proofs.Texts.{nothing_written}
+use Rattle.dk_trace_events.specs.LevelWindows.{shown_window}
 use Rattle.dk_trace_events.proofs.WindowTexts.{front_windows, window_more}
 use Rattle.dk_trace_events.proofs.windows.write_windows.Goals as goal
 

@@ -1,5 +1,8 @@
-use Rattle.dk_trace_events.proofs.Names.{Ok, ◌/◌, flat_map, max, numbers, SinkError, Writes, shown_window}
-use Rattle.std.specs.Prelude.{◌+◌, ◌-◌, ◌≤◌}
+use Rattle.std.specs.Prelude.{Ok, ◌+◌, ◌-◌, ◌/◌, ◌≤◌, flat_map, max}
+use Rattle.dk_config.specs.Sums.{numbers}
+use Rattle.dk_outside.specs.declared.sink.SinkError.{SinkError}
+use Rattle.dk_outside.specs.Written.{Writes}
+use Rattle.dk_trace_events.specs.LevelWindows.{shown_window}
 use Rattle.dk_trace_events.proofs.windows.write_windows.Given as goal
 
 -- the windows so far are written

@@ -1,5 +1,13 @@
-use Rattle.dk_trace_events.proofs.Names.{◌≡◌, ◌++◌, refl, subst, Heading, if_ok, groups, Puts, AreKnown, lines_text, past_of, open_holds, end_text, put_ends, put_fails}
+use Rattle.std.proofs.Common.{◌≡◌, ◌++◌, refl, subst}
+use Rattle.dk_ledger.specs.Heading.{Heading}
+use Rattle.dk_ledger.proofs.NextItem.{if_ok}
+use Rattle.dk_groups.specs.Groups.{groups}
+use Rattle.dk_groups.specs.Writing.{Puts}
+use Rattle.dk_trace_events.specs.Behind.{AreKnown, lines_text, past_of}
+use Rattle.dk_trace_events.specs.HoldSlices.{open_holds}
+use Rattle.dk_trace_events.specs.Traces.{end_text}
 use Rattle.dk_trace_events.proofs.Behind.{known_at_end}
+use Rattle.dk_groups.proofs.Puts.{put_ends, put_fails}
 use Rattle.dk_trace_events.proofs.writing.write_end.Goals as goal
 
 pub write_last-requires-clause-known : goal.write_last-requires-clause-known

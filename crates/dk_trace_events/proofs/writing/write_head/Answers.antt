@@ -1,4 +1,9 @@
-use Rattle.dk_trace_events.proofs.Names.{◌++◌, ap, sym, rules, IsErr, first_fails, second_ends, mutex_names, process_texts, head_text}
+use Rattle.std.proofs.Common.{◌++◌, ap, sym, rules}
+use Rattle.std.specs.Prelude.{IsErr}
+use Rattle.dk_outside.proofs.WrittenLemmas.{first_fails, second_ends}
+use Rattle.dk_trace_events.specs.HoldSlices.{mutex_names}
+use Rattle.dk_trace_events.specs.Names.{process_texts}
+use Rattle.dk_trace_events.specs.Traces.{head_text}
 use Rattle.dk_trace_events.proofs.writing.write_head.Goals as goal
 
 pub returns-in_err-write_all_to : goal.returns-in_err-write_all_to

@@ -1,4 +1,8 @@
-use Rattle.dk_trace_events.proofs.Names.{◌++◌, [], refl, cut_short, then_puts, nothing_put, open_holds, end_text}
+use Rattle.std.proofs.Common.{◌++◌, [], refl}
+use Rattle.dk_groups.proofs.Going.{cut_short, then_puts}
+use Rattle.dk_groups.proofs.Texts.{nothing_put}
+use Rattle.dk_trace_events.specs.HoldSlices.{open_holds}
+use Rattle.dk_trace_events.specs.Traces.{end_text}
 use Rattle.dk_trace_events.proofs.writing.write_last.Goals as goal
 
 pub returns-in_err-write_open_holds : goal.returns-in_err-write_open_holds

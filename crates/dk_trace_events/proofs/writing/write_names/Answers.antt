@@ -1,4 +1,8 @@
-use Rattle.dk_trace_events.proofs.Names.{◌≡◌, ◌++◌, ap, refl, sym, rules, IsErr, first_fails, second_ends, mutex_names, process_texts}
+use Rattle.std.proofs.Common.{◌≡◌, ◌++◌, ap, refl, sym, rules}
+use Rattle.std.specs.Prelude.{IsErr}
+use Rattle.dk_outside.proofs.WrittenLemmas.{first_fails, second_ends}
+use Rattle.dk_trace_events.specs.HoldSlices.{mutex_names}
+use Rattle.dk_trace_events.specs.Names.{process_texts}
 use Rattle.dk_trace_events.proofs.writing.write_names.Goals as goal
 
 pub returns-in_err-write_mutex_names : goal.returns-in_err-write_mutex_names

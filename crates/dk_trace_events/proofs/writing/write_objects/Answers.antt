@@ -1,4 +1,11 @@
-use Rattle.dk_trace_events.proofs.Names.{◌≡◌, ◌++◌, refl, subst, sym, Heading, groups, Puts, lines_text, past_of, open_holds, end_text, groups_text, put_ends, put_fails}
+use Rattle.std.proofs.Common.{◌≡◌, ◌++◌, refl, subst, sym}
+use Rattle.dk_ledger.specs.Heading.{Heading}
+use Rattle.dk_groups.specs.Groups.{groups}
+use Rattle.dk_groups.specs.Writing.{Puts}
+use Rattle.dk_trace_events.specs.Behind.{lines_text, past_of}
+use Rattle.dk_trace_events.specs.HoldSlices.{open_holds}
+use Rattle.dk_trace_events.specs.Traces.{end_text, groups_text}
+use Rattle.dk_groups.proofs.Puts.{put_ends, put_fails}
 use Rattle.dk_trace_events.proofs.writing.write_objects.Goals as goal
 
 pub returns-in_err-write_groups : goal.returns-in_err-write_groups

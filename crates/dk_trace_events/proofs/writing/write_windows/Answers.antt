@@ -1,4 +1,9 @@
-use Rattle.dk_trace_events.proofs.Names.{◌++◌, [], refl, cut_short, then_puts, nothing_put, level_texts, overruns_text, tail_text}
+use Rattle.std.proofs.Common.{◌++◌, [], refl}
+use Rattle.dk_groups.proofs.Going.{cut_short, then_puts}
+use Rattle.dk_groups.proofs.Texts.{nothing_put}
+use Rattle.dk_trace_events.specs.LevelWindows.{level_texts}
+use Rattle.dk_trace_events.specs.OverrunInstants.{overruns_text}
+use Rattle.dk_trace_events.specs.Traces.{tail_text}
 use Rattle.dk_trace_events.proofs.writing.write_windows.Goals as goal
 
 pub returns-in_err-write_overruns : goal.returns-in_err-write_overruns

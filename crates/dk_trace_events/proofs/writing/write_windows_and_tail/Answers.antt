@@ -1,4 +1,8 @@
-use Rattle.dk_trace_events.proofs.Names.{◌≡◌, ◌++◌, [], ap, sym, refl, rules, cut_short, then_puts, nothing_put, level_texts, tail_text}
+use Rattle.std.proofs.Common.{◌≡◌, ◌++◌, [], ap, sym, refl, rules}
+use Rattle.dk_groups.proofs.Going.{cut_short, then_puts}
+use Rattle.dk_groups.proofs.Texts.{nothing_put}
+use Rattle.dk_trace_events.specs.LevelWindows.{level_texts}
+use Rattle.dk_trace_events.specs.Traces.{tail_text}
 use Rattle.dk_trace_events.proofs.writing.write_windows_and_tail.Goals as goal
 
 pub returns-in_err-write_levels : goal.returns-in_err-write_levels

@@ -1,4 +1,5 @@
-use Rattle.dk_trace_events.proofs.Names.{◌∙◌, ◌+◌, ap, sym, is_timeline, slack_in}
+use Rattle.std.proofs.Common.{◌∙◌, ◌+◌, ap, sym}
+use Rattle.dk_trace_events.specs.SlackPoints.{is_timeline, slack_in}
 use Rattle.dk_trace_events.proofs.SlackCounts.{slack_more, ticks_if, used}
 use Rattle.dk_trace_events.proofs.slack.SlackUsed.with_group.Goals as goal
 

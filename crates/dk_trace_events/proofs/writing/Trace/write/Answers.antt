@@ -1,4 +1,17 @@
-use Rattle.dk_trace_events.proofs.Names.{ℕ, List, ◌≡◌, ◌∙◌, ◌++◌, [], ap, sym, subst, refl, append_assoc, Heading, Journal, groups, ComesNext, Puts, cut_short, then_puts, nothing_put, Overrun, overruns, lines_text, past_of, mutex_names, open_holds, process_texts, Tracing, end_text, groups_text, head_text, trace_text}
+use Rattle.std.proofs.Common.{ℕ, List, ◌≡◌, ◌∙◌, ◌++◌, [], ap, sym, subst, refl, append_assoc}
+use Rattle.dk_ledger.specs.Heading.{Heading}
+use Rattle.dk_ledger.specs.Readable.{Journal}
+use Rattle.dk_groups.specs.Groups.{groups}
+use Rattle.dk_groups.specs.Cutting.{ComesNext}
+use Rattle.dk_groups.specs.Writing.{Puts}
+use Rattle.dk_groups.proofs.Going.{cut_short, then_puts}
+use Rattle.dk_groups.proofs.Texts.{nothing_put}
+use Rattle.dk_overrun_spans.specs.declared.overrun.Overrun.{Overrun}
+use Rattle.dk_overrun_spans.specs.Overruns.{overruns}
+use Rattle.dk_trace_events.specs.Behind.{lines_text, past_of}
+use Rattle.dk_trace_events.specs.HoldSlices.{mutex_names, open_holds}
+use Rattle.dk_trace_events.specs.Names.{process_texts}
+use Rattle.dk_trace_events.specs.Traces.{Tracing, end_text, groups_text, head_text, trace_text}
 use Rattle.dk_trace_events.proofs.writing.Trace.write.Goals as goal
 
 -- what stands behind the names: of the groups in one range, and of the lines in another
