@@ -64,7 +64,7 @@ _deosk_show_arguments() {
     impact:[3-9]:* | impact:[1-3][0-9]:*) _deosk_processes "${COMP_WORDS[first + 2]}" ;;
     chain:*:-*) COMPREPLY=($(compgen -W --ledger -- "$word")) ;;
     chain:[2-9]:* | chain:[1-3][0-9]:*) _deosk_processes "${COMP_WORDS[first + 1]}" ;;
-    svg:1:* | trace:1:* | vcd:1:* | csv:1:* | windows:1:* | holds:1:* | check:3:*) _deosk_files .txt ;;
+    svg:1:* | trace:1:* | vcd:1:* | csv:1:* | windows:1:* | holds:1:* | page:2:* | check:3:*) _deosk_files .txt ;;
     replay:1:*) _deosk_files .profile .csv ;;
     replay:3:*) _deosk_files .toml ;;
     *:1:* | holds:2:* | impact:2:* | check:2:*) _deosk_files .toml ;;

@@ -474,7 +474,7 @@ cannot_write() {
 # has_page: the output is a whole page of a layout that fails
 has_page() {
     case $status in
-    [23]) [ "$(head -c 15 "$written")" = '<!DOCTYPE html>' ] ;;
+    [234]) [ "$(head -c 15 "$written")" = '<!DOCTYPE html>' ] ;;
     *) false ;;
     esac
 }

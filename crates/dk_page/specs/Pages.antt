@@ -6,6 +6,7 @@ use Rattle.dk_html.specs.Outputs.{output}
 use Rattle.dk_html.specs.Parts.{joined}
 use Rattle.dk_html.specs.Tables.{rows}
 use Rattle.dk_page.specs.declared.template.TheConstants.{BY_WHEN, BY_WHEN_END, CERTIFIED, CERTIFIED_TILE, DOCUMENT, ENDING, FAULTS, FAULTS_TILE, HEAD, INPUTS, LEVELS_END, NOT_BY_WHEN, OUTPUTS, ROOM, ROOM_END, STYLE, TABLE_END, TEXT_END, TILES, UNCERTIFIED, WARNINGS}
+use Rattle.dk_page.specs.declared.told.Additions.{Additions}
 use Rattle.dk_page.specs.declared.told.Certification.{Certification}
 use Rattle.dk_page.specs.declared.told.Certification.TheVariants.{Certified, Failing}
 use Rattle.dk_page.specs.declared.told.Told.{Told}
@@ -34,9 +35,9 @@ unfoldable pub warnings_tile : List ℕ → ℕ → List ℕ
 warnings_tile tone count = joined (codes "<li class=\"tile " ∷ tone ∷ codes "\"><span class=\"what\">Warnings</span><b>"
     ∷ decimal count ∷ codes "</b><span>what is allowed and cannot be meant</span></li>\n" ∷ [])
 
--- the file with its length and its checksum
-unfoldable pub inputs : List ℕ → List ℕ → List ℕ
-inputs name document = joined (INPUTS.now ∷ file_row (codes "configuration") name document ∷ TABLE_END.now ∷ [])
+-- the files with their lengths and checksums
+unfoldable pub inputs : List ℕ → List ℕ → List ℕ → List ℕ
+inputs name document files = joined (INPUTS.now ∷ file_row (codes "configuration") name document ∷ files ∷ TABLE_END.now ∷ [])
 
 -- the document
 unfoldable pub configuration : List ℕ → List ℕ
@@ -72,31 +73,36 @@ abbrev pub when_output : List ℕ → Certification → List ℕ
 when_output name (Certified when table) = when_shown name when.items
 when_output name (Failing level needs window) = []
 
--- what the commands write, and the end
+-- what the commands write
 unfoldable pub outputs : List ℕ → List ℕ → List ℕ → List ℕ → List ℕ → List ℕ
 outputs name certificate when margins warnings = joined (OUTPUTS.now ∷ output (codes "deosk-show certify ") name certificate ∷ when
-    ∷ output (codes "deosk-show margins ") name margins ∷ output (codes "deosk-show warnings ") name warnings
-    ∷ ENDING.now ∷ [])
+    ∷ output (codes "deosk-show margins ") name margins ∷ output (codes "deosk-show warnings ") name warnings ∷ [])
 
--- the verdicts and the file
-unfoldable pub top_text : List ℕ → List ℕ → Told → List ℕ
-top_text name document t = title name ++ (certification_tile t.certification
-    ++ (warnings_tile (tone t.count) t.count ++ inputs name document))
+-- what a ledger adds behind the other outputs, and the end
+unfoldable pub ending : List ℕ → List ℕ
+ending added = joined (added ∷ ENDING.now ∷ [])
+
+-- the verdicts and the files
+unfoldable pub top_text : List ℕ → List ℕ → Told → Additions → List ℕ
+top_text name document t added = title name ++ (certification_tile t.certification
+    ++ (warnings_tile (tone t.count) t.count ++ (added.tile.items ++ inputs name document added.file.items)))
 
 -- the sections
-unfoldable pub findings_text : List ℕ → Told → List ℕ
-findings_text document t = configuration document
+unfoldable pub findings_text : List ℕ → Told → Additions → List ℕ
+findings_text document t added = configuration document
     ++ (certification (certification_head t.certification) t.certificate_table.items
-    ++ (by_when t.certification ++ room t.margins_table.items t.warnings.items))
+    ++ (by_when t.certification ++ (room t.margins_table.items t.warnings.items ++ added.sections.items)))
 
 -- the outputs, and the end
-abbrev pub bottom_text : List ℕ → Told → List ℕ
-bottom_text name t =
+unfoldable pub bottom_text : List ℕ → Told → Additions → List ℕ
+bottom_text name t added =
     outputs name t.certificate.items (when_output name t.certification) t.margins.items t.warnings.items
+    ++ ending added.outputs.items
 
--- the page of a configuration, certified or not
-unfoldable pub page_text : List ℕ → List ℕ → Told → List ℕ
-page_text name document t = top_text name document t ++ (findings_text document t ++ bottom_text name t)
+-- the page of a configuration, certified or not, with what a ledger adds
+unfoldable pub page_text : List ℕ → List ℕ → Told → Additions → List ℕ
+page_text name document t added =
+    top_text name document t added ++ (findings_text document t added ++ bottom_text name t added)
 
 -- the faults of a document, and the end
 unfoldable pub faulty : List ℕ → List ℕ → List ℕ → List ℕ

@@ -6,8 +6,8 @@ use crate::template::{
     BY_WHEN, BY_WHEN_END, CERTIFIED, DOCUMENT, LEVELS_END, NOT_BY_WHEN, ROOM, ROOM_END, TEXT_END,
     UNCERTIFIED, WARNINGS,
 };
-use crate::told::{Certification, Told};
-use crate::top::add_words;
+use crate::told::{Additions, Certification, Told};
+use crate::top::{add_made, add_words};
 use dk_html::{Part, add_parts};
 use std::alloc::{AllocError, Global};
 
@@ -90,14 +90,15 @@ fn add_room<'x>(
     add_parts(alloc, out, &parts)
 }
 
-/// Adds the sections.
+/// Adds the sections, and those of a ledger behind them.
 pub(crate) fn add_findings(
     alloc: Global,
     out: &mut Vec<u8>,
     document: &[u8],
     told: &Told,
+    added: &Additions,
 ) -> Result<(), AllocError>
-    ensures { OnOk result (out.new.items ≡ out.old.items ++ findings_text document.now told.now) }
+    ensures { OnOk result (out.new.items ≡ out.old.items ++ findings_text document.now told.now added.now) }
 {
     add_configuration(alloc, out, document)?;
     let head = certification_head(&told.certification);
@@ -109,5 +110,6 @@ pub(crate) fn add_findings(
         told.margins_table.as_slice(),
         told.warnings.as_slice(),
     )?;
+    add_made(out, added.sections.as_slice())?;
     Ok(())
 }

@@ -6,10 +6,12 @@
 
 mod findings;
 mod outputs;
+mod running;
 mod template;
 mod told;
 mod top;
 mod whole;
 
-pub use told::{Certification, Told};
+pub use running::{Drawing, Run, additions};
+pub use told::{Additions, Certification, Told};
 pub use whole::{faults_page, page};

@@ -1,9 +1,9 @@
 //! What the commands write, word for word, and the end of the page.
 ghost use Rattle.std.specs.Prelude.{◌≡◌, ◌++◌, IfOk, OnOk};
-ghost use Rattle.dk_page.specs.Pages.{bottom_text, outputs, when_output, when_shown};
+ghost use Rattle.dk_page.specs.Pages.{bottom_text, ending, outputs, when_output, when_shown};
 
 use crate::template::{ENDING, OUTPUTS};
-use crate::told::{Certification, Told};
+use crate::told::{Additions, Certification, Told};
 use dk_html::{Part, add_parts};
 use std::alloc::{AllocError, Global};
 
@@ -67,19 +67,26 @@ fn add_outputs<'x>(
             name,
             text: warnings,
         },
-        Part::Words(ENDING),
     ];
     add_parts(alloc, out, &parts)
 }
 
-/// Adds the outputs, and the end.
+fn add_ending(alloc: Global, out: &mut Vec<u8>, added: &[u8]) -> Result<(), AllocError>
+    ensures { OnOk result (out.new.items ≡ out.old.items ++ ending added.now) }
+{
+    let parts = [Part::Made(added), Part::Words(ENDING)];
+    add_parts(alloc, out, &parts)
+}
+
+/// Adds the outputs, those of a ledger behind them, and the end.
 pub(crate) fn add_bottom(
     alloc: Global,
     out: &mut Vec<u8>,
     name: &[u8],
     told: &Told,
+    added: &Additions,
 ) -> Result<(), AllocError>
-    ensures { OnOk result (out.new.items ≡ out.old.items ++ bottom_text name.now told.now) }
+    ensures { OnOk result (out.new.items ≡ out.old.items ++ bottom_text name.now told.now added.now) }
 {
     let when = when_output(alloc, name, &told.certification)?;
     add_outputs(
@@ -91,5 +98,6 @@ pub(crate) fn add_bottom(
         told.margins.as_slice(),
         told.warnings.as_slice(),
     )?;
+    add_ending(alloc, out, added.outputs.as_slice())?;
     Ok(())
 }

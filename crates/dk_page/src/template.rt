@@ -71,10 +71,15 @@ td.fill{width:24%;min-width:9rem}
 #by-when .bar i:nth-child(1){background:repeating-linear-gradient(135deg,var(--blue-soft) 0 4px,transparent 4px 8px);width:calc(var(--c5)/var(--c3)*100%)}
 #by-when .bar i:nth-child(2){background:var(--blue);left:calc((var(--c5) - 1)/var(--c3)*100%);width:calc((var(--c6) - var(--c5) + 1)/var(--c3)*100%)}
 #room .bar i:nth-child(1){background:var(--blue);width:calc(var(--c5)/var(--c7)*100%)}
-#certification :is(td,th):nth-child(n+4):nth-child(-n+11),#by-when :is(td,th):nth-child(n+3):nth-child(-n+8),#room :is(td,th):nth-child(n+5):nth-child(-n+10),#inputs :is(td,th):nth-child(3){text-align:right}
+#run .bar i:nth-child(1){background:var(--blue-soft);width:calc(var(--c10)/var(--c13)*100%)}
+#run .bar i:nth-child(2){background:var(--blue);width:calc(var(--c9)/var(--c13)*100%)}
+#certification :is(td,th):nth-child(n+4):nth-child(-n+11),#by-when :is(td,th):nth-child(n+3):nth-child(-n+8),#room :is(td,th):nth-child(n+5):nth-child(-n+10),#run :is(td,th):nth-child(n+3):nth-child(-n+20),#inputs :is(td,th):nth-child(3){text-align:right}
+#run :is(td,th):is(:nth-child(8),:nth-child(9),:nth-child(16),:nth-child(18),:nth-child(20)){display:none}
+.picture{overflow-x:auto}.picture svg{display:block;min-width:60rem}
 .legend{display:flex;flex-wrap:wrap;gap:.2rem 1rem;margin:.5rem 0 0;padding:0;list-style:none;font-size:.8rem;color:var(--soft)}
 .legend i{display:inline-block;width:14px;height:11px;margin-right:.35em;vertical-align:-1px;box-shadow:inset 0 0 0 1px var(--line)}
 .legend .demand,.legend .work,.legend .now{background:var(--blue)}
+.legend .most{background:var(--blue-soft)}
 .legend .blocking{background:repeating-linear-gradient(45deg,var(--amber) 0 5px,var(--warn-soft) 5px 9px)}
 .legend .wait{background:repeating-linear-gradient(135deg,var(--blue-soft) 0 4px,transparent 4px 8px)}
 .legend .limit{background:var(--alert);width:3px;box-shadow:none}
@@ -101,7 +106,7 @@ table{font-size:8.6pt}th,td{padding:.18rem .45rem}
 details{border:0;background:none}details>pre{border:1px solid var(--line)}pre{white-space:pre-wrap;font-size:7.2pt}
 details::details-content{content-visibility:visible;display:block;height:auto;block-size:auto}
 summary{list-style:none;padding:.3rem 0;break-after:avoid}
-.scroll{overflow:visible}}
+.scroll,.picture{overflow:visible}.picture svg{min-width:0}}
 </style>
 </head>
 <body>
@@ -230,10 +235,54 @@ pub(crate) const FAULTS: &str = "<section id=\"faults\" aria-labelledby=\"faults
 <pre tabindex=\"0\">
 ";
 
+/// The tile of a ledger that passed.
+pub(crate) const PASSED_TILE: &str =
+    "<li class=\"tile good\"><span class=\"what\">Audit</span><b>passed</b><span>this ledger follows the rules</span></li>
+";
+
+/// The tile of a ledger that didn't.
+pub(crate) const FAILED_TILE: &str =
+    "<li class=\"tile bad\"><span class=\"what\">Audit</span><b>not passed</b><span>this ledger breaks a rule</span></li>
+";
+
+/// What stands before what the audit finds.
+pub(crate) const AUDIT: &str = "<section id=\"audit\" aria-labelledby=\"audit-title\">
+<div class=\"head\"><h2 id=\"audit-title\">Audit</h2><span class=\"scope one\">of this ledger</span></div>
+<p class=\"why\">Whether the ledger follows the rules for this configuration, whatever the programs were. One that passes keeps what is promised above: each thread had its whole budget in each window in which it neither waited nor was stopped, nobody went past a budget but on slack, and slack came only where it fitted.</p>
+<pre tabindex=\"0\">
+";
+
+/// What stands before the picture.
+pub(crate) const PICTURE: &str = "<section id=\"picture\" aria-labelledby=\"picture-title\">
+<div class=\"head\"><h2 id=\"picture-title\">Picture</h2><span class=\"scope one\">of this ledger</span></div>
+<p class=\"why\">A row is a thread, and a bar a line of the ledger. Point at a bar, a mark or a window, and it tells its line.</p>
+<div class=\"picture\">
+";
+
+/// What stands behind it.
+pub(crate) const PICTURE_END: &str = "</div>
+</section>
+";
+
+/// What stands before what each thread did in its windows.
+pub(crate) const RUN: &str = "<section id=\"run\" aria-labelledby=\"run-title\">
+<div class=\"head\"><h2 id=\"run-title\">Use of windows</h2><span class=\"scope one\">of this ledger</span></div>
+<p class=\"why\">What each thread did in its windows that have ended: in how many it waited, was stopped, or overran (it had ticks of its budget, and neither waited nor was stopped), the least and the most ticks of its budget in one, and the first and the last tick of a window with which it was done; then what befell its process. All times are ticks.</p>
+<div class=\"scroll\"><table><caption class=\"hidden\">What each thread did in its windows</caption>
+<thead><tr><th scope=\"col\">Process</th><th scope=\"col\">Thread</th><th scope=\"col\">Serial</th><th scope=\"col\">Windows</th><th scope=\"col\">Waited</th><th scope=\"col\">Stopped</th><th scope=\"col\">Overran</th><th scope=\"col\">First window</th><th scope=\"col\">First tick</th><th scope=\"col\">Used least</th><th scope=\"col\">Used most</th><th scope=\"col\">Done first</th><th scope=\"col\">Done last</th><th scope=\"col\">Budget</th><th scope=\"col\">Refused</th><th scope=\"col\">First refused</th><th scope=\"col\">Faults</th><th scope=\"col\">First fault</th><th scope=\"col\">Slack</th><th scope=\"col\">First slack</th><th class=\"fill\" aria-hidden=\"true\"></th></tr></thead>
+<tbody>
+";
+
+/// What stands behind that: what its bars show.
+pub(crate) const RUN_END: &str = "</tbody></table></div>
+<ul class=\"legend\" aria-hidden=\"true\"><li><i class=\"now\"></i>used least</li><li><i class=\"most\"></i>used most</li><li><i></i>budget</li></ul>
+</section>
+";
+
 /// What stands before the outputs: what the page says, and what not.
 pub(crate) const OUTPUTS: &str = "<section id=\"says\" aria-labelledby=\"says-title\">
 <div class=\"head\"><h2 id=\"says-title\">What this page says, and what not</h2><span class=\"scope given\">scope</span></div>
-<p class=\"why\">The parts marked “holds for every run” are proved of this configuration, with any programs. The parts marked “of the configuration” are exact for it, and say nothing of a run by themselves. The checksum tells of which file.</p>
+<p class=\"why\">The parts marked “holds for every run” are proved of this configuration, with any programs. The parts marked “of the configuration” are exact for it, and say nothing of a run by themselves. The parts marked “of this ledger” are exact for the ledger with the checksum above, and say nothing of another run. The checksums tell of which files.</p>
 <p class=\"why\">deosk is a model of a time-partitioned kernel on a small simulated processor. Nothing here is a statement about real hardware, wall-clock time or the real system. What a tick is in the real system, and whether the budgets are enough for its work, is for this review to decide.</p>
 </section>
 <section id=\"outputs\" aria-labelledby=\"outputs-title\">

@@ -1,4 +1,6 @@
-//! What commands tell of a configuration.
+//! What commands tell of a configuration and of a ledger.
+
+use std::alloc::Global;
 
 /// Whether a configuration is certified.
 #[derive(Drop)]
@@ -20,4 +22,32 @@ pub struct Told {
     pub warnings: Vec<u8>,
     /// How many warnings there are.
     pub count: usize,
+}
+
+/// What a ledger adds to a page: its tile, its row among the files, its sections, and outputs.
+#[derive(Drop)]
+pub struct Additions {
+    pub tile: Vec<u8>,
+    pub file: Vec<u8>,
+    pub sections: Vec<u8>,
+    pub outputs: Vec<u8>,
+}
+
+impl Additions {
+    ghost use Rattle.std.specs.Prelude.{◌≡◌, []};
+
+    /// Nothing, where there is no ledger.
+    pub fn none(alloc: Global) -> Additions
+        ensures tile { result.tile.items ≡ [] }
+        ensures file { result.file.items ≡ [] }
+        ensures sections { result.sections.items ≡ [] }
+        ensures outputs { result.outputs.items ≡ [] }
+    {
+        Additions {
+            tile: Vec::new(alloc),
+            file: Vec::new(alloc),
+            sections: Vec::new(alloc),
+            outputs: Vec::new(alloc),
+        }
+    }
 }

@@ -1,11 +1,18 @@
-//! The title, the verdicts and the file.
+//! The title, the verdicts and the files.
 ghost use Rattle.std.specs.Prelude.{◌≡◌, ◌++◌, OnOk};
 ghost use Rattle.dk_page.specs.Pages.{certification_tile, failing_tile, inputs, title, tone, top_text, warnings_tile};
 
 use crate::template::{CERTIFIED_TILE, HEAD, INPUTS, STYLE, TABLE_END, TILES};
-use crate::told::{Certification, Told};
+use crate::told::{Additions, Certification, Told};
 use dk_html::{Part, add_parts};
 use std::alloc::{AllocError, Global};
+
+/// Adds bytes that were made for the page.
+pub(crate) fn add_made(out: &mut Vec<u8>, bytes: &[u8]) -> Result<(), AllocError>
+    ensures { OnOk result (out.new.items ≡ out.old.items ++ bytes.now) }
+{
+    out.extend_from_slice(bytes)
+}
 
 /// Adds words of the page.
 pub(crate) fn add_words(out: &mut Vec<u8>, words: &str) -> Result<(), AllocError>
@@ -96,8 +103,9 @@ fn add_inputs<'x>(
     out: &mut Vec<u8>,
     name: &'x [u8],
     document: &'x [u8],
+    files: &'x [u8],
 ) -> Result<(), AllocError>
-    ensures { OnOk result (out.new.items ≡ out.old.items ++ inputs name.now document.now) }
+    ensures { OnOk result (out.new.items ≡ out.old.items ++ inputs name.now document.now files.now) }
 {
     let parts = [
         Part::Words(INPUTS),
@@ -106,24 +114,27 @@ fn add_inputs<'x>(
             name,
             bytes: document,
         },
+        Part::Made(files),
         Part::Words(TABLE_END),
     ];
     add_parts(alloc, out, &parts)
 }
 
-/// Adds the title, the verdicts and the file.
+/// Adds the title, the verdicts and the files.
 pub(crate) fn add_top(
     alloc: Global,
     out: &mut Vec<u8>,
     name: &[u8],
     document: &[u8],
     told: &Told,
+    added: &Additions,
 ) -> Result<(), AllocError>
-    ensures { OnOk result (out.new.items ≡ out.old.items ++ top_text name.now document.now told.now) }
+    ensures { OnOk result (out.new.items ≡ out.old.items ++ top_text name.now document.now told.now added.now) }
 {
     add_title(alloc, out, name)?;
     add_certification_tile(alloc, out, &told.certification)?;
     add_warnings_tile(alloc, out, tone(told.count), told.count)?;
-    add_inputs(alloc, out, name, document)?;
+    add_made(out, added.tile.as_slice())?;
+    add_inputs(alloc, out, name, document, added.file.as_slice())?;
     Ok(())
 }

@@ -5,7 +5,7 @@ ghost use Rattle.dk_page.specs.Pages.{faults_text, faulty, page_text};
 use crate::findings::add_findings;
 use crate::outputs::add_bottom;
 use crate::template::{ENDING, FAULTS, FAULTS_TILE, INPUTS, OUTPUTS, TABLE_END, TEXT_END};
-use crate::told::Told;
+use crate::told::{Additions, Told};
 use crate::top::{add_title, add_top};
 use dk_html::{Part, add_parts};
 use std::alloc::{AllocError, Global};
@@ -16,22 +16,29 @@ fn add_page(
     name: &[u8],
     document: &[u8],
     told: &Told,
+    added: &Additions,
 ) -> Result<(), AllocError>
-    ensures { OnOk result (out.new.items ≡ out.old.items ++ page_text name.now document.now told.now) }
+    ensures { OnOk result (out.new.items ≡ out.old.items ++ page_text name.now document.now told.now added.now) }
 {
-    add_top(alloc, out, name, document, told)?;
-    add_findings(alloc, out, document, told)?;
-    add_bottom(alloc, out, name, told)?;
+    add_top(alloc, out, name, document, told, added)?;
+    add_findings(alloc, out, document, told, added)?;
+    add_bottom(alloc, out, name, told, added)?;
     Ok(())
 }
 
-/// The page of a configuration, certified or not. The name is that of its file as it was given, and
+/// The page of a configuration, certified or not, with what a ledger adds. The name is that of its file as it was given, and
 /// the document what the file holds. `Err` is want of memory.
-pub fn page(alloc: Global, name: &str, document: &[u8], told: &Told) -> Result<Vec<u8>, AllocError>
-    ensures { IfOk result (λ v. v.items ≡ page_text name.now document.now told.now) }
+pub fn page(
+    alloc: Global,
+    name: &str,
+    document: &[u8],
+    told: &Told,
+    added: &Additions,
+) -> Result<Vec<u8>, AllocError>
+    ensures { IfOk result (λ v. v.items ≡ page_text name.now document.now told.now added.now) }
 {
     let mut out = Vec::new(alloc);
-    add_page(alloc, &mut out, name.as_bytes(), document, told)?;
+    add_page(alloc, &mut out, name.as_bytes(), document, told, added)?;
     Ok(out)
 }
 

@@ -1,27 +1,68 @@
 -- A file that was read up to one byte more than it may have.
-use Rattle.std.proofs.Common.{◌≤◌, ◌+◌, ℕ, List, inl, inr, length, take, arith, subst}
+use Rattle.std.proofs.Common.{◌≡◌, ◌≤◌, ◌+◌, ℕ, List, inl, inr, length, take, arith, subst}
 use Rattle.std.proofs.lemmas.List.{length-take, take_all}
 use Rattle.std.specs.Prelude.{IfOk, IfSome, Option, Some, None, Result, Ok, Err}
-use Rattle.dk_config.specs.declared.TheConstants.{MAX_CONFIG_BYTES}
+use Rattle.dk_config.specs.declared.TheConstants.{MAX_CONFIG_BYTES, MAX_LEDGER_BYTES}
 use Rattle.dk_outside.specs.Files.{IsReading}
 use Rattle.dk_outside.specs.declared.depot.DepotError.{DepotError}
-use Rattle.dk_page_prog.specs.Answers.{IsOfDocument, IsOfFile, IsOfName}
+use Rattle.dk_page_prog.specs.Answers.{IsLongConfig, IsLongLedger, IsOfBoth, IsOfDocument, IsOfFile, IsOfFiles, IsOfLedger, IsOfName, IsOfNames, IsWithLedger, IsWithin}
 use Rattle.dk_page_prog.specs.declared.answers.Answer.{Answer}
 
 -- what its beginning comes to is what it comes to
-of_whole : (name file : List ℕ) (a : Answer) → IsOfFile name (take (MAX_CONFIG_BYTES + 1) file) a → IsOfFile name file a
-of_whole name file a (inl long) =
-    let counted = length-take (MAX_CONFIG_BYTES + 1) file in
+of_whole : (most : ℕ) (Long : Type 0) (Short : List ℕ → Type 0) (file : List ℕ)
+    → IsWithin most Long Short (take (most + 1) file) → IsWithin most Long Short file
+of_whole most Long Short file (inl long) =
+    let counted = length-take (most + 1) file in
     inl ((let more = long.0 in omega (arith, counted, more)), long.1)
-of_whole name file a (inr short) =
-    let counted = length-take (MAX_CONFIG_BYTES + 1) file in
-    let few : length file ≤ MAX_CONFIG_BYTES = (let less = short.0 in omega (arith, counted, less)) in
-    inr (few, subst (λ document. IsOfDocument name document a) (take_all (MAX_CONFIG_BYTES + 1) file (omega (arith, few))) short.1)
+of_whole most Long Short file (inr short) =
+    let counted = length-take (most + 1) file in
+    let few : length file ≤ most = (let less = short.0 in omega (arith, counted, less)) in
+    inr (few, subst Short (take_all (most + 1) file (omega (arith, few))) short.1)
 
 -- and so is it of the file of a name
 pub of_named : (files : Option (List ℕ → Option (List ℕ))) (name bytes : List ℕ) (result : Result Answer DepotError)
-    → IfSome files (λ at. IsReading at name MAX_CONFIG_BYTES bytes) → IfOk result (IsOfFile name bytes)
+    → IfSome files (λ at. IsReading at name MAX_CONFIG_BYTES bytes) → IfOk result (λ a. IsOfFile name a bytes)
     → IfSome files (λ at. IfOk result (IsOfName at name))
 of_named None name bytes result held is = tt
-of_named (Some at) name bytes (Ok a) held is = (held.0, held.1, of_whole name held.0 a (subst (λ b. IsOfFile name b a) held.2 is))
+of_named (Some at) name bytes (Ok a) held is = (
+  held.0,
+  held.1,
+  of_whole MAX_CONFIG_BYTES (IsLongConfig a) (λ d. IsOfDocument name d a) held.0 (subst (λ b. IsOfFile name a b) held.2 is),
+)
 of_named (Some at) name bytes (Err e) held is = tt
+
+-- of that of a ledger beside a document
+ledger_whole : (name ledger document file : List ℕ) (a : Answer)
+    → IsOfFiles name ledger a document (take (MAX_LEDGER_BYTES + 1) file) → IsOfFiles name ledger a document file
+ledger_whole name ledger document file a (inl long) = inl long
+ledger_whole name ledger document file a (inr short) =
+    inr (short.0, of_whole MAX_LEDGER_BYTES (IsLongLedger a) (λ b. IsOfBoth name document ledger b a) file short.1)
+
+pub of_ledger_named : (files : Option (List ℕ → Option (List ℕ))) (name ledger document bytes : List ℕ)
+    (result : Result Answer DepotError) → IfSome files (λ at. IsReading at ledger MAX_LEDGER_BYTES bytes)
+    → IfOk result (λ a. IsOfFiles name ledger a document bytes)
+    → IfSome files (λ at. IfOk result (λ a. IsWithLedger at name ledger a document))
+of_ledger_named None name ledger document bytes result held is = tt
+of_ledger_named (Some at) name ledger document bytes (Ok a) held is =
+    (held.0, held.1, ledger_whole name ledger document held.0 a (subst (λ b. IsOfFiles name ledger a document b) held.2 is))
+of_ledger_named (Some at) name ledger document bytes (Err e) held is = tt
+
+-- and of that of a document beside a ledger
+pub of_both_named : (files : Option (List ℕ → Option (List ℕ))) (name ledger document : List ℕ) (result : Result Answer DepotError)
+    → IfSome files (λ at. IsReading at name MAX_CONFIG_BYTES document)
+    → IfSome files (λ at. IfOk result (λ a. IsWithLedger at name ledger a document))
+    → IfSome files (λ at. IfOk result (IsOfNames at name ledger))
+of_both_named None name ledger document result held is = tt
+of_both_named (Some at) name ledger document (Ok a) held is = (
+  held.0,
+  held.1,
+  is.0,
+  is.1,
+  of_whole MAX_CONFIG_BYTES (IsLongConfig a) (λ d. IsOfLedger name d ledger a is.0) held.0
+      (subst (λ d. IsOfFiles name ledger a d is.0) held.2 is.2),
+)
+of_both_named (Some at) name ledger document (Err e) held is = tt
+
+pub wider : {E : Type 0} (P Q : Answer → Type 0) (r : Result Answer E) → ((a : Answer) → P a → Q a) → IfOk r P → IfOk r Q
+wider P Q (Ok a) all is = all a is
+wider P Q (Err e) all is = tt

@@ -1,8 +1,9 @@
 -- What the words and the files come to.
-use Rattle.std.specs.Prelude.{ℕ, ◌≡◌, ◌<◌, ◌≤◌, ◌⊎◌, ◌==◌, ◌&&◌, not, Bool, false, length, List, [], ◌∷◌, Option, Some, None, if◌then◌else◌, codes}
+use Rattle.std.specs.Prelude.{ℕ, ◌≡◌, ◌<◌, ◌≤◌, ◌⊎◌, ◌==◌, ◌&&◌, not, Bool, false, length, List, [], ◌∷◌, ◌++◌, Option, Some, None, if◌then◌else◌, codes, decimal}
 use Rattle.std.specs.Str.{bytes_eq}
-use Rattle.dk_config.specs.declared.TheConstants.{MAX_CONFIG_BYTES}
-use Rattle.dk_review.specs.Reviews.{IsReview}
+use Rattle.dk_config.specs.declared.TheConstants.{MAX_CONFIG_BYTES, MAX_LEDGER_BYTES}
+use Rattle.dk_ledger.specs.Readable.{IsNoText, IsWrongLine}
+use Rattle.dk_review.specs.Reviews.{IsOfOther, IsReview, IsReviewWith}
 use Rattle.dk_review.specs.declared.reviewing.Ending.{Ending}
 use Rattle.dk_review.specs.declared.reviewing.Review.{Review}
 use Rattle.dk_page_prog.specs.declared.answers.Answer.{Answer}
@@ -16,54 +17,116 @@ status_number (status.Answered answered.Done) = 0
 status_number (status.Answered answered.Usage) = 1
 status_number (status.Answered answered.Config) = 2
 status_number (status.Answered answered.Uncertified) = 3
+status_number (status.Answered answered.Ledger) = 4
 status_number status.DepotFault = 5
 status_number status.SinkFault = 6
 status_number status.NoMemory = 7
 
 abbrev pub ended_of : Ending → Answered
 ended_of Ending.Certified = answered.Done
+ended_of Ending.Unruly = answered.Ledger
 ended_of Ending.Uncertified = answered.Uncertified
 ended_of Ending.Refused = answered.Config
 
--- the page of the document, and what the review comes to
-pub record IsOfDocument (name document : List ℕ) (a : Answer) : Type 0 where
+-- a page of which this is so, and what the review comes to
+pub record IsOfReview (Holds : Review → Type 0) (a : Answer) : Type 0 where
   pub review : Review
-  pub is : IsReview name document review
+  pub is : Holds review
   pub bytes : a.bytes.items ≡ review.bytes.items
   pub ends : a.ended ≡ ended_of review.ending
+
+-- the page of the document
+abbrev pub IsOfDocument : List ℕ → List ℕ → Answer → Type 0
+IsOfDocument name document a = IsOfReview (IsReview name document) a
 
 -- this text, and this end
 abbrev pub Says : List ℕ → Answered → Answer → Type 0
 Says text ended a = (a.bytes.items ≡ text) × (a.ended ≡ ended)
 
+-- the one where a file has more bytes than it may have, and else the other of them
+abbrev pub IsWithin : ℕ → Type 0 → (List ℕ → Type 0) → List ℕ → Type 0
+IsWithin most Long Short file = ((most < length file) × Long) ⊎ ((length file ≤ most) × Short file)
+
+abbrev pub IsLongConfig : Answer → Type 0
+IsLongConfig a = Says (codes "config: longer than 65536 bytes\n") answered.Config a
+
+abbrev pub IsLongLedger : Answer → Type 0
+IsLongLedger a = Says (codes "ledger: longer than 1073741824 bytes\n") answered.Ledger a
+
 -- what a file comes to that was read up to one byte more than it may have
-abbrev pub IsOfFile : List ℕ → List ℕ → Answer → Type 0
-IsOfFile name document a =
-    ((MAX_CONFIG_BYTES < length document) × Says (codes "config: longer than 65536 bytes\n") answered.Config a)
-    ⊎ ((length document ≤ MAX_CONFIG_BYTES) × IsOfDocument name document a)
+abbrev pub IsOfFile : List ℕ → Answer → List ℕ → Type 0
+IsOfFile name a document = IsWithin MAX_CONFIG_BYTES (IsLongConfig a) (λ d. IsOfDocument name d a) document
 
 -- what the file of this name comes to
 abbrev pub IsOfName : (List ℕ → Option (List ℕ)) → List ℕ → Answer → Type 0
-IsOfName at name a = (document : List ℕ) × (at name ≡ Some document) × IsOfFile name document a
+IsOfName at name a = (document : List ℕ) × (at name ≡ Some document) × IsOfFile name a document
+
+-- the first line by which the bytes are no ledger
+abbrev pub line_text : ℕ → List ℕ
+line_text n = codes "ledger: line " ++ (decimal n ++ codes "\n")
+
+abbrev pub IsWrong : List ℕ → Answer → Type 0
+IsWrong bytes a = (n : ℕ) × IsWrongLine n bytes × IsNoText bytes × Says (line_text n) answered.Ledger a
+
+abbrev pub IsOther : List ℕ → List ℕ → Answer → Type 0
+IsOther document bytes a = IsOfOther document bytes × Says (codes "ledger: of another configuration\n") answered.Ledger a
+
+-- the page of the document and the ledger, or why there is none: the bytes are no ledger, or one of another configuration
+abbrev pub IsOfBoth : List ℕ → List ℕ → List ℕ → List ℕ → Answer → Type 0
+IsOfBoth name document ledger bytes a =
+    IsOfReview (IsReviewWith name document ledger bytes) a ⊎ (IsWrong bytes a ⊎ IsOther document bytes a)
+
+abbrev pub IsOfLedger : List ℕ → List ℕ → List ℕ → Answer → List ℕ → Type 0
+IsOfLedger name document ledger a bytes =
+    IsWithin MAX_LEDGER_BYTES (IsLongLedger a) (λ b. IsOfBoth name document ledger b a) bytes
+
+-- what two files come to that were read so
+abbrev pub IsOfFiles : List ℕ → List ℕ → Answer → List ℕ → List ℕ → Type 0
+IsOfFiles name ledger a document bytes =
+    IsWithin MAX_CONFIG_BYTES (IsLongConfig a) (λ d. IsOfLedger name d ledger a bytes) document
+
+-- what the document and the file of the ledger come to
+abbrev pub IsWithLedger : (List ℕ → Option (List ℕ)) → List ℕ → List ℕ → Answer → List ℕ → Type 0
+IsWithLedger at name ledger a document =
+    (bytes : List ℕ) × (at ledger ≡ Some bytes) × IsOfFiles name ledger a document bytes
+
+-- what the files of these two names come to
+abbrev pub IsOfNames : (List ℕ → Option (List ℕ)) → List ℕ → List ℕ → Answer → Type 0
+IsOfNames at name ledger a = (document : List ℕ) × (at name ≡ Some document) × IsWithLedger at name ledger a document
 
 abbrev pub IsUsage : Answer → Type 0
-IsUsage a = Says (codes "usage: deosk-show page FILE\n") answered.Usage a
+IsUsage a = Says (codes "usage: deosk-show page FILE [LEDGER]\n") answered.Usage a
 
 -- a word that isn't empty, and doesn't begin as a flag does
 abbrev pub is_name : List ℕ → Bool
 is_name [] = false
 is_name (b ∷ rest) = not (b == 45)
 
+-- a page of the file of this name is asked for
+abbrev pub is_page : List ℕ → List ℕ → Bool
+is_page verb name = bytes_eq verb (codes "page") && is_name name
+
 -- the name of the file whose page the words ask for; the first word is the program's name, and isn't looked at
 abbrev pub asked : List (List ℕ) → Option (List ℕ)
-asked (me ∷ verb ∷ name ∷ []) = if bytes_eq verb (codes "page") && is_name name then Some name else None
+asked (me ∷ verb ∷ name ∷ []) = if is_page verb name then Some name else None
+asked (me ∷ verb ∷ name ∷ ledger ∷ []) = if is_page verb name && is_name ledger then Some name else None
 asked _ = None
 
+-- the name of the ledger, where the words name one
+abbrev pub ledger_asked : List (List ℕ) → Option (List ℕ)
+ledger_asked (me ∷ verb ∷ name ∷ ledger ∷ []) = Some ledger
+ledger_asked _ = None
+
+-- the file of this name comes to this, alone or with that of a ledger
+abbrev pub IsAsked : (List ℕ → Option (List ℕ)) → List ℕ → Option (List ℕ) → Answer → Type 0
+IsAsked at name (Some ledger) a = IsOfNames at name ledger a
+IsAsked at name None a = IsOfName at name a
+
 -- what is asked for comes to this: the page of the file of this name, or the usage line
-abbrev pub IsAnswerTo : (List ℕ → Option (List ℕ)) → Option (List ℕ) → Answer → Type 0
-IsAnswerTo at (Some name) a = IsOfName at name a
-IsAnswerTo at None a = IsUsage a
+abbrev pub IsAnswerTo : (List ℕ → Option (List ℕ)) → Option (List ℕ) → Option (List ℕ) → Answer → Type 0
+IsAnswerTo at (Some name) ledger a = IsAsked at name ledger a
+IsAnswerTo at None ledger a = IsUsage a
 
 -- what the words come to
 abbrev pub IsAnswered : List (List ℕ) → (List ℕ → Option (List ℕ)) → Answer → Type 0
-IsAnswered words at a = IsAnswerTo at (asked words) a
+IsAnswered words at a = IsAnswerTo at (asked words) (ledger_asked words) a

@@ -1,15 +1,15 @@
-//! What the words and the file come to: what is written, and the status once it is.
-ghost use Rattle.std.specs.Prelude.{◌≡◌, ◌≢◌, ◌≤◌, ◌<◌, ◌^◌, IfOk, IfSome, IsErrOf, Err, length, map, option_map, string_bytes};
+//! What the words and the files come to: what is written, and the status once it is.
+ghost use Rattle.std.specs.Prelude.{◌≡◌, ◌≢◌, ◌≤◌, ◌<◌, ◌+◌, ◌^◌, IfOk, IfSome, IsErrOf, Err, length, map, option_map, string_bytes};
 ghost use Rattle.dk_config.specs.declared.TheConstants.{MAX_CONFIG_BYTES};
 ghost use Rattle.dk_outside.specs.Counts.{Rises};
 ghost use Rattle.dk_outside.specs.declared.depot.DepotError.{DepotError};
-ghost use Rattle.dk_page_prog.specs.Answers.{IsAnswerTo, IsAnswered, IsOfDocument, IsOfFile, IsOfName, Says, asked, ended_of, is_name};
+ghost use Rattle.dk_page_prog.specs.Answers.{IsAnswerTo, IsAnswered, IsAsked, IsOfBoth, IsOfDocument, IsOfFile, IsOfFiles, IsOfLedger, IsOfName, IsOfNames, IsWithLedger, Says, asked, ended_of, is_name, is_page, ledger_asked, line_text};
 
 use crate::status::Answered;
-use dk_config::MAX_CONFIG_BYTES;
+use dk_config::{MAX_CONFIG_BYTES, MAX_LEDGER_BYTES};
 use dk_outside::{Depot, DepotError};
-use dk_review::{Ending, review_of};
-use std::alloc::Global;
+use dk_review::{Ending, RunFault, review_of, review_with};
+use std::alloc::{AllocError, Global};
 
 /// What is written, and what the call came to once it is.
 #[derive(Drop)]
@@ -23,6 +23,7 @@ fn ended_of(ending: Ending) -> Answered
 {
     match ending {
         Ending::Certified => Answered::Done,
+        Ending::Unruly => Answered::Ledger,
         Ending::Uncertified => Answered::Uncertified,
         Ending::Refused => Answered::Config,
     }
@@ -52,7 +53,7 @@ fn of_document(alloc: Global, name: &str, document: &[u8]) -> Result<Answer, Dep
 }
 
 fn of_file(alloc: Global, name: &str, document: &[u8]) -> Result<Answer, DepotError>
-    ensures is { IfOk result (IsOfFile name.now document.now) }
+    ensures is { IfOk result (λ a. IsOfFile name.now a document.now) }
     ensures memory { result ≢ Err DepotError.Failed }
 {
     if document.len() > MAX_CONFIG_BYTES as usize {
@@ -73,6 +74,123 @@ fn of_name<D: Depot>(alloc: Global, name: &str, depot: &mut D) -> Result<Answer,
     of_file(alloc, name, document.as_slice())
 }
 
+fn line_text(alloc: Global, line: u32) -> Result<String, AllocError>
+    ensures { IfOk result (λ s. string_bytes s ≡ line_text line) }
+{
+    format!(in alloc; "ledger: line {line}\n")
+}
+
+fn line_answer(alloc: Global, line: u32) -> Result<Answer, DepotError>
+    ensures is { IfOk result (Says (line_text line) Answered.Ledger) }
+    ensures memory { result ≢ Err DepotError.Failed }
+{
+    let bytes = line_text(alloc, line)?.into_bytes();
+    let ended = Answered::Ledger;
+    Ok(Answer { bytes, ended })
+}
+
+/// The page of a document and a ledger that aren't too long, or why there is none.
+fn of_both(
+    alloc: Global,
+    name: &str,
+    document: &[u8],
+    ledger: &str,
+    bytes: &[u8],
+) -> Result<Answer, DepotError>
+    requires { length document.now ≤ MAX_CONFIG_BYTES }
+    ensures is { IfOk result (IsOfBoth name.now document.now ledger.now bytes.now) }
+    ensures memory { result ≢ Err DepotError.Failed }
+{
+    match review_with(alloc, name, document, ledger, bytes) {
+        Ok(review) => Ok(Answer {
+            bytes: review.bytes,
+            ended: ended_of(review.ending),
+        }),
+        Err(RunFault::Line(line)) => line_answer(alloc, line),
+        Err(RunFault::Other) => {
+            words_answer(
+                alloc,
+                "ledger: of another configuration\n",
+                Answered::Ledger,
+            )
+        }
+        Err(RunFault::NoMemory) => Err(DepotError::NoMemory),
+    }
+}
+
+fn of_ledger(
+    alloc: Global,
+    name: &str,
+    document: &[u8],
+    ledger: &str,
+    bytes: &[u8],
+) -> Result<Answer, DepotError>
+    requires { length document.now ≤ MAX_CONFIG_BYTES }
+    ensures is { IfOk result (λ a. IsOfLedger name.now document.now ledger.now a bytes.now) }
+    ensures memory { result ≢ Err DepotError.Failed }
+{
+    if bytes.len() > MAX_LEDGER_BYTES as usize {
+        words_answer(
+            alloc,
+            "ledger: longer than 1073741824 bytes\n",
+            Answered::Ledger,
+        )
+    } else {
+        of_both(alloc, name, document, ledger, bytes)
+    }
+}
+
+fn of_files(
+    alloc: Global,
+    name: &str,
+    document: &[u8],
+    ledger: &str,
+    bytes: &[u8],
+) -> Result<Answer, DepotError>
+    ensures is { IfOk result (λ a. IsOfFiles name.now ledger.now a document.now bytes.now) }
+    ensures memory { result ≢ Err DepotError.Failed }
+{
+    if document.len() > MAX_CONFIG_BYTES as usize {
+        words_answer(alloc, "config: longer than 65536 bytes\n", Answered::Config)
+    } else {
+        of_ledger(alloc, name, document, ledger, bytes)
+    }
+}
+
+/// What the document, and the ledger in the file of the other name, come to.
+fn with_ledger<D: Depot>(
+    alloc: Global,
+    name: &str,
+    document: &[u8],
+    ledger: &str,
+    depot: &mut D,
+) -> Result<Answer, DepotError>
+    requires { (D.seen depot.old).given < 2 ^ 63 }
+    ensures is { IfSome (D.seen depot.old).files (λ at. IfOk result (λ a. IsWithLedger at name.now ledger.now a document.now)) }
+    ensures cause { IsErrOf result DepotError.Failed → Rises (D.seen depot.old).faults (D.seen depot.new).faults }
+    ensures stays { result ≢ Err DepotError.Failed → (D.seen depot.new).faults ≡ (D.seen depot.old).faults }
+    ensures same { (D.seen depot.new).files ≡ (D.seen depot.old).files }
+{
+    let bytes = depot.read(alloc, ledger, MAX_LEDGER_BYTES)?;
+    of_files(alloc, name, document, ledger, bytes.as_slice())
+}
+
+fn of_names<D: Depot>(
+    alloc: Global,
+    name: &str,
+    ledger: &str,
+    depot: &mut D,
+) -> Result<Answer, DepotError>
+    requires { (D.seen depot.old).given < 2 ^ 62 }
+    ensures is { IfSome (D.seen depot.old).files (λ at. IfOk result (IsOfNames at name.now ledger.now)) }
+    ensures cause { IsErrOf result DepotError.Failed → Rises (D.seen depot.old).faults (D.seen depot.new).faults }
+    ensures stays { result ≢ Err DepotError.Failed → (D.seen depot.new).faults ≡ (D.seen depot.old).faults }
+    ensures same { (D.seen depot.new).files ≡ (D.seen depot.old).files }
+{
+    let document = depot.read(alloc, name, MAX_CONFIG_BYTES)?;
+    with_ledger(alloc, name, document.as_slice(), ledger, depot)
+}
+
 /// Whether the word isn't empty, and doesn't begin as a flag does.
 fn is_name(word: &[u8]) -> bool
     ensures { result ≡ is_name word.now }
@@ -83,15 +201,52 @@ fn is_name(word: &[u8]) -> bool
     }
 }
 
+fn is_page(verb: &str, name: &str) -> bool
+    ensures { result ≡ is_page verb.now name.now }
+{
+    verb == "page" && is_name(name.as_bytes())
+}
+
 /// The name of the file whose page the words ask for.
 fn asked(words: &[String]) -> Option<&str>
     ensures { option_map (λ n. n.now) result ≡ asked (map string_bytes words.now) }
 {
     match words {
-        [_, verb, name] if verb.as_str() == "page" && is_name(name.as_bytes()) => {
+        [_, verb, name] if is_page(verb.as_str(), name.as_str()) => Some(name.as_str()),
+        [_, verb, name, ledger]
+            if is_page(verb.as_str(), name.as_str()) && is_name(ledger.as_bytes()) => {
             Some(name.as_str())
         }
         _ => None,
+    }
+}
+
+/// The name of the ledger, where a page is asked for and the words name one.
+fn ledger_asked(words: &[String]) -> Option<&str>
+    ensures { option_map (λ n. n.now) result ≡ ledger_asked (map string_bytes words.now) }
+{
+    match words {
+        [_, _, _, ledger] => Some(ledger.as_str()),
+        _ => None,
+    }
+}
+
+/// What the file of this name comes to, alone or with that of a ledger.
+fn of_asked<D: Depot>(
+    alloc: Global,
+    name: &str,
+    ledger: Option<&str>,
+    depot: &mut D,
+) -> Result<Answer, DepotError>
+    requires { (D.seen depot.old).given < 2 ^ 62 }
+    ensures is { IfSome (D.seen depot.old).files (λ at. IfOk result (IsAsked at name.now (option_map (λ n. n.now) ledger.entry))) }
+    ensures cause { IsErrOf result DepotError.Failed → Rises (D.seen depot.old).faults (D.seen depot.new).faults }
+    ensures stays { result ≢ Err DepotError.Failed → (D.seen depot.new).faults ≡ (D.seen depot.old).faults }
+    ensures same { (D.seen depot.new).files ≡ (D.seen depot.old).files }
+{
+    match ledger {
+        Some(ledger) => of_names(alloc, name, ledger, depot),
+        None => of_name(alloc, name, depot),
     }
 }
 
@@ -99,17 +254,23 @@ fn asked(words: &[String]) -> Option<&str>
 fn answer_of<D: Depot>(
     alloc: Global,
     name: Option<&str>,
+    ledger: Option<&str>,
     depot: &mut D,
 ) -> Result<Answer, DepotError>
     requires { (D.seen depot.old).given < 2 ^ 62 }
-    ensures is { IfSome (D.seen depot.old).files (λ at. IfOk result (IsAnswerTo at (option_map (λ n. n.now) name.entry))) }
+    ensures is { IfSome (D.seen depot.old).files (λ at. IfOk result
+        (IsAnswerTo at (option_map (λ n. n.now) name.entry) (option_map (λ n. n.now) ledger.entry))) }
     ensures cause { IsErrOf result DepotError.Failed → Rises (D.seen depot.old).faults (D.seen depot.new).faults }
     ensures stays { result ≢ Err DepotError.Failed → (D.seen depot.new).faults ≡ (D.seen depot.old).faults }
     ensures same { (D.seen depot.new).files ≡ (D.seen depot.old).files }
 {
     match name {
-        Some(name) => of_name(alloc, name, depot),
-        None => words_answer(alloc, "usage: deosk-show page FILE\n", Answered::Usage),
+        Some(name) => of_asked(alloc, name, ledger, depot),
+        None => words_answer(
+            alloc,
+            "usage: deosk-show page FILE [LEDGER]\n",
+            Answered::Usage,
+        ),
     }
 }
 
@@ -125,5 +286,5 @@ pub(crate) fn answer_to<D: Depot>(
     ensures stays { result ≢ Err DepotError.Failed → (D.seen depot.new).faults ≡ (D.seen depot.old).faults }
     ensures same { (D.seen depot.new).files ≡ (D.seen depot.old).files }
 {
-    answer_of(alloc, asked(words), depot)
+    answer_of(alloc, asked(words), ledger_asked(words), depot)
 }

@@ -1,9 +1,9 @@
 //! How a run of the program ends.
 
-/// What the words and the file came to.
+/// What the words and the files came to.
 #[derive(Clone, Copy)]
 pub enum Answered {
-    /// The page is that of a certified configuration.
+    /// The page is that of a certified configuration, and of a ledger that follows the rules, where one is named.
     Done,
     /// The words are no command.
     Usage,
@@ -11,6 +11,8 @@ pub enum Answered {
     Config,
     /// The configuration isn't certified.
     Uncertified,
+    /// The ledger breaks a rule, or is refused.
+    Ledger,
 }
 
 /// How a call of `deosk_page` ended. The numbers are those of deosk.
@@ -39,6 +41,7 @@ impl Status {
             Status::Answered(Answered::Usage) => 1,
             Status::Answered(Answered::Config) => 2,
             Status::Answered(Answered::Uncertified) => 3,
+            Status::Answered(Answered::Ledger) => 4,
             Status::DepotFault => 5,
             Status::SinkFault => 6,
             Status::NoMemory => 7,

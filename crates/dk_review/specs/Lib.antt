@@ -1,2 +1,3 @@
 pub mod Reviews
+pub mod Runs
 pub use Rattle.dk_config.specs.Checked

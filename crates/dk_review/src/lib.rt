@@ -1,7 +1,11 @@
-//! The page for the design review of the layout in a document, with all that is told of it.
+//! The page for the design review of the layout in a document, with all that is told of it, and of a ledger.
 #![tactic(auto)]
 
+mod drawing;
+mod fault;
 mod reviewing;
+mod running;
 mod telling;
 
-pub use reviewing::{Ending, Review, review_of};
+pub use fault::RunFault;
+pub use reviewing::{Ending, Review, review_of, review_with};

@@ -5,4 +5,4 @@ use Rattle.dk_page.proofs.top.add_top.Goals as goal
 pub returns : goal.returns
 unfolding top_text
 returns c =
-    simp (c.in_ok-add_inputs.ensures, c.in_ok-add_warnings_tile.ensures, c.tone.ensures, c.in_ok-add_certification_tile.ensures, c.in_ok-add_title.ensures, append_assoc) refl
+    simp (c.in_ok-add_inputs.ensures, c.as_slice-2.ensures.value, c.in_ok-add_made.ensures, c.as_slice.ensures.value, c.in_ok-add_warnings_tile.ensures, c.tone.ensures, c.in_ok-add_certification_tile.ensures, c.in_ok-add_title.ensures, append_assoc) refl

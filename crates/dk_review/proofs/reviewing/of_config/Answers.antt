@@ -2,9 +2,12 @@ use Rattle.dk_review.proofs.reviewing.of_config.Goals as goal
 
 pub returns : goal.returns
 returns c =
+    let none = c.none-none.ensures in
     record {
       told = c.in_ok-told.told;
+      added = c.none-none.result;
       is_told = c.in_ok-told.ensures;
+      alone = record { tile = none.tile; file = none.file; sections = none.sections; outputs = none.outputs };
       page = c.in_ok-bytes.ensures;
       ends = c.certified_ending-ending.ensures;
     }
