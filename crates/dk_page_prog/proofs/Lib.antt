@@ -1,2 +1,3 @@
 pub mod ExitLemmas
+pub mod Faults
 pub mod Reading

@@ -53,14 +53,10 @@ pub of_both_named : (files : Option (List ℕ → Option (List ℕ))) (name ledg
     → IfSome files (λ at. IfOk result (λ a. IsWithLedger at name ledger a document))
     → IfSome files (λ at. IfOk result (IsOfNames at name ledger))
 of_both_named None name ledger document result held is = tt
-of_both_named (Some at) name ledger document (Ok a) held is = (
-  held.0,
-  held.1,
-  is.0,
-  is.1,
-  of_whole MAX_CONFIG_BYTES (IsLongConfig a) (λ d. IsOfLedger name d ledger a is.0) held.0
-      (subst (λ d. IsOfFiles name ledger a d is.0) held.2 is.2),
-)
+of_both_named (Some at) name ledger document (Ok a) held is =
+    let bytes = is.0 in
+    let whole = of_whole MAX_CONFIG_BYTES (IsLongConfig a) (λ d. IsOfLedger name d ledger a bytes) held.0 (subst (λ d. IsOfFiles name ledger a d bytes) held.2 is.2) in
+    (held.0, held.1, (bytes, is.1, whole))
 of_both_named (Some at) name ledger document (Err e) held is = tt
 
 pub wider : {E : Type 0} (P Q : Answer → Type 0) (r : Result Answer E) → ((a : Answer) → P a → Q a) → IfOk r P → IfOk r Q

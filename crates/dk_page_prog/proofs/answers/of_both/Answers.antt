@@ -1,5 +1,8 @@
 use Rattle.std.proofs.Common.{inl, inr, refl}
+use Rattle.dk_review.specs.Reviews.{IsOfOther}
+use Rattle.dk_review.specs.declared.fault.RunFault.TheVariants as why
 use Rattle.dk_page_prog.specs.Answers.{IsOfBoth}
+use Rattle.dk_page_prog.proofs.Faults.{fault_is}
 use Rattle.dk_page_prog.proofs.Reading.{wider}
 use Rattle.dk_page_prog.proofs.answers.of_both.Goals as goal
 
@@ -9,12 +12,17 @@ returns-in-Ok-clause-is c =
 
 pub returns-in-Err-Line-clause-is : goal.returns-in-Err-Line-clause-is
 returns-in-Err-Line-clause-is c =
-    let found = c.in-Err-Line.ensures.fault in
-    wider _ (IsOfBoth c.args.name.now c.args.document.now c.args.ledger.now c.args.bytes.now) c.line_answer.result
-    (λ a says. inr (inl (c.in-Err-Line.line, found.0, found.1, says))) c.line_answer.ensures.is
+    let n = c.in-Err-Line.line in
+    let document = c.args.document.now in
+    let bytes = c.args.bytes.now in
+    let found = fault_is (IsOfOther document bytes) bytes c.review_with.result c.in-Err-Line.field-0 (why.Line n) c.review_with.ensures.fault c.in-Err-Line.is c.in-Err-Line.field-0-is in
+    wider _ (IsOfBoth c.args.name.now document c.args.ledger.now bytes) c.line_answer.result
+    (λ a says. inr (inl (n, found.0, found.1, says))) c.line_answer.ensures.is
 
 pub returns-in-Err-Other-clause-is : goal.returns-in-Err-Other-clause-is
 returns-in-Err-Other-clause-is c =
-    let found = c.in-Err-Other.ensures.fault in
-    wider _ (IsOfBoth c.args.name.now c.args.document.now c.args.ledger.now c.args.bytes.now) c.words_answer.result
+    let document = c.args.document.now in
+    let bytes = c.args.bytes.now in
+    let found = fault_is (IsOfOther document bytes) bytes c.review_with.result c.in-Err-Other.field-0 why.Other c.review_with.ensures.fault c.in-Err-Other.is c.in-Err-Other.field-0-is in
+    wider _ (IsOfBoth c.args.name.now document c.args.ledger.now bytes) c.words_answer.result
     (λ a says. inr (inr (found, says))) c.words_answer.ensures.is
