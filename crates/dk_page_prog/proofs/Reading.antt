@@ -1,5 +1,5 @@
 -- A file that was read up to one byte more than it may have.
-use Rattle.std.proofs.Common.{◌≡◌, ◌≤◌, ◌+◌, ℕ, List, inl, inr, length, take, arith, subst}
+use Rattle.std.proofs.Common.{◌≤◌, ◌+◌, ℕ, List, inl, inr, length, take, arith, subst}
 use Rattle.std.proofs.lemmas.List.{length-take, take_all}
 use Rattle.std.specs.Prelude.{IfOk, IfSome, Option, Some, None, Result, Ok, Err}
 use Rattle.dk_config.specs.declared.TheConstants.{MAX_CONFIG_BYTES, MAX_LEDGER_BYTES}
