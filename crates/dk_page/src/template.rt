@@ -75,6 +75,7 @@ td.fill{width:24%;min-width:9rem}
 #run .bar i:nth-child(2){background:var(--blue);width:calc(var(--c9)/var(--c13)*100%)}
 #certification :is(td,th):nth-child(n+4):nth-child(-n+11),#by-when :is(td,th):nth-child(n+3):nth-child(-n+8),#room :is(td,th):nth-child(n+5):nth-child(-n+10),#run :is(td,th):nth-child(n+3):nth-child(-n+20),#inputs :is(td,th):nth-child(3){text-align:right}
 #run :is(td,th):is(:nth-child(8),:nth-child(9),:nth-child(16),:nth-child(18),:nth-child(20)){display:none}
+#run :is(td,th){padding-left:.35rem;padding-right:.35rem}
 .picture{overflow-x:auto}.picture svg{display:block;min-width:60rem}
 .legend{display:flex;flex-wrap:wrap;gap:.2rem 1rem;margin:.5rem 0 0;padding:0;list-style:none;font-size:.8rem;color:var(--soft)}
 .legend i{display:inline-block;width:14px;height:11px;margin-right:.35em;vertical-align:-1px;box-shadow:inset 0 0 0 1px var(--line)}
