@@ -1,4 +1,4 @@
-# The word `pages` of deosk-show: pictures of a ledger one after another. Each is the proved program's own, of a range of
+# The word `pictures` of deosk-show: pictures of a ledger one after another. Each is the proved program's own, of a range of
 # ticks that is chosen here.
 
 # is_number WORD: a number as the program takes it
@@ -8,7 +8,7 @@ is_number() {
     esac
 }
 
-# ask_right WORDS: ends with the usage line where these words don't ask for pages
+# ask_right WORDS: ends with the usage line where these words don't ask for pictures
 ask_right() {
     why=
     case $# in
@@ -21,8 +21,8 @@ ask_right() {
     [ "${4-1}" != 0 ] || why=${why:-'a page of 0 ticks'}
     { [ -n "${2-x}" ] && [ -n "${3-x}" ]; } || why=${why:-'a word is empty'}
     [ -n "$why" ] || return 0
-    echo 'usage: deosk-show pages LEDGER PREFIX TICKS [FROM TO]'
-    say "pages: $why"
+    echo 'usage: deosk-show pictures LEDGER PREFIX TICKS [FROM TO]'
+    say "pictures: $why"
     exit 1
 }
 
@@ -48,9 +48,9 @@ draw() {
     written=
 }
 
-# pages WORDS: a picture for each so many ticks of the range, or of the whole ledger, with a line that tells its file and
+# pictures WORDS: a picture for each so many ticks of the range, or of the whole ledger, with a line that tells its file and
 # its range
-pages() {
+pictures() {
     ask_right "$@"
     ledger=$2 prefix=$3 ticks=$4 from=${5-0} number=1
     make_fresh
@@ -71,4 +71,4 @@ pages() {
 for word; do
     case $word in -h | --help | -o | --version) answer "$@" ;; esac
 done
-pages "$@"
+pictures "$@"
