@@ -64,7 +64,7 @@ _deosk_show_arguments() {
     impact:[3-9]:* | impact:[1-3][0-9]:*) _deosk_processes "${COMP_WORDS[first + 2]}" ;;
     chain:*:-*) COMPREPLY=($(compgen -W --ledger -- "$word")) ;;
     chain:[2-9]:* | chain:[1-3][0-9]:*) _deosk_processes "${COMP_WORDS[first + 1]}" ;;
-    svg:1:* | trace:1:* | vcd:1:* | csv:1:* | windows:1:* | holds:1:* | page:2:* | check:3:*) _deosk_files .txt ;;
+    svg:1:* | pictures:1:* | trace:1:* | vcd:1:* | csv:1:* | windows:1:* | holds:1:* | page:2:* | check:3:*) _deosk_files .txt ;;
     replay:1:*) _deosk_files .profile .csv ;;
     replay:3:*) _deosk_files .toml ;;
     *:1:* | holds:2:* | impact:2:* | check:2:*) _deosk_files .toml ;;
@@ -72,5 +72,5 @@ _deosk_show_arguments() {
 }
 
 _deosk_commands='certify run inspect plan harmonise migrate asm dis ledger audit gen'
-_deosk_show_commands='svg trace vcd csv windows holds faults certify margins when warnings page chain impact repeats check replay'
+_deosk_show_commands='svg pictures trace vcd csv windows holds faults certify margins when warnings page chain impact repeats check replay'
 complete -F _deosk deosk deosk-show try

@@ -471,6 +471,14 @@ cannot_write() {
     exit 6
 }
 
+# beside FILE: makes the file that is written, and takes the place of that one once it is whole
+beside() {
+    target=$(readlink -f -- "$1") && { [ ! -e "$target" ] || [ -f "$target" ]; } || cannot_write "$1"
+    written=$(dirname "$target")/.$me-$$
+    { true >"$written"; } 2>/dev/null || cannot_write "$1"
+    [ ! -e "$target" ] || chmod --reference="$target" "$written" 2>/dev/null
+}
+
 # has_page: the output is a whole page of a layout that fails
 has_page() {
     case $status in
@@ -490,10 +498,7 @@ to_file() {
         case $word in -o | -h | --help | --version) straight ;; esac
     done
     make_fresh
-    target=$(readlink -f -- "$file") && { [ ! -e "$target" ] || [ -f "$target" ]; } || cannot_write "$file"
-    written=$(dirname "$target")/.$me-$$
-    { true >"$written"; } 2>/dev/null || cannot_write "$file"
-    [ ! -e "$target" ] || chmod --reference="$target" "$written" 2>/dev/null
+    beside "$file"
     run "$@" >"$written"
     if [ $status = 0 ] || has_page; then
         mv -f "$written" "$target" || cannot_write "$file"
