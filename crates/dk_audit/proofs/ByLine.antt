@@ -1,21 +1,6 @@
 -- What is found of a ledger that is read line by line.
-use Rattle.std.proofs.Common.{ℕ, ◌≡◌, ◌∙◌, ◌+◌, ◌-◌, ◌<◌, ◌++◌, List, length, reverse, Option, Some, None, sym, ap, subst, arith}
-use Rattle.std.proofs.lemmas.Option.{slice_get_within}
-use Rattle.std.proofs.lemmas.List.{take-append-le}
-use Rattle.dk_config.specs.Configuration.{Configuration}
-use Rattle.dk_trace.specs.declared.Entry.{Entry}
-use Rattle.dk_trace.specs.Choices.{chosen}
-use Rattle.dk_trace.specs.Audit.{Audited, Follows, HasChosenLabel}
-use Rattle.dk_ledger.specs.declared.line.LedgerLine.{LedgerLine}
-use Rattle.dk_ledger.specs.Cuts.{entries_of}
-use Rattle.dk_ledger.specs.Heading.{Heading}
-use Rattle.dk_ledger.specs.Readable.{Journal, IsReadable, text_of}
-use Rattle.dk_ledger.proofs.EntryLists.{get_front}
-use Rattle.dk_dispatch.specs.Standing.{Dispatched}
-use Rattle.dk_audit.specs.declared.finding.Finding.{Finding}
+use Rattle.dk_audit.proofs.Names.{ℕ, ◌≡◌, ◌∙◌, ◌+◌, ◌-◌, ◌<◌, ◌++◌, List, length, reverse, Option, Some, None, sym, ap, subst, arith, slice_get_within, take-append-le, Configuration, Entry, chosen, Audited, Follows, HasChosenLabel, LedgerLine, entries_of, Heading, Journal, IsReadable, text_of, get_front, Dispatched, Finding, BreaksEvent, BreaksLabel, IsOwnHeading, past_of, FollowsSoFar, GoesFurther, IfPassedIn, IsFoundIn, IsFoundSoFar}
 use Rattle.dk_audit.specs.declared.finding.Finding.TheVariants as finding
-use Rattle.dk_audit.specs.Findings.{BreaksEvent, BreaksLabel, IsOwnHeading, past_of}
-use Rattle.dk_audit.specs.Lines.{FollowsSoFar, GoesFurther, IfPassedIn, IsFoundIn, IsFoundSoFar}
 
 -- a breach stays where it is
 module _ (c : Configuration) (es more : List Entry) (n : ℕ) where

@@ -1,30 +1,5 @@
 -- The event of a tick's entry, as the calls of the dispatcher book it.
-use Rattle.std.proofs.Common.{ℕ, ◌≡◌, ◌∷◌, ◌++◌, [], Bool, true, false, inl, inr, List, length, map, Option, Some, None, MatchOption, refl, ap, ◌∙◌, sym, subst, length-append, add-zero}
-use Rattle.std.specs.Prelude.{◌↔◌, IsTrue, if◌then◌else◌, Result, Ok, Err, MatchResult, is_ok}
-use Rattle.std.specs.Option.{option_map_or}
-use Rattle.std.proofs.lemmas.List.{length-map}
-use Rattle.dk_config.specs.Configuration.{Configuration}
-use Rattle.dk_trace.specs.declared.ThreadId.{ThreadId}
-use Rattle.dk_trace.specs.declared.Phase.{Phase}
-use Rattle.dk_trace.specs.declared.Work.{Work}
-use Rattle.dk_trace.specs.declared.Label.{Label}
-use Rattle.dk_trace.specs.declared.Choice.{Choice}
-use Rattle.dk_trace.specs.declared.Refusal.{Refusal}
-use Rattle.dk_trace.specs.declared.Event.{Event}
-use Rattle.dk_trace.specs.declared.Entry.{Entry}
-use Rattle.dk_trace.specs.Entries.{has_event, is_end, is_of, thread_of, quiet}
-use Rattle.dk_trace.specs.Threads.{Thread, after_entry, family}
-use Rattle.dk_trace.specs.Holds.{held_by}
-use Rattle.dk_trace.specs.Audit.{Follows, HasNextSerial, MayHave, ThreadFollows, done_refusal, label_of, next_serial, row_of, work_of}
-use Rattle.dk_trace.proofs.Whose.{thread-of}
-use Rattle.dk_threads.specs.declared.row.ThreadRow.{ThreadRow}
-use Rattle.dk_bound.specs.Laws.{Always}
-use Rattle.dk_bound.specs.Statements.{ChoosesKnown, IsKnown}
-use Rattle.dk_recount.specs.Events.{IsUntold}
-use Rattle.dk_past.specs.Past.{Past, call_entry, call_label, choice_at, with_entry, with_event}
-use Rattle.dk_dispatch.specs.Standing.{Dispatched}
-use Rattle.dk_dispatch.specs.Calls.{IsCreated, IsDone, IsEnding, IsInCall, IsNotCreated, IsRefused}
-use Rattle.dk_audit.specs.Booking.{Books, IsBookedIf, IsEventOpen, KeepsHold}
+use Rattle.dk_audit.proofs.Names.{ℕ, ◌≡◌, ◌∷◌, ◌++◌, [], Bool, true, false, inl, inr, List, length, map, Option, Some, None, MatchOption, refl, ap, ◌∙◌, sym, subst, length-append, add-zero, ◌↔◌, IsTrue, if◌then◌else◌, Result, Ok, Err, MatchResult, is_ok, option_map_or, length-map, Configuration, ThreadId, Phase, Work, Label, Choice, Refusal, Event, Entry, has_event, is_end, is_of, thread_of, quiet, Thread, after_entry, family, held_by, Follows, HasNextSerial, MayHave, ThreadFollows, done_refusal, label_of, next_serial, row_of, work_of, thread-of, ThreadRow, Always, ChoosesKnown, IsKnown, IsUntold, Past, call_entry, call_label, choice_at, with_entry, with_event, Dispatched, IsCreated, IsDone, IsEnding, IsInCall, IsNotCreated, IsRefused, Books, IsBookedIf, IsEventOpen, KeepsHold}
 use Rattle.dk_audit.proofs.Threads.{at-thread, known-row, of-thread}
 
 abbrev pub is_fault : Event → Bool

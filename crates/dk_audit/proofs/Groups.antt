@@ -1,22 +1,6 @@
 -- The entries of a line, one after another.
-use Rattle.std.proofs.Common.{ℕ, zero, suc, ◌≡◌, ◌∙◌, ◌+◌, ◌-◌, ◌<◌, ◌≤◌, ◌++◌, [], ◌∷◌, List, length, take, reverse, Some, None, refl, sym, ap, subst, arith, append_assoc, length-append}
-use Rattle.std.specs.Prelude.{replicate}
-use Rattle.std.proofs.lemmas.List.{reverse-append, length-replicate, replicate_more}
-use Rattle.dk_config.specs.Configuration.{Configuration}
-use Rattle.dk_trace.specs.declared.Entry.{Entry}
-use Rattle.dk_trace.specs.Choices.{chosen}
-use Rattle.dk_trace.specs.Audit.{Audited, Follows, HasChosenLabel}
-use Rattle.dk_ledger.specs.declared.line.LedgerLine.{LedgerLine}
-use Rattle.dk_ledger.specs.Cuts.{entries_of}
-use Rattle.dk_ledger.proofs.EntryLists.{get_seam}
-use Rattle.dk_past.specs.Past.{Past}
-use Rattle.dk_dispatch.specs.Standing.{Dispatched}
-use Rattle.dk_audit.specs.declared.finding.Finding.{Finding}
-use Rattle.dk_audit.specs.declared.finding.Breach.{Breach}
+use Rattle.dk_audit.proofs.Names.{ℕ, zero, suc, ◌≡◌, ◌∙◌, ◌+◌, ◌-◌, ◌<◌, ◌≤◌, ◌++◌, [], ◌∷◌, List, length, take, reverse, Some, None, refl, sym, ap, subst, arith, append_assoc, length-append, replicate, reverse-append, length-replicate, replicate_more, Configuration, Entry, chosen, Audited, Follows, HasChosenLabel, LedgerLine, entries_of, get_seam, Past, Dispatched, Finding, Breach, IsAfter, IsJudged, ready_past, past_of, whole_past, found_at, FollowsSoFar}
 use Rattle.dk_audit.specs.declared.finding.Breach.TheVariants as breach
-use Rattle.dk_audit.specs.Booking.{IsAfter, IsJudged, ready_past}
-use Rattle.dk_audit.specs.Findings.{past_of, whole_past, found_at}
-use Rattle.dk_audit.specs.Lines.{FollowsSoFar}
 
 -- there is a next one, and more behind it
 pub next_and_more : {A : Type 0} (x : A) (n m : ℕ) → n < m → (k : ℕ) × (replicate m x ≡ replicate n x ++ x ∷ replicate k x)

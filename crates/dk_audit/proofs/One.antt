@@ -1,16 +1,6 @@
 -- There is one finding at most.
-use Rattle.std.proofs.Common.{ℕ, ◌≡◌, ◌<◌, inl, inr, List, length, Some, refl, ap, ◌∙◌, sym, subst, arith}
-use Rattle.std.specs.Prelude.{slice_get}
-use Rattle.std.proofs.lemmas.Bool.{cases_lt}
-use Rattle.std.proofs.lemmas.Option.{slice_get_within}
-use Rattle.dk_config.specs.Configuration.{Configuration}
-use Rattle.dk_trace.specs.declared.Entry.{Entry}
-use Rattle.dk_trace.specs.Choices.{chosen}
-use Rattle.dk_trace.specs.Audit.{Audited, Follows, HasChosenLabel}
-use Rattle.dk_ledger.specs.Readable.{Journal}
-use Rattle.dk_audit.specs.declared.finding.Finding.{Finding}
-use Rattle.dk_audit.specs.declared.finding.Finding.TheVariants.{Header, Label, Event, Passed}
-use Rattle.dk_audit.specs.Findings.{BreaksEvent, BreaksLabel, IsFinding, IsFoundOf, Passes, past_of}
+use Rattle.dk_audit.proofs.Names.{ℕ, ◌≡◌, ◌<◌, inl, inr, List, length, Some, refl, ap, ◌∙◌, sym, subst, arith, slice_get, cases_lt, slice_get_within, Configuration, Entry, chosen, Audited, Follows, HasChosenLabel, Journal, Finding, Header, Passed, BreaksEvent, BreaksLabel, IsFinding, IsFoundOf, Passes, past_of}
+use Rattle.dk_audit.specs.declared.finding.Finding.TheVariants.{Label, Event}
 use Rattle.dk_audit.proofs.Pasts.{follows-at, past-whole}
 
 -- the entry of tick n is the first that breaks the rules

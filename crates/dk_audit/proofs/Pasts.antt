@@ -1,13 +1,5 @@
 -- The entries before each tick of a list, the newest first.
-use Rattle.std.proofs.Common.{ℕ, zero, suc, ◌≡◌, ◌+◌, ◌<◌, ◌≤◌, ◌∷◌, [], inl, inr, List, length, take, reverse, get_or, Some, ap, ◌∙◌, sym, subst, arith, add-one}
-use Rattle.std.specs.Prelude.{slice_get}
-use Rattle.std.proofs.lemmas.Bool.{cases_lt}
-use Rattle.std.proofs.lemmas.List.{take_all, take_more, reverse-append, length-take-le, length-reverse}
-use Rattle.std.proofs.lemmas.Option.{get_or_from_slice_get, slice_get_within}
-use Rattle.dk_config.specs.Configuration.{Configuration}
-use Rattle.dk_trace.specs.declared.Entry.{Entry}
-use Rattle.dk_trace.specs.Audit.{Audited, Follows}
-use Rattle.dk_audit.specs.Findings.{past_of, whole_past}
+use Rattle.dk_audit.proofs.Names.{ℕ, zero, suc, ◌≡◌, ◌+◌, ◌<◌, ◌≤◌, ◌∷◌, [], inl, inr, List, length, take, reverse, get_or, Some, ap, ◌∙◌, sym, subst, arith, add-one, slice_get, cases_lt, take_all, take_more, reverse-append, length-take-le, length-reverse, get_or_from_slice_get, slice_get_within, Configuration, Entry, Audited, Follows, past_of, whole_past}
 
 -- one entry more is the newest
 pub past-more : (entries : List Entry) (n : ℕ) (d : Entry) → n < length entries → past_of entries (n + 1) ≡ get_or entries n d ∷ past_of entries n

@@ -1,24 +1,5 @@
 -- The thread that has a tick, and what the rules ask of it.
-use Rattle.std.proofs.Common.{◌≡◌, ◌∷◌, Bool, true, false, not, inl, inr, List, length, Option, Some, None, MatchOption, refl, ap, ◌∙◌, sym, subst}
-use Rattle.std.specs.Prelude.{◌↔◌, IsTrue}
-use Rattle.dk_isa.specs.declared.FaultKind.{FaultKind}
-use Rattle.dk_config.specs.Configuration.{Configuration}
-use Rattle.dk_trace.specs.declared.ThreadId.{ThreadId}
-use Rattle.dk_trace.specs.declared.Phase.{Phase}
-use Rattle.dk_trace.specs.declared.Work.{Work}
-use Rattle.dk_trace.specs.declared.Label.{Label}
-use Rattle.dk_trace.specs.declared.Choice.{Choice}
-use Rattle.dk_trace.specs.declared.Event.{Event}
-use Rattle.dk_trace.specs.declared.Entry.{Entry}
-use Rattle.dk_trace.specs.Entries.{thread_of}
-use Rattle.dk_trace.specs.Holds.{Hold, held_by, ends_hold, innermost_left}
-use Rattle.dk_trace.specs.Choices.{chosen}
-use Rattle.dk_trace.specs.Audit.{Follows, HasChosenLabel, HasNextSerial, ThreadFollows, done_refusal, label_of, row_of, without_event}
-use Rattle.dk_bound.specs.Laws.{Always}
-use Rattle.dk_bound.specs.Statements.{ChoosesKnown, IsKnown}
-use Rattle.dk_recount.specs.Recount.{IsRuled}
-use Rattle.dk_recount.specs.Events.{IsUntold}
-use Rattle.dk_audit.specs.Booking.{KeepsHold, Obeys}
+use Rattle.dk_audit.proofs.Names.{◌≡◌, ◌∷◌, Bool, true, false, not, inl, inr, List, length, Option, Some, None, MatchOption, refl, ap, ◌∙◌, sym, subst, ◌↔◌, IsTrue, FaultKind, Configuration, ThreadId, Phase, Work, Label, Choice, Event, Entry, thread_of, Hold, held_by, ends_hold, innermost_left, chosen, Follows, HasChosenLabel, HasNextSerial, ThreadFollows, done_refusal, label_of, row_of, without_event, Always, ChoosesKnown, IsKnown, IsRuled, IsUntold, KeepsHold, Obeys}
 
 pub at-thread : (P : ThreadId → Type 0) (o : Option ThreadId) (x : ThreadId) → o ≡ Some x → P x → MatchOption o (Unit {0}) P
 at-thread P o x is p = subst (λ o. MatchOption o (Unit {0}) P) (sym is) p

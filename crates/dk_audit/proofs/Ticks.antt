@@ -1,22 +1,7 @@
 -- The tick of an entry, and the finding after all ticks.
-use Rattle.std.proofs.Common.{ℕ, ◌≡◌, ◌+◌, ◌<◌, ◌∷◌, Bool, true, false, List, length, get_or, Option, Some, None, refl, ap, ◌∙◌, sym, subst}
-use Rattle.std.specs.Prelude.{◌↔◌, IsTrue}
-use Rattle.std.proofs.lemmas.Option.{slice_get-get_or}
-use Rattle.dk_config.specs.Configuration.{Configuration}
-use Rattle.dk_trace.specs.declared.Choice.{Choice}
-use Rattle.dk_trace.specs.declared.Entry.{Entry}
-use Rattle.dk_trace.specs.Audit.{Audited, Follows, HasChosenLabel}
-use Rattle.dk_recount.specs.Recount.{IsRuled}
-use Rattle.dk_past.specs.Past.{Past, charged, choice_at, closed}
-use Rattle.dk_past.specs.Past.{opened as opened_past}
-use Rattle.dk_dispatch.specs.Standing.{Dispatched}
-use Rattle.dk_ledger.specs.Readable.{Journal}
-use Rattle.dk_audit.specs.declared.finding.Finding.{Finding}
+use Rattle.dk_audit.proofs.Names.{ℕ, ◌≡◌, ◌+◌, ◌<◌, ◌∷◌, Bool, true, false, List, length, get_or, Option, Some, None, refl, ap, ◌∙◌, sym, subst, ◌↔◌, IsTrue, slice_get-get_or, Configuration, Choice, Entry, Audited, Follows, HasChosenLabel, IsRuled, Past, charged, choice_at, closed, opened_past, Dispatched, Journal, Finding, Breach, Books, IsAfter, IsBookedIf, IsJudged, IsOpen, Obeys, ready_past, BreaksEvent, BreaksLabel, IfPassed, IsFinding, IsFoundOf, IsOwnHeading, found_at, past_of}
 use Rattle.dk_audit.specs.declared.finding.Finding.TheVariants as finding
-use Rattle.dk_audit.specs.declared.finding.Breach.{Breach}
 use Rattle.dk_audit.specs.declared.finding.Breach.TheVariants as breach
-use Rattle.dk_audit.specs.Booking.{Books, IsAfter, IsBookedIf, IsJudged, IsOpen, Obeys, ready_past}
-use Rattle.dk_audit.specs.Findings.{BreaksEvent, BreaksLabel, IfPassed, IsFinding, IsFoundOf, IsOwnHeading, found_at, past_of}
 use Rattle.dk_audit.proofs.Pasts.{past-more}
 
 -- an entry that is labeled as the choice says and obeys the rules so far is open once its tick is charged

@@ -1,12 +1,5 @@
 -- What a lock by the tables has made of them.
-use Rattle.std.proofs.Common.{◌≡◌, ℕ, List, Some, refl}
-use Rattle.dk_trace.specs.declared.ThreadId.{ThreadId}
-use Rattle.dk_recount.specs.Tables.{Tables}
-use Rattle.dk_mutex.specs.declared.row.Lockable.{Lockable}
-use Rattle.dk_mutex.specs.Table.{effective_level, given_to, hold_left, hold_of}
-use Rattle.dk_demand.specs.Cells.{Cells}
-use Rattle.dk_recount.specs.Charging.{level_in}
-use Rattle.dk_recount.specs.Events.{cells_held, locked}
+use Rattle.dk_dispatch.proofs.Names.{◌≡◌, ℕ, List, Some, refl, ThreadId, Tables, Lockable, effective_level, given_to, hold_left, hold_of, Cells, level_in, cells_held, locked}
 
 -- what a lock has made of the tables, piece by piece
 pub locked-tables : (x : ThreadId) (m : ℕ) (d t : Tables) (level before after left : ℕ) (rows : List Lockable) (cells : Cells)

@@ -1,19 +1,6 @@
 -- From a call by the tables, and its law, to what it does to where the run stands.
-use Rattle.std.proofs.Common.{ℕ, ◌≡◌, ◌∙◌, inr, refl, ap, sym, subst, ◌∷◌, length, Option, Some, None}
-use Rattle.dk_trace.specs.declared.ThreadId.{ThreadId}
-use Rattle.dk_trace.specs.declared.Event.{Event}
-use Rattle.dk_trace.specs.declared.Refusal.{Refusal}
-use Rattle.dk_trace.specs.Entries.{quiet}
-use Rattle.dk_recount.specs.Tables.{HasFamilies, IsSound, Tables}
-use Rattle.dk_recount.specs.Recount.{IsBooked}
-use Rattle.dk_recount.specs.Events.{CallIsRight, IsCalling}
-use Rattle.dk_threads.specs.declared.row.State.{State}
-use Rattle.dk_threads.specs.declared.row.ThreadRow.{ThreadRow}
-use Rattle.dk_recount.specs.Facing.{Creates, IsNewRow}
-use Rattle.dk_past.specs.Past.{Past, call_entry, call_label, with_event}
+use Rattle.dk_dispatch.proofs.Names.{ℕ, ◌≡◌, ◌∙◌, inr, refl, ap, sym, subst, ◌∷◌, length, Option, Some, None, ThreadId, Event, Refusal, quiet, HasFamilies, IsSound, Tables, IsBooked, CallIsRight, IsCalling, State, ThreadRow, Creates, IsNewRow, Past, call_entry, call_label, with_event, Dispatched, Stands, StandsAt, dispatched, IsCreated, IsDone, IsInCall, IsNotCreated, IsRefused, call_refusal, no_child}
 use Rattle.dk_dispatch.proofs.Counting.{kernel-length}
-use Rattle.dk_dispatch.specs.Standing.{Dispatched, Stands, StandsAt, dispatched}
-use Rattle.dk_dispatch.specs.Calls.{IsCreated, IsDone, IsInCall, IsNotCreated, IsRefused, call_refusal, no_child}
 
 -- rows are the same where all their fields are
 row-of : (p p' n n' level level' slot slot' : ℕ) (state state' : State) (start start' : ℕ) (end end' : Option ℕ)

@@ -1,33 +1,5 @@
 -- Who leads has the next tick, on its own node.
-use Rattle.std.proofs.Common.{arith, inr, ◌≡◌, ◌∙◌, ◌+◌, ◌*◌, ◌%◌, ◌≤◌, true, ℕ, List, Option, None, Some, option_map, ap, refl, sym, subst}
-use Rattle.std.specs.Option.{option_map_or}
-use Rattle.dk_config.specs.declared.TheConstants.{MAX_CHILDREN, MAX_THREADS}
-use Rattle.dk_config.specs.Configuration.{Configuration}
-use Rattle.dk_trace.specs.declared.ThreadId.{ThreadId}
-use Rattle.dk_trace.specs.declared.Phase.{Phase}
-use Rattle.dk_trace.specs.declared.Choice.{Choice}
-use Rattle.dk_trace.specs.declared.Work.{Work}
-use Rattle.dk_trace.specs.declared.Label.{Label}
-use Rattle.dk_trace.specs.declared.Entry.{Entry}
-use Rattle.dk_trace.specs.Holds.{held_by, innermost_left}
-use Rattle.dk_trace.specs.Choices.{chosen}
-use Rattle.dk_trace.specs.Audit.{label_of}
-use Rattle.dk_threads.specs.declared.row.ThreadRow.{ThreadRow}
-use Rattle.dk_threads.specs.Table.{AreFamilies, Table, find_row}
-use Rattle.dk_threads.proofs.NamedRows.{found-fits}
-use Rattle.dk_mutex.specs.Front.{RunsFirst}
-use Rattle.dk_mutex.specs.Table.{hold_left}
-use Rattle.dk_ready.specs.declared.first.First.{First}
-use Rattle.dk_ready.specs.First.{IsComputing}
-use Rattle.dk_recount.specs.Tables.{HasFamilies, IsSound, Tables, node_in}
-use Rattle.dk_recount.specs.Recount.{IsReady}
-use Rattle.dk_recount.specs.Charging.{OwnsFront}
-use Rattle.dk_recount.specs.Choosing.{HasNoWish, choice_of, fits_in, kernel_left}
-use Rattle.dk_recount.specs.Facing.{CallersHaveSlots, HasOwn, slots}
-use Rattle.dk_recount.specs.Questions.{TellsOf, ready}
-use Rattle.dk_recount.proofs.Facing.{found-own}
-use Rattle.dk_dispatch.specs.declared.tables.leading.Lead.{Lead}
-use Rattle.dk_dispatch.specs.Leading.{Leads}
+use Rattle.dk_dispatch.proofs.Names.{arith, inr, ◌≡◌, ◌∙◌, ◌+◌, ◌*◌, ◌%◌, ◌≤◌, true, ℕ, List, Option, None, Some, option_map, ap, refl, sym, subst, option_map_or, MAX_CHILDREN, MAX_THREADS, Configuration, ThreadId, Phase, Choice, Work, Label, Entry, held_by, innermost_left, chosen, label_of, ThreadRow, AreFamilies, Table, find_row, found-fits, RunsFirst, hold_left, First, IsComputing, HasFamilies, IsSound, Tables, node_in, IsReady, OwnsFront, HasNoWish, choice_of, fits_in, kernel_left, CallersHaveSlots, HasOwn, slots, TellsOf, ready, found-own, Lead, Leads}
 use Rattle.dk_dispatch.proofs.Looking.{lead-works, work-is-chosen}
 
 -- whoever computes in the next tick has a slot

@@ -1,44 +1,5 @@
 -- A thread that has the next ticks as slack, by the tables and by the past.
-use Rattle.std.proofs.Common.{ℕ, ◌≡◌, ◌∙◌, ◌+◌, ◌<◌, ◌≤◌, inl, true, false, List, length, map, Option, Some, None, refl, ap, sym, subst, arith}
-use Rattle.std.specs.Prelude.{IfSome, if◌then◌else◌, is_none}
-use Rattle.dk_config.specs.declared.TheConstants.{MAX_TICKS}
-use Rattle.dk_config.specs.Configuration.{Configuration}
-use Rattle.dk_config.specs.Windows.{window_end}
-use Rattle.dk_trace.specs.declared.ThreadId.{ThreadId}
-use Rattle.dk_trace.specs.declared.Phase.{Phase}
-use Rattle.dk_trace.specs.declared.Source.{Source}
-use Rattle.dk_trace.specs.declared.Choice.{Choice}
-use Rattle.dk_trace.specs.declared.Work.{Work}
-use Rattle.dk_trace.specs.declared.Entry.{Entry}
-use Rattle.dk_trace.specs.Members.{Has}
-use Rattle.dk_trace.specs.Threads.{Thread, threads}
-use Rattle.dk_trace.specs.Slack.{want as past_want}
-use Rattle.dk_trace.specs.Choices.{chosen}
-use Rattle.dk_trace.specs.Audit.{label_of}
-use Rattle.dk_windows.specs.Clock.{end_at}
-use Rattle.dk_threads.specs.Recount.{has_row}
-use Rattle.dk_mutex.specs.Rows.{spent as spent_row}
-use Rattle.dk_mutex.specs.Table.{hold_left}
-use Rattle.dk_demand.specs.Cells.{first_unfit}
-use Rattle.dk_demand.specs.Waiting.{at_tick}
-use Rattle.dk_slack.specs.declared.table.ahead.Ahead.{Ahead}
-use Rattle.dk_slack.specs.Ahead.{IsAhead}
-use Rattle.dk_slack.specs.Wishes.{first_node, is_entering, spent_for, want}
-use Rattle.dk_slack.specs.Unclaimed.{counted_for, source as source_of}
-use Rattle.dk_slack.proofs.Lent.{entered-lowered, first-lowered}
-use Rattle.dk_ready.specs.Roster.{seat_at}
-use Rattle.dk_recount.specs.Tables.{HasFamilies, IsSound, Tables, node_in}
-use Rattle.dk_recount.specs.Recount.{IsReady}
-use Rattle.dk_recount.specs.Charging.{MayCharge, MaySlack}
-use Rattle.dk_recount.specs.Choosing.{HasNoWork, choice_of}
-use Rattle.dk_recount.specs.Premises.{WhereReady}
-use Rattle.dk_recount.specs.Facing.{slots}
-use Rattle.dk_recount.specs.Stretching.{EndsAfter, HasRoomFor, Lends, MayCountFor, MayLend as MayLendBy, Passes, lent}
-use Rattle.dk_past.specs.Past.{Past, Ready}
-use Rattle.dk_dispatch.specs.declared.tables.lending.Borrower.{Borrower}
-use Rattle.dk_dispatch.specs.Leading.{Borrows as BorrowsBy}
-use Rattle.dk_dispatch.specs.Standing.{Dispatched, Stands, dispatched}
-use Rattle.dk_dispatch.specs.Ticks.{Borrows, MayLend}
+use Rattle.dk_dispatch.proofs.Names.{ℕ, ◌≡◌, ◌∙◌, ◌+◌, ◌<◌, ◌≤◌, inl, true, false, List, length, map, Option, Some, None, refl, ap, sym, subst, arith, IfSome, if◌then◌else◌, is_none, MAX_TICKS, Configuration, window_end, ThreadId, Phase, Source, Choice, Work, Entry, Has, Thread, threads, past_want, chosen, label_of, end_at, has_row, spent_row, hold_left, first_unfit, at_tick, Ahead, IsAhead, first_node, is_entering, spent_for, want, counted_for, source_of, entered-lowered, first-lowered, seat_at, HasFamilies, IsSound, Tables, node_in, IsReady, MayCharge, MaySlack, HasNoWork, choice_of, WhereReady, slots, EndsAfter, HasRoomFor, Lends, MayCountFor, MayLendBy, Passes, lent, Past, Ready, Borrower, BorrowsBy, Dispatched, Stands, dispatched, Borrows, MayLend}
 use Rattle.dk_dispatch.proofs.Looking.{wish-chosen}
 use Rattle.dk_dispatch.proofs.Runs.{ends-sooner}
 use Rattle.dk_dispatch.proofs.Running.{EndsAreTheConfigurations, HoldsNothing, LeftIsThePasts, MutexIsThePasts, RowsAreThePasts, holds-nothing, seated, sooner-by, window-ends}

@@ -1,3 +1,4 @@
+pub mod Names
 pub mod Answering
 pub mod StopCalling
 pub mod Stops

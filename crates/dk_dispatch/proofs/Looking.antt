@@ -1,24 +1,7 @@
 -- The first that anybody asks for is found by looking for work, and then for wishes of faster levels.
-use Rattle.std.proofs.Common.{arith, inl, inr, ℕ, ◌≡◌, ◌<◌, ◌≤◌, ◌∙◌, true, false, List, [], Option, None, ap, refl, sym, subst, length, slice_get}
-use Rattle.std.specs.Prelude.{MatchOption, Some, if◌then◌else◌, is_none, is_some, nat_lt, option_map, unwrap_or}
-use Rattle.std.specs.Option.{option_or}
-use Rattle.std.proofs.lemmas.Bool.{cases_lt}
-use Rattle.dk_config.proofs.FirstOf.{first-at, first-none}
-use Rattle.dk_config.proofs.Lists.{none-of}
-use Rattle.dk_trace.specs.declared.Phase.{Phase}
-use Rattle.dk_trace.specs.declared.Choice.{Choice}
-use Rattle.dk_rail.specs.Queues.{queue_at}
-use Rattle.dk_mutex.specs.Table.{holder_at}
-use Rattle.dk_mutex.specs.Front.{RunsFirst}
-use Rattle.dk_slack.specs.Wishes.{first_node}
-use Rattle.dk_ready.specs.declared.first.First.{First}
-use Rattle.dk_ready.specs.First.{IsComputing}
-use Rattle.dk_recount.specs.Tables.{Tables, IsSound, node_in}
-use Rattle.dk_recount.specs.Choosing.{HasNoWish, HasNoWork, budget_of, choice_in, choice_of, claims_in, claims_slack, first_worker, fits_in, kernel_left, loan_of, on_share, slack_in, work_in}
-use Rattle.dk_recount.proofs.Stretching.{asks-nothing, nobody-chosen}
-use Rattle.dk_demand.specs.Cells.{first_unfit}
-use Rattle.dk_dispatch.specs.declared.tables.choosing.FirstWork.{FirstWork}
-use Rattle.dk_dispatch.specs.Levels.{IsFirstWish, IsFirstWork}
+use Rattle.dk_dispatch.proofs.Names.{arith, inl, inr, ℕ, ◌≡◌, ◌<◌, ◌≤◌, ◌∙◌, true, false, List, [], Option, None, ap, refl, sym, subst, length, MatchOption, if◌then◌else◌, is_none, is_some, nat_lt, unwrap_or, option_or, cases_lt, first-at, first-none, none-of, Phase, Choice, queue_at, holder_at, RunsFirst, first_node, First, IsComputing, Tables, IsSound, node_in, HasNoWish, HasNoWork, budget_of, choice_in, choice_of, claims_in, claims_slack, first_worker, fits_in, kernel_left, loan_of, on_share, slack_in, work_in, asks-nothing, nobody-chosen, first_unfit, FirstWork, IsFirstWish, IsFirstWork}
+use Rattle.std.proofs.Common.{slice_get}
+use Rattle.std.specs.Prelude.{Some, option_map}
 
 -- there is no work where neither the kernel, nor a holder, nor anybody ready is
 pub no-work : (d : Tables) (k : ℕ) → kernel_left d k ≡ 0 → holder_at k d.mutexes ≡ None → queue_at d.jobs.ready.lists k ≡ [] → work_in d k ≡ None

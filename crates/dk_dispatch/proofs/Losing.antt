@@ -1,11 +1,5 @@
 -- The shares to come of a process are taken off level by level.
-use Rattle.std.proofs.Common.{◌≡◌, ◌<◌, ◌≤◌, ◌+◌, ◌-◌, ◌∙◌, inl, inr, true, false, eqb, ltb, ℕ, List, length, get_or, arith, refl, ap, sym}
-use Rattle.std.specs.Prelude.{if◌then◌else◌}
-use Rattle.std.proofs.lemmas.Bool.{cases_Bool}
-use Rattle.std.proofs.lemmas.Bool.Decides.{nat_tests}
-use Rattle.dk_demand.specs.Levels.{by_level, at_level, less}
-use Rattle.dk_demand.proofs.Changing.{get_or-by_level}
-use Rattle.dk_recount.proofs.Cells.{by-twice, by-same, by-nothing}
+use Rattle.dk_dispatch.proofs.Names.{◌≡◌, ◌<◌, ◌≤◌, ◌+◌, ◌-◌, ◌∙◌, inl, inr, true, false, eqb, ltb, ℕ, List, length, get_or, arith, refl, ap, sym, if◌then◌else◌, cases_Bool, nat_tests, by_level, at_level, less, get_or-by_level, by-twice, by-same, by-nothing}
 
 -- f taken off at the levels before k
 abbrev pub less_until : (ℕ → ℕ) → ℕ → ℕ → ℕ → ℕ

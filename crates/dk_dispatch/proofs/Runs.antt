@@ -1,27 +1,7 @@
 -- Who computes in the next ticks, with nobody that holds a mutex.
-use Rattle.std.proofs.Common.{arith, inl, inr, ◌≡◌, ◌∙◌, ◌+◌, ◌-◌, ◌≤◌, ◌<◌, true, false, ltb, eqb, ℕ, List, None, Some, length, map, get_or, ap, refl, sym, subst}
-use Rattle.std.proofs.lemmas.Bool.{cases_lt}
-use Rattle.std.proofs.lemmas.Bool.Decides.{nat_tests}
-use Rattle.std.proofs.lemmas.List.{get_or_past}
-use Rattle.dk_trace.specs.declared.ThreadId.{ThreadId}
-use Rattle.dk_trace.specs.declared.Phase.{Phase}
-use Rattle.dk_trace.specs.declared.Choice.{Choice}
-use Rattle.dk_trace.specs.Jobs.{Job, phase, rem}
-use Rattle.dk_trace.specs.JobSteps.{HasBody, worked_for}
-use Rattle.dk_trace.proofs.Orders.{body-less}
-use Rattle.dk_mutex.specs.Rows.{spent as spent_row}
-use Rattle.dk_mutex.specs.Table.{effective_level, hold_left, holder_at}
-use Rattle.dk_windows.specs.Clock.{end_at}
-use Rattle.dk_ready.specs.declared.first.First.{First}
-use Rattle.dk_ready.specs.declared.seat.Seat.{Seat}
-use Rattle.dk_ready.specs.First.{IsComputing, IsComputingFor}
-use Rattle.dk_ready.specs.Roster.{seat_at, spent_for, told_phase, vacant}
-use Rattle.dk_ready.proofs.Moving.{seat-then}
-use Rattle.dk_recount.specs.Tables.{IsSound, Tables, node_in}
-use Rattle.dk_recount.specs.Charging.{level_in}
-use Rattle.dk_recount.specs.Choosing.{HasNoWish, choice_of, kernel_left}
-use Rattle.dk_recount.specs.Stretching.{EndsAfter, HasRoomFor, MayRun, computed}
-use Rattle.dk_recount.proofs.Computing.{sound-computed}
+use Rattle.dk_dispatch.proofs.Names.{arith, inl, inr, ◌≡◌, ◌∙◌, ◌+◌, ◌-◌, ◌≤◌, ◌<◌, true, false, ltb, eqb, ℕ, List, None, Some, length, map, get_or, ap, refl, sym, subst, cases_lt, nat_tests, get_or_past, ThreadId, Phase, Choice, Job, phase, rem, HasBody, worked_for, body-less, spent_row, effective_level, hold_left, holder_at, end_at, First, Seat, IsComputing, IsComputingFor, seat_at, told_phase, vacant, seat-then, IsSound, Tables, node_in, level_in, HasNoWish, choice_of, kernel_left, EndsAfter, HasRoomFor, computed, sound-computed}
+use Rattle.dk_ready.specs.Roster.{spent_for}
+use Rattle.dk_recount.specs.Stretching.{MayRun}
 use Rattle.dk_dispatch.proofs.Looking.{first-works, work-is-chosen}
 
 -- who has a body to come has a tick of it next

@@ -1,21 +1,5 @@
 -- Whose rows the tables have, how many, and in which slots.
-use Rattle.std.proofs.Common.{ℕ, ◌≡◌, ◌∙◌, ◌<◌, ◌≤◌, List, [], ◌∷◌, Option, Some, None, option_map, subst, sym, ap, length, refl, arith}
-use Rattle.std.specs.Prelude.{slice_get}
-use Rattle.std.specs.Option.{option_map_or}
-use Rattle.std.proofs.lemmas.List.{length-map}
-use Rattle.std.proofs.lemmas.Option.{slice_get_within}
-use Rattle.dk_config.specs.declared.TheConstants.{MAX_THREADS}
-use Rattle.dk_config.specs.Configuration.{Configuration}
-use Rattle.dk_trace.specs.declared.ThreadId.{ThreadId}
-use Rattle.dk_trace.specs.declared.Entry.{Entry}
-use Rattle.dk_threads.specs.declared.row.ThreadRow.{ThreadRow}
-use Rattle.dk_threads.specs.declared.family.Family.{Family}
-use Rattle.dk_threads.specs.Table.{AreFamilies, find_row, rows_of}
-use Rattle.dk_threads.specs.Recount.{counted_rows, unplaced}
-use Rattle.dk_threads.proofs.NamedRows.{found-fits}
-use Rattle.dk_recount.specs.Tables.{Tables}
-use Rattle.dk_recount.specs.Recount.{IsReady}
-use Rattle.dk_recount.specs.Facing.{slots}
+use Rattle.dk_dispatch.proofs.Names.{ℕ, ◌≡◌, ◌∙◌, ◌<◌, ◌≤◌, List, [], ◌∷◌, Option, Some, None, option_map, subst, sym, ap, length, refl, arith, slice_get, option_map_or, length-map, slice_get_within, MAX_THREADS, Configuration, ThreadId, Entry, ThreadRow, Family, AreFamilies, find_row, rows_of, counted_rows, unplaced, found-fits, Tables, IsReady, slots}
 
 -- between two ticks each row is of a process that is there, in a slot up to 8
 pub seats-fit : (c : Configuration) (past : List Entry) (d : Tables) → AreFamilies d.threads.levels d.threads.families → IsReady c past d

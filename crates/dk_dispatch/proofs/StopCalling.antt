@@ -1,21 +1,6 @@
 -- Who calls in a charged tick, and a delete by a caller.
-use Rattle.std.proofs.Common.{◌≡◌, ◌∙◌, ◌&&◌, not, inl, inr, Bool, true, false, eqb, ℕ, Option, Some, None, is_none, refl, ap, sym, subst, arith}
-use Rattle.std.specs.Prelude.{if◌then◌else◌}
-use Rattle.std.specs.Option.{option_map_or}
-use Rattle.std.proofs.lemmas.Bool.{cases_Bool, and_parts}
-use Rattle.std.proofs.lemmas.Bool.Decides.{nat_tests}
-use Rattle.dk_trace.specs.declared.ThreadId.{ThreadId}
-use Rattle.dk_trace.specs.declared.Label.{Label}
-use Rattle.dk_trace.specs.declared.Event.{Event}
-use Rattle.dk_trace.specs.declared.Refusal.{Refusal}
-use Rattle.dk_trace.specs.Entries.{is_same, main_of, thread_of}
-use Rattle.dk_trace.proofs.Same.{same-id}
-use Rattle.dk_trace.proofs.Members.{find-has}
-use Rattle.dk_threads.specs.declared.row.ThreadRow.{ThreadRow}
-use Rattle.dk_threads.specs.Rows.{is_row_of}
-use Rattle.dk_threads.specs.Table.{Table, rows_of, find_row, runs, is_child}
-use Rattle.dk_threads.specs.Recount.{entry_of}
-use Rattle.dk_recount.specs.Stopping.{running_child, child_of, delete_refusal_in, StopsChild}
+use Rattle.dk_dispatch.proofs.Names.{◌≡◌, ◌∙◌, ◌&&◌, not, inl, inr, Bool, true, false, eqb, ℕ, Option, Some, None, refl, ap, sym, subst, arith, if◌then◌else◌, option_map_or, cases_Bool, and_parts, nat_tests, ThreadId, Label, Event, Refusal, is_same, main_of, thread_of, same-id, find-has, ThreadRow, is_row_of, Table, rows_of, find_row, runs, is_child, entry_of, running_child, child_of, delete_refusal_in, StopsChild}
+use Rattle.std.proofs.Common.{is_none}
 
 -- a running child's row
 pub record IsRunning (table : Table) (child : ThreadId) (row : ThreadRow) : Type 0 where

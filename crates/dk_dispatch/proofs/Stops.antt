@@ -1,21 +1,5 @@
 -- What the stop of a thread leaves: slots and steps.
-use Rattle.std.proofs.Common.{◌≡◌, ◌≤◌, ◌+◌, ◌*◌, ◌∙◌, Bool, true, false, eqb, ℕ, Option, Some, None, refl, ap, sym, subst, arith}
-use Rattle.std.specs.Prelude.{if◌then◌else◌, Result, Ok, Err, MatchResult}
-use Rattle.std.specs.Option.{option_map_or}
-use Rattle.std.proofs.Math.Nat.{mul-le-mul_left}
-use Rattle.dk_trace.specs.declared.ThreadId.{ThreadId}
-use Rattle.dk_trace.specs.declared.Refusal.{Refusal}
-use Rattle.dk_trace.proofs.Same.{same-id}
-use Rattle.dk_trace.proofs.Members.{find-has}
-use Rattle.dk_threads.specs.declared.row.ThreadRow.{ThreadRow}
-use Rattle.dk_threads.specs.Table.{Table, AreFamilies, find_row, rows_of}
-use Rattle.dk_threads.specs.Rows.{is_row_of}
-use Rattle.dk_threads.proofs.Descent.{process-descends, stop-descends}
-use Rattle.dk_recount.specs.Tables.{Tables}
-use Rattle.dk_recount.specs.Facing.{Keeps, slots}
-use Rattle.dk_recount.specs.Stopping.{child_of, delete_refusal_in, running_child, without_child, without_running}
-use Rattle.dk_recount.specs.Process.{without_process, without_thread}
-use Rattle.dk_recount.proofs.Slots.{keeps-slots}
+use Rattle.dk_dispatch.proofs.Names.{◌≡◌, ◌≤◌, ◌+◌, ◌*◌, ◌∙◌, Bool, true, false, eqb, ℕ, Option, Some, None, refl, ap, sym, subst, arith, if◌then◌else◌, Result, Ok, Err, MatchResult, option_map_or, mul-le-mul_left, ThreadId, Refusal, same-id, find-has, ThreadRow, Table, AreFamilies, find_row, rows_of, is_row_of, process-descends, stop-descends, Tables, Keeps, slots, child_of, delete_refusal_in, running_child, without_child, without_running, without_process, without_thread, keeps-slots}
 
 -- the name of a row that is found
 pub row-name : (table : Table) (x : ThreadId) (row : ThreadRow) → find_row table x ≡ Some row → x ≡ row.id

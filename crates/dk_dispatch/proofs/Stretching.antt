@@ -1,29 +1,6 @@
 -- Ticks that all go to one choice, one after the other.
-use Rattle.std.proofs.Common.{ℕ, zero, suc, ◌≡◌, ◌∙◌, ◌+◌, ◌<◌, ◌≤◌, ◌++◌, inl, inr, List, length, map, Some, ap, sym, subst, arith, length-append}
-use Rattle.std.specs.Prelude.{replicate}
-use Rattle.std.proofs.lemmas.Bool.{cases_lt}
-use Rattle.std.proofs.lemmas.List.{length-map, length-replicate}
-use Rattle.dk_config.specs.Configuration.{Configuration}
-use Rattle.dk_config.specs.declared.rows.LevelRow.{LevelRow}
-use Rattle.dk_config.specs.declared.TheConstants.{MAX_TICKS}
-use Rattle.dk_trace.specs.declared.ThreadId.{ThreadId}
-use Rattle.dk_trace.specs.declared.Work.{Work}
-use Rattle.dk_trace.specs.declared.Choice.{Choice}
-use Rattle.dk_trace.specs.declared.Entry.{Entry}
-use Rattle.dk_trace.specs.Entries.{quiet, thread_of}
-use Rattle.dk_trace.specs.Holds.{held_by, innermost_left}
-use Rattle.dk_trace.specs.Choices.{chosen}
-use Rattle.dk_trace.specs.Audit.{label_of}
-use Rattle.dk_trace.proofs.Charged.{quiet-follows}
-use Rattle.dk_windows.specs.Clock.{Clock}
-use Rattle.dk_recount.specs.Tables.{HasFamilies, Tables}
-use Rattle.dk_recount.specs.Recount.{IsReady}
-use Rattle.dk_recount.specs.Choosing.{choice_of}
-use Rattle.dk_recount.specs.Stretching.{HasRoomFor, IsPassed, Passes}
-use Rattle.dk_past.specs.Past.{Past, Ready, later}
+use Rattle.dk_dispatch.proofs.Names.{ℕ, zero, suc, ◌≡◌, ◌∙◌, ◌+◌, ◌<◌, ◌≤◌, ◌++◌, inl, inr, List, length, map, Some, ap, sym, subst, arith, length-append, replicate, cases_lt, length-map, length-replicate, Configuration, LevelRow, MAX_TICKS, ThreadId, Work, Choice, Entry, quiet, thread_of, held_by, innermost_left, chosen, label_of, quiet-follows, Clock, HasFamilies, Tables, IsReady, choice_of, HasRoomFor, IsPassed, Passes, Past, Ready, later, Dispatched, Stands, StandsAt, dispatched, Goes}
 use Rattle.dk_dispatch.proofs.Ticking.{is-ready}
-use Rattle.dk_dispatch.specs.Standing.{Dispatched, Stands, StandsAt, dispatched}
-use Rattle.dk_dispatch.specs.Ticks.{Goes}
 
 module _ (choice : Choice) (c : Configuration) (past : List Entry) (d : Tables) (stands : IsReady c past d) where
   abbrev after : ℕ → List Entry

@@ -1,17 +1,6 @@
 -- The shares that are added up level by level, and those of all levels up to one.
-use Rattle.std.proofs.Common.{◌≡◌, ◌≢◌, ◌<◌, ◌≤◌, ◌+◌, ◌∙◌, ◌==◌, Bool, true, false, cond, ℕ, List, [], ◌∷◌, length, get_or, set, refl, ap, sym, arith, inl, inr}
-use Rattle.std.specs.Prelude.{nat_lt}
-use Rattle.std.proofs.Math.ListN.{length-set}
-use Rattle.std.proofs.lemmas.Bool.{cases_lt, cases_Bool}
-use Rattle.std.proofs.lemmas.Bool.Decides.{nat_tests}
-use Rattle.std.proofs.lemmas.List.{get_or-set_same, get_or-set_other}
-use Rattle.std.proofs.lemmas.List.Sums.{sum_by-cons}
-use Rattle.dk_windows.specs.Clock.{Clock}
-use Rattle.dk_threads.specs.declared.row.ThreadRow.{ThreadRow}
-use Rattle.dk_budget.specs.Book.{Book}
-use Rattle.dk_demand.specs.Cells.{Cells}
-use Rattle.dk_recount.specs.Opening.{cells_set, is_between, share_in, shares_in}
-use Rattle.dk_dispatch.specs.Sums.{IsAdded}
+use Rattle.dk_dispatch.proofs.Names.{◌≡◌, ◌≢◌, ◌<◌, ◌≤◌, ◌+◌, ◌∙◌, Bool, true, false, cond, ℕ, List, [], ◌∷◌, length, get_or, set, refl, ap, sym, arith, inl, inr, nat_lt, length-set, cases_lt, cases_Bool, nat_tests, get_or-set_same, get_or-set_other, sum_by-cons, Clock, ThreadRow, Book, Cells, cells_set, is_between, share_in, shares_in, IsAdded}
+use Rattle.std.proofs.Common.{◌==◌}
 
 -- whether the level is a faster one
 abbrev pub is_faster : ℕ → ℕ → Bool

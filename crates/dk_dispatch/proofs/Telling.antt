@@ -1,16 +1,6 @@
 -- What the tables tell of at each stage.
-use Rattle.std.proofs.Common.{◌≡◌, ◌∙◌, List, length, ap, inr, refl, sym, subst}
-use Rattle.dk_config.specs.Configuration.{Configuration}
-use Rattle.dk_trace.specs.declared.Work.{Work}
-use Rattle.dk_trace.specs.declared.Entry.{Entry}
-use Rattle.dk_trace.specs.Choices.{chosen}
-use Rattle.dk_trace.specs.Audit.{label_of}
-use Rattle.dk_recount.specs.Tables.{Tables}
-use Rattle.dk_recount.specs.Recount.{IsRecount}
-use Rattle.dk_recount.specs.Questions.{TellsOf, ready, charged, booked}
-use Rattle.dk_past.specs.Past.{Past, Tick, Ready, Charged, Booked, Closed, told, told_at}
-use Rattle.dk_dispatch.specs.Standing.{Dispatched, Stands, StandsAt, dispatched}
-use Rattle.dk_dispatch.specs.Questions.{IsTelling, IsTellingAt}
+use Rattle.dk_dispatch.proofs.Names.{◌≡◌, ◌∙◌, List, length, ap, inr, refl, sym, subst, Configuration, Work, Entry, chosen, label_of, Tables, IsRecount, TellsOf, ready, booked, Past, Tick, Ready, Charged, Booked, Closed, told, told_at, Dispatched, Stands, StandsAt, dispatched, IsTelling, IsTellingAt}
+use Rattle.dk_recount.specs.Questions.{charged}
 
 pub tells-at : (tick : Tick) (c : Configuration) (past : List Entry) (d : Tables) → StandsAt tick c past d → IsTellingAt tick c past → TellsOf d c (told_at tick c past)
 tells-at Ready c past d stands telling = ready stands

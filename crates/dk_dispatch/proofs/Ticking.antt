@@ -1,29 +1,9 @@
 -- From stage to stage of a tick.
+use Rattle.dk_dispatch.proofs.Names.{ℕ, ◌≡◌, ◌∙◌, inl, inr, List, ◌∷◌, length, map, ap, sym, subst, arith, length-map, LevelRow, Clock, Configuration, MAX_TICKS, ThreadId, Label, Event, Entry, quiet, Audited, HasChosenLabel, Table, Tables, IsReady, IsCharged, IsBooked, IsClosed, IsUntold, moved, stopped, Note, noted, Past, Closed, Ready, choice_at, closed, entries_after, with_entry, Dispatched, Stands, StandsAt, dispatched, IsEnding, IsShut, IsWhole}
 use Rattle.std.specs.Prelude.{◌<◌, ◌≤◌, ◌+◌, ◌*◌, Option}
-use Rattle.std.proofs.Common.{ℕ, ◌≡◌, ◌∙◌, inl, inr, List, ◌∷◌, length, map, ap, sym, subst, arith}
-use Rattle.std.proofs.lemmas.List.{length-map}
-use Rattle.dk_config.specs.declared.rows.LevelRow.{LevelRow}
-use Rattle.dk_windows.specs.Clock.{Clock}
-use Rattle.dk_config.specs.Configuration.{Configuration}
-use Rattle.dk_config.specs.declared.TheConstants.{MAX_TICKS}
-use Rattle.dk_trace.specs.declared.ThreadId.{ThreadId}
-use Rattle.dk_trace.specs.declared.Label.{Label}
-use Rattle.dk_trace.specs.declared.Event.{Event}
-use Rattle.dk_trace.specs.declared.Entry.{Entry}
-use Rattle.dk_trace.specs.Entries.{quiet}
-use Rattle.dk_trace.specs.Audit.{Audited, HasChosenLabel}
-use Rattle.dk_threads.specs.Table.{Table}
-use Rattle.dk_recount.specs.Tables.{Tables}
-use Rattle.dk_recount.specs.Recount.{IsReady, IsCharged, IsBooked, IsClosed}
-use Rattle.dk_recount.specs.Events.{IsUntold, entry_of}
-use Rattle.dk_recount.specs.Counts.{moved, stopped}
-use Rattle.dk_past.specs.declared.history.Note.{Note}
-use Rattle.dk_past.specs.Noted.{noted}
-use Rattle.dk_past.specs.Past.{Past, Closed, Ready, charged, choice_at, closed, entries_after, opened, with_entry}
+use Rattle.dk_recount.specs.Events.{entry_of}
+use Rattle.dk_past.specs.Past.{charged, opened}
 use Rattle.dk_dispatch.proofs.Counting.{kernel-length}
-use Rattle.dk_dispatch.specs.Standing.{Dispatched, Stands, StandsAt, dispatched}
-use Rattle.dk_dispatch.specs.Calls.{IsEnding}
-use Rattle.dk_dispatch.specs.Ticks.{IsShut, IsWhole}
 
 -- between two ticks
 module _ (p : Past) (d : Tables) (v : Dispatched) (is : dispatched p d ≡ v) (ready : v.past.tick ≡ Ready) (stands : Stands p d) where

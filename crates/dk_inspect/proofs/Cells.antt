@@ -1,17 +1,6 @@
 -- What the demand cells say of a level.
-use Rattle.std.proofs.Common.{◌≡◌, ◌<◌, ◌-◌, ◌∙◌, ℕ, List, length, ap}
-use Rattle.std.specs.Prelude.{slice_index}
-use Rattle.dk_config.specs.Configuration.{Configuration}
-use Rattle.dk_config.specs.Windows.{window_end}
-use Rattle.dk_config.proofs.Counting.{at_index}
-use Rattle.dk_trace.specs.declared.Entry.{Entry}
-use Rattle.dk_trace.specs.Demand.{own_demand, remaining_demand}
-use Rattle.dk_trace.specs.Holds.{blocking}
-use Rattle.dk_windows.specs.Clock.{Clock, clock_at, end_at}
-use Rattle.dk_demand.specs.Cells.{Cells}
-use Rattle.dk_demand.specs.Recount.{IsRecount, each_level}
-use Rattle.dk_ledger.specs.Heading.{ended}
-use Rattle.dk_inspect.specs.View.{level_body, level_line}
+use Rattle.dk_inspect.proofs.Names.{◌≡◌, ◌<◌, ◌-◌, ◌∙◌, ℕ, List, length, ap, slice_index, Configuration, window_end, at_index, Entry, own_demand, remaining_demand, blocking, Clock, clock_at, end_at, Cells, IsRecount, each_level, ended, level_body}
+use Rattle.dk_inspect.specs.View.{level_line}
 
 -- the numbers that were asked of the cells
 pub record AreAsked (demand : Cells) (j r needed blocks rest : ℕ) : Type 0 where

@@ -1,27 +1,7 @@
 -- The rows of the threads and their lines.
-use Rattle.std.proofs.Common.{◌≡◌, ◌<◌, ◌≤◌, ◌+◌, ◌∙◌, ℕ, List, [], ◌∷◌, ◌++◌, length, refl, ap, sym, subst, arith}
-use Rattle.std.specs.Prelude.{Option, Some, None, option_map, slice_get, flat_map, IfSome, codes, decimal}
-use Rattle.std.specs.Option.{option_map_or}
-use Rattle.std.proofs.lemmas.Option.{slice_get-map}
-use Rattle.std.proofs.lemmas.List.{length-map}
-use Rattle.dk_config.specs.declared.TheConstants.{MAX_THREADS}
-use Rattle.dk_config.specs.Configuration.{Configuration}
-use Rattle.dk_config.specs.Windows.{process_name}
-use Rattle.dk_config.specs.Sums.{below}
-use Rattle.dk_config.specs.declared.rows.ProcessRow.{ProcessRow}
-use Rattle.dk_trace.specs.declared.ThreadId.{ThreadId}
-use Rattle.dk_trace.specs.Threads.{Thread, family}
-use Rattle.dk_trace.specs.Choices.{denied}
-use Rattle.dk_cpu.specs.declared.Context.{Context}
-use Rattle.dk_threads.specs.declared.row.ThreadRow.{ThreadRow}
-use Rattle.dk_threads.specs.Recount.{counted_row, counted_rows, state_of, unplaced}
-use Rattle.dk_bound.specs.Rows.{FamilyStands, RowsAreNamed}
-use Rattle.dk_past.specs.Past.{Past}
-use Rattle.dk_ledger.specs.declared.header.ProcessLine.{ProcessLine}
-use Rattle.dk_ledger.specs.Heading.{Heading, ended, name_of, line_of_row}
-use Rattle.dk_kernel.specs.Running.{Running, trace_of, world_of}
-use Rattle.dk_inspect.specs.View.{thread_body, thread_line, state_word, context_of, is_shown, denied_body, shown, view, view_of}
-use Rattle.dk_inspect.specs.Printing.{IsHeaderOf, IsRowAt, IsTextAt, IsThereIn, now_of, shown_of, thread_line_of, level_line_of, line_at, process_lines, all_lines, word_of}
+use Rattle.dk_inspect.proofs.Names.{◌≡◌, ◌<◌, ◌≤◌, ◌+◌, ◌∙◌, ℕ, List, [], ◌∷◌, ◌++◌, length, refl, ap, sym, subst, arith, Option, Some, None, option_map, slice_get, flat_map, IfSome, codes, decimal, option_map_or, slice_get-map, length-map, MAX_THREADS, Configuration, process_name, below, ProcessRow, ThreadId, Thread, family, denied, Context, ThreadRow, counted_row, counted_rows, state_of, unplaced, FamilyStands, RowsAreNamed, Past, ProcessLine, Heading, ended, name_of, line_of_row, Running, trace_of, world_of, thread_body, state_word, context_of, is_shown, denied_body, view, IsHeaderOf, IsRowAt, IsTextAt, IsThereIn, now_of, word_of}
+use Rattle.dk_inspect.specs.View.{thread_line, shown, view_of}
+use Rattle.dk_inspect.specs.Printing.{shown_of, thread_line_of, level_line_of, line_at, process_lines, all_lines}
 use Rattle.dk_inspect.proofs.Pieces.{by_place}
 use Rattle.dk_inspect.proofs.Shown.{rows-shown, shown-at, word-counted, by_family}
 

@@ -1,12 +1,6 @@
 -- Pieces that are written in turn, one for each number from 0 on.
-use Rattle.std.proofs.Common.{◌≡◌, ◌<◌, ◌≤◌, ◌+◌, ◌-◌, ◌∙◌, ℕ, zero, suc, List, [], ◌∷◌, ◌++◌, length, refl, ap, sym, subst, arith, append_assoc}
-use Rattle.std.specs.Prelude.{true, false, flat_map, slice_get, Option, Some, None, Result, Ok, Err, IsErr}
-use Rattle.std.specs.Option.{option_map_or}
-use Rattle.std.proofs.lemmas.List.{append-nil}
-use Rattle.dk_config.specs.Sums.{numbers, below}
-use Rattle.dk_outside.specs.Views.{SinkView}
-use Rattle.dk_outside.specs.Written.{Appends, Writes}
-use Rattle.dk_outside.proofs.WrittenLemmas.{first_fails, second_ends}
+use Rattle.dk_inspect.proofs.Names.{◌≡◌, ◌<◌, ◌≤◌, ◌+◌, ◌-◌, ◌∙◌, ℕ, zero, suc, List, [], ◌∷◌, ◌++◌, length, refl, ap, sym, subst, arith, append_assoc, false, flat_map, slice_get, Option, Some, None, Result, Ok, Err, IsErr, option_map_or, append-nil, numbers, below, SinkView, Appends, Writes, first_fails, second_ends}
+use Rattle.std.specs.Prelude.{true}
 
 more-from : (f : ℕ → List ℕ) (low n : ℕ) → flat_map f (numbers low (suc n)) ≡ flat_map f (numbers low n) ++ f (low + n)
 more-from f low zero = append-nil (f low) ∙ ap f (omega arith)

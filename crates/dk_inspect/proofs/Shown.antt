@@ -1,23 +1,5 @@
 -- The threads that are shown, and their rows.
-use Rattle.std.proofs.Common.{◌≡◌, ◌<◌, ◌∙◌, ◌==◌, ℕ, Bool, true, List, [], ◌∷◌, ◌++◌, length, map, refl, ap, sym, subst, arith, inl, inr}
-use Rattle.std.specs.Prelude.{Some, option_map, filter, filter_map, find, flat_map, slice_get, slice_get, is_some, nat_lt}
-use Rattle.std.specs.List.{list_any}
-use Rattle.std.proofs.lemmas.Bool.{cases_Bool}
-use Rattle.std.proofs.lemmas.Bool.Decides.{nat_tests}
-use Rattle.std.proofs.lemmas.Option.{slice_get-map}
-use Rattle.std.proofs.lemmas.Grind.{flat_map-append}
-use Rattle.dk_config.specs.Configuration.{Configuration}
-use Rattle.dk_trace.specs.declared.ThreadId.{ThreadId}
-use Rattle.dk_trace.specs.declared.Entry.{Entry}
-use Rattle.dk_trace.specs.Entries.{is_same}
-use Rattle.dk_trace.specs.Members.{Has}
-use Rattle.dk_trace.specs.Threads.{Thread, family, threads}
-use Rattle.dk_trace.proofs.Members.{filter-has, list_any-has, get-has}
-use Rattle.dk_threads.specs.Rows.{is_row_of}
-use Rattle.dk_threads.specs.Recount.{counted_row, counted_rows, has_row, is_there, row_at, state_of}
-use Rattle.dk_bound.specs.Rows.{FamilyStands, RowsAreNamed}
-use Rattle.dk_inspect.specs.View.{is_shown, state_word}
-use Rattle.dk_inspect.specs.Printing.{word_of}
+use Rattle.dk_inspect.proofs.Names.{◌≡◌, ◌<◌, ◌∙◌, ◌==◌, ℕ, Bool, true, List, [], ◌∷◌, ◌++◌, length, map, refl, ap, sym, subst, arith, inl, inr, Some, option_map, filter, filter_map, find, flat_map, slice_get, is_some, nat_lt, list_any, cases_Bool, nat_tests, slice_get-map, flat_map-append, Configuration, ThreadId, Entry, is_same, Has, Thread, family, threads, filter-has, list_any-has, get-has, is_row_of, counted_row, counted_rows, has_row, is_there, row_at, state_of, FamilyStands, RowsAreNamed, is_shown, state_word, word_of}
 
 -- the rows are those of the threads that are shown
 pub rows-shown : (c : Configuration) (n : ℕ) (xs : List Thread) → filter_map (row_at c n) xs ≡ map (counted_row c n) (filter (is_shown c n) xs)

@@ -1,28 +1,5 @@
 -- The call that is asked for, and what an instruction does.
-use Rattle.std.proofs.Common.{ℕ, ◌≡◌, ◌+◌, ◌*◌, ◌∷◌, ◌∙◌, ◌≤◌, length, Option, Some, None, arith, refl, ap, sym, subst}
-use Rattle.dk_isa.specs.declared.FaultKind.{FaultKind}
-use Rattle.dk_trace.specs.declared.ThreadId.{ThreadId}
-use Rattle.dk_trace.specs.declared.Work.{Work}
-use Rattle.dk_trace.specs.declared.Label.{Label}
-use Rattle.dk_trace.specs.declared.Event.{Event}
-use Rattle.dk_trace.specs.declared.Refusal.{Refusal}
-use Rattle.dk_trace.specs.Threads.{Thread}
-use Rattle.dk_trace.specs.Audit.{Follows, done_refusal, label_of}
-use Rattle.dk_cpu.specs.declared.Outcome.{Outcome}
-use Rattle.dk_cpu.specs.declared.kernel_call.KernelCall.{KernelCall}
-use Rattle.dk_cpu.specs.State.{State}
-use Rattle.dk_recount.specs.Counts.{stopped}
-use Rattle.dk_recount.specs.Events.{entry_of}
-use Rattle.dk_recount.specs.Facing.{CallerIsThere, Keeps}
-use Rattle.dk_world.proofs.Audits.{call-label, label-thread}
-use Rattle.dk_world.specs.Calls.{Effect, done, or_refused, unanswered}
-use Rattle.dk_past.specs.Past.{Past, call_entry, call_label, choice_at, with_entry, with_event}
-use Rattle.dk_dispatch.specs.Standing.{Dispatched, slots}
-use Rattle.dk_dispatch.specs.Calls.{IsDone, IsEnding, IsInCall, IsRefused, call_refusal}
-use Rattle.dk_kernel.specs.declared.executor.Executor.{Executor}
-use Rattle.dk_kernel.specs.Done.{plain, plain_done, plain_refused}
-use Rattle.dk_kernel.specs.Snapshots.{snapshot}
-use Rattle.dk_kernel.specs.Effects.{Calls, HasDone, MayEffect, after_told, at_call, caller, effect_at, effect_of, finished}
+use Rattle.dk_kernel.proofs.Names.{ℕ, ◌≡◌, ◌+◌, ◌*◌, ◌∷◌, ◌∙◌, ◌≤◌, length, Option, Some, None, arith, refl, ap, sym, subst, FaultKind, ThreadId, Work, Label, Event, Refusal, Thread, Follows, done_refusal, label_of, Outcome, KernelCall, State, stopped, entry_of, CallerIsThere, Keeps, call-label, label-thread, Effect, done, or_refused, unanswered, Past, call_entry, call_label, choice_at, with_entry, with_event, Dispatched, slots, IsDone, IsEnding, IsInCall, IsRefused, call_refusal, Executor, plain, plain_done, plain_refused, snapshot, Calls, HasDone, MayEffect, after_told, at_call, caller, effect_at, effect_of, finished}
 use Rattle.dk_kernel.proofs.Called.{few-by, own-entry, refusal-at, same-rows}
 
 -- the effect of a call that may be refused

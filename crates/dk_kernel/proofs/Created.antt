@@ -1,25 +1,5 @@
 -- A create, from what it wrote.
-use Rattle.std.proofs.Common.{ℕ, ◌≡◌, ◌+◌, ◌/◌, ◌∷◌, ◌∙◌, ◌≤◌, length, Option, Some, None, ap, sym, subst}
-use Rattle.dk_trace.specs.declared.ThreadId.{ThreadId}
-use Rattle.dk_trace.specs.declared.Event.{Event}
-use Rattle.dk_trace.specs.declared.Refusal.{Refusal}
-use Rattle.dk_trace.specs.Threads.{Thread}
-use Rattle.dk_trace.specs.Refusals.{create_refusal}
-use Rattle.dk_trace.specs.Audit.{next_serial}
-use Rattle.dk_threads.specs.declared.row.ThreadRow.{ThreadRow}
-use Rattle.dk_cpu.specs.declared.Context.{Context}
-use Rattle.dk_cpu.specs.Machine.{reg}
-use Rattle.dk_cpu.specs.State.{State, context_at}
-use Rattle.dk_recount.specs.Counts.{stopped}
-use Rattle.dk_recount.specs.Facing.{CallerIsThere}
-use Rattle.dk_world.specs.Calls.{Effect, child_context, creates, or_refused}
-use Rattle.dk_past.specs.Past.{Past, call_entry, call_label, with_event}
-use Rattle.dk_dispatch.specs.Standing.{Dispatched}
-use Rattle.dk_dispatch.specs.Calls.{IsCreated, IsNotCreated}
-use Rattle.dk_kernel.specs.declared.executor.Executor.{Executor}
-use Rattle.dk_kernel.specs.Done.{child_made, plain_refused}
-use Rattle.dk_kernel.specs.Snapshots.{snapshot}
-use Rattle.dk_kernel.specs.Effects.{Calls, at_call, caller, effect_of, finished}
+use Rattle.dk_kernel.proofs.Names.{ℕ, ◌≡◌, ◌+◌, ◌/◌, ◌∷◌, ◌∙◌, ◌≤◌, length, Option, Some, None, ap, sym, subst, ThreadId, Event, Refusal, Thread, create_refusal, next_serial, ThreadRow, Context, reg, State, context_at, stopped, CallerIsThere, Effect, child_context, creates, or_refused, Past, call_entry, call_label, with_event, Dispatched, IsCreated, IsNotCreated, Executor, child_made, plain_refused, snapshot, Calls, at_call, caller, effect_of, finished}
 use Rattle.dk_kernel.proofs.Called.{few-by, refusal-at, row-name, same-rows}
 
 -- the effect of a create, by the thread's context and the number of the program's instructions

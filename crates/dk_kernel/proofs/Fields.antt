@@ -1,22 +1,5 @@
 -- A kernel's fields, and the run that they stand for.
-use Rattle.std.proofs.Common.{ℕ, suc, ◌≡◌, ◌+◌, ◌-◌, ◌≤◌, ◌∷◌, ◌++◌, List, length, map, ap, ◌∙◌, sym, subst, add-one, arith, length-append}
-use Rattle.std.specs.Prelude.{replicate}
-use Rattle.std.proofs.lemmas.List.{length-replicate}
-use Rattle.dk_config.specs.declared.TheConstants.{MAX_TICKS}
-use Rattle.dk_config.specs.Configuration.{Configuration}
-use Rattle.dk_trace.specs.declared.Work.{Work}
-use Rattle.dk_trace.specs.declared.Choice.{Choice}
-use Rattle.dk_trace.specs.declared.Label.{Label}
-use Rattle.dk_trace.specs.declared.Entry.{Entry}
-use Rattle.dk_trace.specs.Entries.{quiet}
-use Rattle.dk_trace.specs.Audit.{label_of}
-use Rattle.dk_cpu.specs.State.{State}
-use Rattle.dk_world.specs.Run.{World, world, step}
-use Rattle.dk_world.specs.Refused.{RefusalLeaves, RefusalsLeave}
-use Rattle.dk_past.specs.Past.{Past, later}
-use Rattle.dk_dispatch.specs.Standing.{Dispatched}
-use Rattle.dk_kernel.specs.Ties.{IsRunning, code_of, run_of}
-use Rattle.dk_kernel.specs.Running.{Running, IsAt, IsNext, running, trace_of, world_of}
+use Rattle.dk_kernel.proofs.Names.{ℕ, suc, ◌≡◌, ◌+◌, ◌-◌, ◌≤◌, ◌∷◌, ◌++◌, List, length, map, ap, ◌∙◌, sym, subst, add-one, arith, length-append, replicate, length-replicate, MAX_TICKS, Configuration, Work, Choice, Label, Entry, quiet, label_of, State, World, world, step, RefusalLeaves, RefusalsLeave, Past, later, Dispatched, IsRunning, code_of, run_of, Running, IsAt, IsNext, running, trace_of, world_of}
 use Rattle.dk_kernel.proofs.Stretched.{replicate-some}
 
 module _ (d : Dispatched) (states : List State) (c : Configuration) (n : ℕ) (at : IsAt d states (running c states n)) where

@@ -1,24 +1,5 @@
 -- The label of each entry of a run names a level and a process that there are.
-use Rattle.std.proofs.Common.{◌≡◌, ◌<◌, List, [], ◌∷◌, length, subst, sym, inl, inr}
-use Rattle.dk_config.specs.Configuration.{Configuration}
-use Rattle.dk_config.specs.Checked.{IsAccepted, IsChecked}
-use Rattle.dk_trace.specs.declared.Label.{Label}
-use Rattle.dk_trace.specs.declared.Entry.{Entry}
-use Rattle.dk_trace.specs.declared.ThreadId.{ThreadId}
-use Rattle.dk_trace.specs.declared.Phase.{Phase}
-use Rattle.dk_trace.specs.declared.Work.{Work}
-use Rattle.dk_trace.specs.declared.Choice.{Choice}
-use Rattle.dk_trace.specs.Members.{Has}
-use Rattle.dk_trace.specs.Threads.{Thread, threads}
-use Rattle.dk_trace.specs.Choices.{chosen}
-use Rattle.dk_trace.specs.Audit.{Audited, HasChosenLabel, label_of}
-use Rattle.dk_trace.specs.Ranges.{size_of}
-use Rattle.dk_bound.specs.Laws.{Always}
-use Rattle.dk_world.specs.Laws.{RunsAreAudited}
-use Rattle.dk_world.specs.Run.{trace}
-use Rattle.dk_bound.specs.Standing.{ChoiceHolds, ChosenHolds, ThreadsPlaced}
-use Rattle.dk_kernel.specs.Laws.{InEveryRun}
-use Rattle.dk_kernel.specs.Recording.{IsLabelKnown, NewestIsKnown}
+use Rattle.dk_kernel.proofs.Names.{◌≡◌, ◌<◌, List, [], ◌∷◌, length, subst, sym, inl, inr, Configuration, IsAccepted, IsChecked, Label, Entry, ThreadId, Phase, Work, Choice, Has, Thread, threads, chosen, Audited, HasChosenLabel, label_of, size_of, Always, RunsAreAudited, trace, ChoiceHolds, ChosenHolds, ThreadsPlaced, InEveryRun, IsLabelKnown, NewestIsKnown}
 
 -- by what the laws of the bound say of whoever has a tick
 module _ (has : Always ChosenHolds) (places : Always ThreadsPlaced) where

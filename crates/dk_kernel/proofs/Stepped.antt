@@ -1,34 +1,6 @@
 -- A tick goes from the world of the run to its next one.
-use Rattle.std.proofs.Common.{ℕ, ◌≡◌, ◌+◌, ◌*◌, ◌/◌, ◌∷◌, ◌∙◌, ◌<◌, ◌≤◌, Bool, true, false, List, length, map, Option, Some, None, option_map, get_or, arith, refl, ap, sym, subst}
-use Rattle.std.specs.Prelude.{slice_set}
-use Rattle.std.proofs.lemmas.List.{get_or_default}
-use Rattle.std.proofs.Math.Seq.{map-set_same}
-use Rattle.dk_config.specs.declared.TheConstants.{MAX_CHILDREN, MAX_TICKS}
-use Rattle.dk_isa.specs.declared.FaultKind.{FaultKind}
-use Rattle.dk_trace.specs.declared.ThreadId.{ThreadId}
-use Rattle.dk_trace.specs.declared.Event.{Event}
-use Rattle.dk_trace.specs.declared.Entry.{Entry}
-use Rattle.dk_trace.specs.Holds.{held_by}
-use Rattle.dk_trace.specs.Audit.{Audited, Follows}
-use Rattle.dk_cpu.specs.Machine.{Tick, body_tick}
-use Rattle.dk_cpu.specs.State.{State, after_tick, context_at, tick_at}
-use Rattle.dk_recount.specs.Recount.{IsRuled}
-use Rattle.dk_recount.specs.Counts.{moved, stopped}
-use Rattle.dk_recount.specs.Events.{entry_of}
-use Rattle.dk_recount.specs.Facing.{HasOwn, Keeps}
-use Rattle.dk_world.specs.Laws.{StepsAreAudited}
-use Rattle.dk_world.specs.Calls.{Effect, effect}
-use Rattle.dk_world.specs.Run.{Image, Turn, World, breaks_hold, executes, image_after, step, thread_turn, tick_in, turned, world}
-use Rattle.dk_past.specs.Past.{Past, Ready, charged, choice_at, closed, opened}
-use Rattle.dk_dispatch.specs.Standing.{Dispatched, slots}
-use Rattle.dk_kernel.specs.declared.executor.Executor.{Executor}
-use Rattle.dk_kernel.specs.Done.{Answer, Done, NewChild}
-use Rattle.dk_kernel.specs.Snapshots.{snapshot}
-use Rattle.dk_dispatch.specs.Ticks.{IsShut}
-use Rattle.dk_kernel.specs.Effects.{HasRows, after_told, caller, child_of, effect_of, finished, label_at, reply_of, with_label}
+use Rattle.dk_kernel.proofs.Names.{ℕ, ◌≡◌, ◌+◌, ◌*◌, ◌/◌, ◌∷◌, ◌∙◌, ◌<◌, ◌≤◌, Bool, true, false, List, length, map, Option, Some, None, option_map, get_or, arith, refl, ap, sym, subst, slice_set, get_or_default, map-set_same, MAX_CHILDREN, MAX_TICKS, FaultKind, ThreadId, Event, Entry, held_by, Audited, Follows, Tick, body_tick, State, after_tick, context_at, tick_at, IsRuled, moved, stopped, entry_of, HasOwn, Keeps, StepsAreAudited, Effect, effect, Image, Turn, World, breaks_hold, executes, image_after, step, thread_turn, tick_in, turned, world, Past, Ready, charged, choice_at, closed, opened, Dispatched, slots, Executor, Answer, Done, NewChild, snapshot, IsShut, HasRows, after_told, caller, child_of, effect_of, finished, label_at, reply_of, with_label, HasTurned, MayTurn, breaks_at, turn_effect, turn_entry, turn_label, turn_state, AreImages, HasBooked, IsImage, IsRunning, code_of, next_world, no_state, run_of, world_at}
 use Rattle.dk_kernel.proofs.Called.{same-rows}
-use Rattle.dk_kernel.specs.Turns.{HasTurned, MayTurn, breaks_at, turn_effect, turn_entry, turn_label, turn_state}
-use Rattle.dk_kernel.specs.Ties.{AreImages, HasBooked, IsImage, IsRunning, code_of, next_world, no_state, run_of, world_at}
 use Rattle.dk_kernel.proofs.Images.{context_at-after_tick, finished-code, image-finished, keeps-image}
 use Rattle.dk_kernel.proofs.Steps.{stopped-moved, sum-of-steps}
 use Rattle.dk_kernel.proofs.Worlds.{elsewhere, images-after, keeps-images, step-body}

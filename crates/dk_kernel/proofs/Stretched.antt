@@ -1,21 +1,5 @@
 -- A kernel's fields after a stretch of ticks.
-use Rattle.std.proofs.Common.{ℕ, zero, suc, ◌≡◌, ◌-◌, ◌<◌, ◌∷◌, List, Option, Some, None, refl, ap, ◌∙◌, sym, subst, arith}
-use Rattle.std.specs.Prelude.{replicate}
-use Rattle.std.specs.Option.{option_map_or}
-use Rattle.dk_config.specs.Configuration.{Configuration}
-use Rattle.dk_trace.specs.declared.ThreadId.{ThreadId}
-use Rattle.dk_trace.specs.declared.Choice.{Choice}
-use Rattle.dk_trace.specs.declared.Entry.{Entry}
-use Rattle.dk_trace.specs.Choices.{chosen}
-use Rattle.dk_cpu.specs.State.{State}
-use Rattle.dk_world.specs.Refused.{RefusalLeaves, RefusalsLeave}
-use Rattle.dk_world.specs.Run.{World, body_step, executes, quiet_step, step, world}
-use Rattle.dk_past.specs.Past.{Past, choice_at, later}
-use Rattle.dk_dispatch.specs.Standing.{Dispatched, slots}
-use Rattle.dk_dispatch.specs.Ticks.{Goes}
-use Rattle.dk_kernel.specs.Ties.{AreImages, IsRunning, run_of}
-use Rattle.dk_kernel.specs.Running.{Running, trace_of, world_of}
-use Rattle.dk_kernel.specs.Stretches.{before_last}
+use Rattle.dk_kernel.proofs.Names.{ℕ, zero, suc, ◌≡◌, ◌-◌, ◌<◌, ◌∷◌, List, Option, Some, None, refl, ap, ◌∙◌, sym, subst, arith, replicate, option_map_or, Configuration, ThreadId, Choice, Entry, chosen, State, RefusalLeaves, RefusalsLeave, World, body_step, executes, quiet_step, step, world, Past, choice_at, later, Dispatched, slots, Goes, AreImages, IsRunning, run_of, Running, trace_of, world_of, before_last}
 use Rattle.dk_kernel.proofs.Called.{same-rows}
 use Rattle.dk_kernel.proofs.Worlds.{keeps-images, step-quiet}
 

@@ -1,27 +1,5 @@
 -- The ticks of a thread that computes, one after the other, in each of the worlds that they lead to.
-use Rattle.std.proofs.Common.{ℕ, zero, suc, ◌≡◌, ◌<◌, ◌≤◌, ◌∷◌, List, length, map, get_or, set, false, Some, None, refl, ap, ◌∙◌, sym, subst, arith, inl}
-use Rattle.std.proofs.lemmas.List.{get_or-set_same, get_or_default, set-get_or, set-set}
-use Rattle.std.proofs.Math.Seq.{map-set_same}
-use Rattle.dk_config.specs.declared.TheConstants.{MAX_CHILDREN}
-use Rattle.dk_config.specs.Configuration.{Configuration}
-use Rattle.dk_trace.specs.declared.ThreadId.{ThreadId}
-use Rattle.dk_trace.specs.declared.Choice.{Choice}
-use Rattle.dk_trace.specs.declared.Work.{Work}
-use Rattle.dk_trace.specs.declared.Entry.{Entry}
-use Rattle.dk_trace.specs.Entries.{quiet, thread_of}
-use Rattle.dk_trace.specs.Holds.{held_by, innermost_left}
-use Rattle.dk_trace.specs.Choices.{chosen}
-use Rattle.dk_trace.specs.Audit.{label_of}
-use Rattle.dk_cpu.specs.declared.Outcome.{Outcome}
-use Rattle.dk_cpu.specs.Machine.{Tick, body_tick}
-use Rattle.dk_cpu.specs.State.{State, Works, WorksFor, after_tick, context_at, tick_at}
-use Rattle.dk_recount.specs.Facing.{HasOwn, Slots}
-use Rattle.dk_world.specs.Run.{Image, World, body_step, breaks_hold, executes, step, thread_turn, tick_in, turned, world}
-use Rattle.dk_past.specs.Past.{Past, choice_at, later}
-use Rattle.dk_dispatch.specs.Standing.{Dispatched, slots}
-use Rattle.dk_dispatch.specs.Ticks.{Goes}
-use Rattle.dk_kernel.specs.Ties.{AreImages, IsImage, IsRunning, code_of, no_state, run_of, state_at}
-use Rattle.dk_kernel.specs.Running.{IsAt, Running, running as running_of}
+use Rattle.dk_kernel.proofs.Names.{ℕ, zero, suc, ◌≡◌, ◌<◌, ◌≤◌, ◌∷◌, List, length, map, get_or, set, false, Some, None, refl, ap, ◌∙◌, sym, subst, arith, inl, get_or-set_same, get_or_default, set-get_or, set-set, map-set_same, MAX_CHILDREN, Configuration, ThreadId, Choice, Work, Entry, quiet, thread_of, held_by, innermost_left, chosen, label_of, Outcome, Tick, body_tick, State, Works, WorksFor, after_tick, context_at, tick_at, HasOwn, Slots, Image, World, body_step, breaks_hold, executes, step, thread_turn, tick_in, turned, world, Past, choice_at, later, Dispatched, slots, Goes, AreImages, IsImage, IsRunning, code_of, no_state, run_of, state_at, IsAt, Running, running_of}
 use Rattle.dk_kernel.proofs.Called.{same-rows}
 use Rattle.dk_kernel.proofs.Fields.{IsLater, later-fields}
 use Rattle.dk_kernel.proofs.Images.{image-finished, image_with}

@@ -43,11 +43,11 @@ impl Model for Mutexes {
 }
 
 impl Mutexes {
-    ghost use Rattle.std.specs.Prelude.{◌<◌, ◌||◌, length, nat_lt, None, false, true, IfOk, MatchResult};
+    ghost use Rattle.std.specs.Prelude.{ℕ, ◌<◌, ◌||◌, length, nat_lt, None, false, true, IfOk, MatchOption, MatchResult};
     ghost use Rattle.dk_config.specs.Checked.{IsChecked, IsWithinLimits};
     ghost use Rattle.dk_mutex.specs.Rows.{rows_of};
     ghost use Rattle.dk_mutex.specs.Front.{IsLockable};
-    ghost use Rattle.dk_mutex.specs.Table.{given_to, hold_of, holds_within, is_free, lock_refusal, unlock_refusal};
+    ghost use Rattle.dk_mutex.specs.Table.{effective_level, given_to, hold_of, holds_within, is_free, lock_refusal, unlock_refusal};
 
     /// Nobody holds a mutex.
     pub fn at_start(config: &Config) -> Mutexes
@@ -211,6 +211,24 @@ impl Mutexes {
         if self.may_hold(id) {
             self.front.spend(id);
             self.rows.spend(id);
+        }
+    }
+
+    /// One tick of the thread, as `spend`, where it is the holder that runs first, with the level at which it runs. None
+    /// where it isn't, and then nothing has changed.
+    #[inline(always)]
+    pub fn spend_first(&mut self, id: ThreadId) -> Option<u8>
+        requires { holds_within id 0 self.old ≡ false }
+        ensures { MatchOption result (self.new ≡ self.old)
+            (λ level. ((own : ℕ) → level ≡ effective_level id own self.old) × (self.new ≡ map (spent id) self.old)) }
+    {
+        if self.front.is_of(id) {
+            let level = self.front.level;
+            self.front.spend(id);
+            self.rows.spend(id);
+            Some(level)
+        } else {
+            None
         }
     }
 

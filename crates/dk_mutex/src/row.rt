@@ -172,7 +172,8 @@ fn unless_by(holder: Option<Holder>, id: ThreadId) -> Option<Holder>
     }
 }
 
-/// So many ticks of the thread, in all mutexes.
+/// So many ticks of the thread, in all mutexes. Few ticks come here, so it stands apart from them.
+#[inline(never)]
 pub fn take_all(rows: &mut [Lockable], id: ThreadId, ticks: u32)
     ensures { rows.new ≡ map (taken ticks id) rows.old }
 {

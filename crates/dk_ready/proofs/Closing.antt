@@ -1,15 +1,5 @@
 -- What the closing of one job leaves of the seats and the queues.
-use Rattle.std.specs.Prelude.{if◌then◌else◌, nat_lt, filter}
-use Rattle.std.specs.List.{position_from}
-use Rattle.std.proofs.Common.{eqb, ℕ, length, inl, inr, ◌<◌, ◌≡◌, subst, ◌&&◌, Bool, sym, not, refl, true, ◌∙◌, ap, false, arith, ◌∷◌, List, ◌+◌, []}
-use Rattle.std.proofs.lemmas.Bool.{eqb-true, cases_Bool}
-use Rattle.std.proofs.lemmas.List.{get_or-set_same}
-use Rattle.std.proofs.lemmas.Bool.Decides.{nat_tests}
-use Rattle.dk_config.proofs.Lists.{filter-all}
-use Rattle.dk_rail.specs.Queues.{queue_at, unlinked, holds, without}
-use Rattle.dk_trace.specs.Jobs.{rem}
-use Rattle.dk_ready.specs.declared.seat.Seat.{Seat}
-use Rattle.dk_ready.specs.Roster.{closed, seat_at, vacant, closed_on, Roster, left_on}
+use Rattle.dk_ready.proofs.Names.{if◌then◌else◌, nat_lt, filter, position_from, eqb, ℕ, length, inl, inr, ◌<◌, ◌≡◌, subst, ◌&&◌, Bool, sym, not, refl, true, ◌∙◌, ap, false, arith, ◌∷◌, List, ◌+◌, [], eqb-true, cases_Bool, get_or-set_same, nat_tests, filter-all, queue_at, unlinked, holds, without, rem, Seat, closed, seat_at, vacant, closed_on, Roster, left_on}
 use Rattle.dk_ready.proofs.Numbers.{set-other}
 use Rattle.dk_ready.proofs.Moving.{queue-unlinked, filter-same}
 

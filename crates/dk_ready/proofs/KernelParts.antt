@@ -1,21 +1,5 @@
 -- The kernel's own parts after a tick and after an event.
-use Rattle.std.proofs.Common.{◌≡◌, ◌<◌, ◌+◌, ◌-◌, ◌∙◌, true, false, ltb, eqb, ℕ, zero, suc, List, ◌∷◌, length, take, get_or, set, Option, Some, None, refl, ap, sym, arith, Bool, []}
-use Rattle.std.specs.Prelude.{count_by, fold, if◌then◌else◌}
-use Rattle.std.specs.Option.{option_map_or}
-use Rattle.std.proofs.lemmas.Bool.Decides.{nat_tests}
-use Rattle.dk_config.specs.Configuration.{Configuration}
-use Rattle.dk_config.specs.declared.rows.LevelRow.{LevelRow}
-use Rattle.dk_config.specs.Windows.{release}
-use Rattle.dk_config.proofs.Counting.{get_or-map-numbers}
-use Rattle.dk_trace.specs.declared.Label.{Label}
-use Rattle.dk_trace.specs.declared.Entry.{Entry}
-use Rattle.dk_trace.specs.Entries.{kernel_level, is_kernel_at, window, quiet}
-use Rattle.dk_trace.specs.Jobs.{Job, kernel_rem}
-use Rattle.dk_trace.proofs.Windows.{count-charged}
-use Rattle.dk_trace.specs.JobSteps.{spent}
-use Rattle.dk_ready.specs.Roster.{new_job}
-use Rattle.dk_ready.specs.Recount.{AreParts, kernel_part}
-use Rattle.dk_ready.specs.Start.{first_parts}
+use Rattle.dk_ready.proofs.Names.{◌≡◌, ◌<◌, ◌+◌, ◌-◌, ◌∙◌, true, false, ltb, eqb, ℕ, zero, suc, List, ◌∷◌, length, take, get_or, set, Option, Some, None, refl, ap, sym, arith, Bool, [], count_by, fold, if◌then◌else◌, option_map_or, nat_tests, Configuration, LevelRow, release, get_or-map-numbers, Label, Entry, kernel_level, is_kernel_at, window, quiet, Job, kernel_rem, count-charged, spent, new_job, AreParts, kernel_part, first_parts}
 use Rattle.dk_ready.proofs.Numbers.{map-same, rows-places, set-numbers}
 
 same-part : (s s' u u' : ℕ) → s ≡ s' → u ≡ u' → ◌≡◌ {A = Job} (record { share = s; used = u; out_ticks = 0; closed = false }) (record { share = s'; used = u'; out_ticks = 0; closed = false })

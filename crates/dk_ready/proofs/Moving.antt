@@ -1,28 +1,6 @@
 -- The seats and the queues where the job of one thread moves, or of none.
-use Rattle.std.proofs.Common.{◌≡◌, ◌<◌, ◌≤◌, ◌∙◌, inl, inr, ◌&&◌, not, Bool, true, false, cond, eqb, ltb, ℕ, List, [], ◌∷◌, length, map, option_map, refl, ap, sym, subst, arith, zero, suc, ◌+◌, set, ◌++◌, ◌||◌}
-use Rattle.std.specs.Prelude.{filter, slice_get, IsSome, ◌==◌, IsNone}
-use Rattle.std.proofs.lemmas.Bool.{cases_Bool, cases_eq, and_parts}
-use Rattle.std.proofs.lemmas.Bool.Decides.{nat_tests}
-use Rattle.std.proofs.lemmas.Option.{slice_get-map}
-use Rattle.std.proofs.lemmas.List.{get_or-set_same, set-set, set-get_or}
-use Rattle.dk_config.specs.Configuration.{Configuration}
-use Rattle.dk_config.proofs.Lists.{slice_set-length}
-use Rattle.dk_trace.specs.declared.ThreadId.{ThreadId}
-use Rattle.dk_trace.specs.declared.Entry.{Entry}
-use Rattle.dk_trace.specs.Members.{Has}
-use Rattle.dk_trace.specs.Entries.{is_same}
-use Rattle.dk_trace.specs.Threads.{Thread, threads}
-use Rattle.dk_trace.specs.Jobs.{Job, job, rem, thread_rem}
-use Rattle.dk_trace.proofs.Same.{same-id, same-self}
-use Rattle.dk_trace.specs.JobSteps.{spent, worked_for, HasBody}
-use Rattle.dk_rail.specs.Queues.{queue_at, unlinked, without, holder, holds, pushed, Queues}
-use Rattle.dk_ready.specs.declared.seat.Seat.{Seat}
-use Rattle.dk_ready.specs.Roster.{Roster, closed, closed_on, left_on, seat_at, spent_on, told_phase, vacant, with_job, spent_for, queued}
-use Rattle.dk_ready.specs.Recount.{AreSeated, IsRecount, KeepsJobs, MovesJob, is_ready, ready_nodes, seat_of}
+use Rattle.dk_ready.proofs.Names.{◌≡◌, ◌<◌, ◌≤◌, ◌∙◌, inl, inr, ◌&&◌, not, Bool, true, false, cond, eqb, ltb, ℕ, List, [], ◌∷◌, length, map, option_map, refl, ap, sym, subst, arith, zero, suc, ◌+◌, set, ◌++◌, ◌||◌, filter, slice_get, IsSome, ◌==◌, IsNone, cases_Bool, cases_eq, and_parts, nat_tests, slice_get-map, get_or-set_same, set-set, set-get_or, Configuration, slice_set-length, ThreadId, Entry, Has, is_same, Thread, threads, Job, job, rem, thread_rem, same-id, same-self, spent, worked_for, HasBody, queue_at, unlinked, without, holder, holds, pushed, Queues, Seat, Roster, closed, closed_on, left_on, seat_at, spent_on, told_phase, vacant, with_job, spent_for, queued, AreSeated, IsRecount, KeepsJobs, MovesJob, is_ready, ready_nodes, seat_of, position_from, list_any-has, map-has, has-filter, worked-more, left-more}
 use Rattle.dk_ready.proofs.Numbers.{set-other}
-use Rattle.std.specs.List.{position_from}
-use Rattle.dk_trace.proofs.Members.{list_any-has, map-has, has-filter}
-use Rattle.dk_trace.proofs.Orders.{worked-more, left-more}
 
 pub queue-unlinked : (node : ℕ) (lists : List (List ℕ)) (k : ℕ) → queue_at (unlinked lists node) k ≡ without node (queue_at lists k)
 queue-unlinked node [] k = refl

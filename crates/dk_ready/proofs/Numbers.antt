@@ -1,8 +1,5 @@
 -- Lists of numbers' images, and lists of which one item is set.
-use Rattle.std.proofs.Common.{◌≡◌, ◌<◌, ◌+◌, ◌∙◌, ℕ, zero, suc, true, false, eqb, List, [], ◌∷◌, ◌++◌, length, map, get_or, set, Some, refl, ap, arith}
-use Rattle.std.specs.Prelude.{slice_get}
-use Rattle.std.proofs.lemmas.Bool.Decides.{nat_tests}
-use Rattle.dk_config.specs.Sums.{numbers}
+use Rattle.dk_ready.proofs.Names.{◌≡◌, ◌<◌, ◌+◌, ◌∙◌, ℕ, zero, suc, true, false, eqb, List, [], ◌∷◌, ◌++◌, length, map, get_or, set, Some, refl, ap, arith, slice_get, nat_tests, numbers}
 
 pub map-same : {A : Type 0} (f g : ℕ → A) (low n : ℕ) → ((j : ℕ) → j < low + n → f j ≡ g j) → map f (numbers low n) ≡ map g (numbers low n)
 map-same f g low zero same = refl

@@ -1,26 +1,5 @@
 -- The mains sit down one after the other, and are then the recount of no entries.
-use Rattle.std.proofs.Common.{◌≡◌, ◌<◌, ◌≤◌, ◌+◌, ◌-◌, ◌*◌, ◌∙◌, ◌⊎◌, inl, inr, ℕ, zero, suc, Bool, true, false, cond, ltb, eqb, List, [], ◌∷◌, ◌++◌, length, map, get_or, replicate, set, None, refl, ap, sym, subst, arith}
-use Rattle.std.specs.Prelude.{filter, flat_map}
-use Rattle.std.specs.List.{position_from}
-use Rattle.std.proofs.lemmas.Bool.{cases_Bool, cases_eq}
-use Rattle.std.proofs.lemmas.Bool.Decides.{nat_tests}
-use Rattle.std.proofs.lemmas.List.{length-replicate, map-append, append-nil, get_or-set_same, length-set}
-use Rattle.std.proofs.lemmas.List.Elements.{filter-append}
-use Rattle.dk_config.specs.declared.TheConstants.{MAX_THREADS}
-use Rattle.dk_config.specs.Configuration.{Configuration}
-use Rattle.dk_config.specs.Checked.{IsChecked}
-use Rattle.dk_config.specs.Sums.{numbers, below}
-use Rattle.dk_config.specs.Windows.{main_level, budget}
-use Rattle.dk_trace.specs.declared.ThreadId.{ThreadId}
-use Rattle.dk_trace.specs.Members.{Has}
-use Rattle.dk_trace.specs.Threads.{Thread, family, main_thread}
-use Rattle.dk_trace.specs.Jobs.{Job, job, thread_rem}
-use Rattle.dk_trace.specs.JobSteps.{released as whole}
-use Rattle.dk_rail.specs.Queues.{Queues, queue_at, holds, holder, pushed}
-use Rattle.dk_ready.specs.declared.seat.Seat.{Seat}
-use Rattle.dk_ready.specs.Roster.{vacant, seat_at, queued}
-use Rattle.dk_ready.specs.Recount.{IsRecount, is_ready, seat_of}
-use Rattle.dk_ready.specs.Start.{main_seat, seated}
+use Rattle.dk_ready.proofs.Names.{◌≡◌, ◌<◌, ◌≤◌, ◌+◌, ◌-◌, ◌*◌, ◌∙◌, ◌⊎◌, inl, inr, ℕ, zero, suc, Bool, true, false, cond, ltb, eqb, List, [], ◌∷◌, ◌++◌, length, map, get_or, replicate, set, None, refl, ap, sym, subst, arith, filter, flat_map, position_from, cases_Bool, cases_eq, nat_tests, length-replicate, map-append, append-nil, get_or-set_same, length-set, filter-append, MAX_THREADS, Configuration, IsChecked, numbers, below, main_level, budget, ThreadId, Has, Thread, family, main_thread, Job, job, thread_rem, whole, Queues, queue_at, holds, holder, pushed, Seat, vacant, seat_at, queued, IsRecount, is_ready, seat_of, main_seat, seated}
 use Rattle.dk_ready.proofs.Numbers.{numbers-more, set-other}
 
 -- the nodes of the mains of level k among the first processes

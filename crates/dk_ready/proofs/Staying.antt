@@ -1,16 +1,6 @@
 -- Who stands first stays there where another node is closed and leaves its queue.
-use Rattle.std.proofs.Common.{ℕ, arith, ◌≡◌, ◌<◌, ◌∙◌, ◌⊎◌, inl, inr, true, false, eqb, Option, None, Some, IfSome, length, slice_get, set, ap, sym, subst}
-use Rattle.std.specs.Prelude.{is_some}
-use Rattle.std.specs.Option.{MatchOption}
-use Rattle.std.proofs.lemmas.Bool.Decides.{nat_tests}
-use Rattle.dk_trace.specs.JobSteps.{HasBody}
-use Rattle.dk_rail.specs.Queues.{AreQuiet, Queues, queue_at, unlinked}
-use Rattle.dk_rail.specs.Waits.{IsFirst as WaitsFirst}
-use Rattle.dk_rail.proofs.Quiet.{first-unlinked}
-use Rattle.dk_ready.specs.declared.first.First.{First}
-use Rattle.dk_ready.specs.declared.seat.Seat.{Seat}
-use Rattle.dk_ready.specs.First.{IsKept}
-use Rattle.dk_ready.specs.Roster.{Roster, seat_at, vacant}
+use Rattle.dk_ready.proofs.Names.{ℕ, arith, ◌≡◌, ◌<◌, ◌∙◌, ◌⊎◌, inl, inr, true, false, eqb, Option, None, Some, IfSome, length, set, ap, sym, subst, is_some, MatchOption, nat_tests, HasBody, AreQuiet, Queues, queue_at, unlinked, WaitsFirst, first-unlinked, First, Seat, IsKept, Roster, seat_at, vacant}
+use Rattle.std.proofs.Common.{slice_get}
 use Rattle.dk_ready.proofs.Numbers.{set-other}
 
 -- the node has another seat, and has left its queue

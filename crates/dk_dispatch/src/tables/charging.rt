@@ -143,7 +143,31 @@ fn spend_held<L: Ledger>(
     ensures demand { demand.new ≡ held_cells level (effective_level id level mutexes.old) 1 0 demand.old }
     ensures steps { steps.new ≤ steps.old + level }
 {
+    let first = spend_first(mutexes, id, level);
+    demand.lower_blocking(first..level, 1, steps);
+}
+
+/// The same of the mutexes alone. Answers the level at which the thread runs, which is of the level.
+#[inline(always)]
+fn spend_first(mutexes: &mut Mutexes, id: ThreadId, level: u8) -> u8
+    requires { holds_within id 0 mutexes.old ≡ false }
+    ensures level { result ≡ effective_level id level mutexes.old }
+    ensures mutexes { mutexes.new ≡ map (spent id) mutexes.old }
+{
+    match mutexes.spend_first(id) {
+        Some(first) => first,
+        None => spend_other(mutexes, id, level),
+    }
+}
+
+/// Where another thread runs first of the holders, or nobody does.
+#[inline(never)]
+fn spend_other(mutexes: &mut Mutexes, id: ThreadId, level: u8) -> u8
+    requires { holds_within id 0 mutexes.old ≡ false }
+    ensures level { result ≡ effective_level id level mutexes.old }
+    ensures mutexes { mutexes.new ≡ map (spent id) mutexes.old }
+{
     let first = mutexes.effective_level(id, level);
     mutexes.spend(id);
-    demand.lower_blocking(first..level, 1, steps);
+    first
 }

@@ -22,15 +22,17 @@ impl AllTables {
     }
 
     /// Each table looks at one level more, whether anybody has something to do there, so that `choose` need
-    /// not look at all of them. At most three steps.
+    /// not look at all of them. Where it is found who stands first, the wishes are left for the next tick. At most
+    /// three steps.
     #[inline(always)]
     fn settle<L: Ledger>(&mut self, steps: &mut Steps<L>)
         ensures same { self.new ≡ self.old }
         ensures steps { steps.new ≤ steps.old + 3 }
     {
         self.kernel.settle(steps);
-        self.jobs.settle(steps);
-        self.slack.settle(steps);
+        if !self.jobs.settle(steps) {
+            self.slack.settle(steps);
+        }
     }
 
     /// The ends, starts and releases of the present tick, which the close left, by the tables.

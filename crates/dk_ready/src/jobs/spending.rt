@@ -1,5 +1,7 @@
-ghost use Rattle.std.specs.Prelude.{IfSome};
+ghost use Rattle.std.specs.Prelude.{◌<◌, ◌≤◌, ◌+◌, IfSome, get_or};
+ghost use Rattle.dk_trace.specs.JobSteps.{HasBody};
 ghost use Rattle.dk_ready.specs.First.{IsSeated};
+ghost use Rattle.dk_ready.specs.Roster.{vacant};
 
 use super::Jobs;
 use crate::first::{Ahead, First};
@@ -9,7 +11,7 @@ use dk_steps::Steps;
 use std::sync::ledger::Ledger;
 
 impl Jobs {
-    ghost use Rattle.std.specs.Prelude.{◌≡◌, ◌+◌, ◌<◌, ◌≤◌, IsSome, length};
+    ghost use Rattle.std.specs.Prelude.{◌≡◌, ◌+◌, ◌<◌, ◌≤◌, IsSome, if◌then◌else◌, length};
     ghost use Rattle.dk_rail.specs.Queues.{holder};
     ghost use Rattle.dk_trace.specs.Jobs.{rem};
     ghost use Rattle.dk_trace.specs.JobSteps.{HasBody};
@@ -97,27 +99,47 @@ impl Jobs {
         }
     }
 
-    /// Where it isn't known who stands first, looks at one level more for `quiet`. At most one step.
+    /// Where it isn't known who stands first, looks at one level more for `quiet`. Answers whether somebody was found:
+    /// then at most two steps, else one.
     #[inline(always)]
-    pub fn settle<L: Ledger>(&mut self, steps: &mut Steps<L>)
+    pub fn settle<L: Ledger>(&mut self, steps: &mut Steps<L>) -> bool
         ensures same { self.new ≡ self.old }
-        ensures steps { steps.new ≤ steps.old + 1 }
+        ensures steps { steps.new ≤ steps.old + (if result then 2 else 1) }
     {
-        if self.first.is_none() {
-            self.look(steps);
-        }
+        self.first.is_none() && self.look(steps)
     }
 
-    /// Looks at one level more for who stands first.
-    fn look<L: Ledger>(&mut self, steps: &mut Steps<L>)
+    /// Looks at one level more for who stands first, and for how many ticks that one computes.
+    fn look<L: Ledger>(&mut self, steps: &mut Steps<L>) -> bool
         ensures same { self.new ≡ self.old }
-        ensures steps { steps.new ≤ steps.old + 1 }
+        ensures steps { steps.new ≤ steps.old + (if result then 2 else 1) }
     {
-        self.body = 0;
         self.first = match self.ready.settle(steps) {
             Some(waiting) => first_of(&self.seats, waiting),
             None => None,
         };
+        match self.first {
+            Some(first) => {
+                self.body = body_of(&self.seats, first.node, self.switch, steps);
+                true
+            }
+            None => {
+                self.body = 0;
+                false
+            }
+        }
+    }
+}
+
+/// For how many ticks the node computes, one after the other, and then still has something left. One step.
+#[inline(always)]
+fn body_of<L: Ledger>(seats: &[Seat], node: u32, switch: u32, steps: &mut Steps<L>) -> u32
+    ensures ahead { 0 < result → HasBody switch result (get_or seats.now node vacant).job }
+    ensures steps { steps.new ≤ steps.old + 1 }
+{
+    match seats.get(node as usize) {
+        Some(seat) => seat.job.body_ahead(switch, steps),
+        None => 0,
     }
 }
 

@@ -1,9 +1,5 @@
 -- What was found of the entries is found of the ledger.
-use Rattle.std.proofs.Common.{◌∙◌, ap, subst}
-use Rattle.dk_trace.specs.Guarantees.{Bounded, Granted, Received}
-use Rattle.dk_bound.specs.ByWhen.{AllByWhen, ByWhen}
-use Rattle.dk_ledger.specs.Readable.{Journal}
-use Rattle.dk_audit.specs.Findings.{IsOwnHeading}
+use Rattle.dk_audit.proofs.Names.{◌∙◌, ap, subst, Bounded, Granted, Received, AllByWhen, ByWhen, Journal, IsOwnHeading}
 use Rattle.dk_audit.proofs.Ticks.{found-in, passed-by}
 use Rattle.dk_audit.proofs.auditing.audit.Goals as goal
 

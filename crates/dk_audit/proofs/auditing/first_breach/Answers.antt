@@ -1,9 +1,5 @@
 -- Entry by entry.
-use Rattle.std.proofs.Common.{◌<◌, ap, length, refl, arith, subst, sym}
-use Rattle.dk_config.specs.declared.TheConstants.{MAX_TICKS}
-use Rattle.dk_trace.specs.Audit.{Audited}
-use Rattle.dk_past.specs.Past.{Past}
-use Rattle.dk_audit.specs.Findings.{past_of}
+use Rattle.dk_audit.proofs.Names.{◌<◌, ap, length, refl, arith, subst, sym, MAX_TICKS, Audited, Past, past_of}
 use Rattle.dk_audit.proofs.Pasts.{past-length, past-whole}
 use Rattle.dk_audit.proofs.Ticks.{breach-found, breach-judged, next-ready, none-judged}
 use Rattle.dk_audit.proofs.auditing.first_breach.Goals as goal

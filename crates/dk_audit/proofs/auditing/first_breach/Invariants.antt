@@ -1,5 +1,4 @@
-use Rattle.dk_audit.specs.Booking.{IsAfter}
-use Rattle.dk_audit.specs.Findings.{past_of}
+use Rattle.dk_audit.proofs.Names.{IsAfter, past_of}
 use Rattle.dk_audit.proofs.auditing.first_breach.Given as goal
 
 abbrev pub invariant-loop-tick : goal.invariant-loop-tick

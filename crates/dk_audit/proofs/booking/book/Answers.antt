@@ -1,4 +1,4 @@
-use Rattle.std.proofs.Common.{inr, refl}
+use Rattle.dk_audit.proofs.Names.{inr, refl}
 use Rattle.dk_audit.proofs.Threads.{none-untold, quiet-follows}
 use Rattle.dk_audit.proofs.booking.book.Goals as goal
 

@@ -1,7 +1,5 @@
 -- Each event is booked by its call.
-use Rattle.std.proofs.Common.{refl, subst}
-use Rattle.dk_trace.specs.declared.Event.{Event}
-use Rattle.dk_audit.specs.Booking.{IsEventOpen}
+use Rattle.dk_audit.proofs.Names.{refl, subst, Event, IsEventOpen}
 use Rattle.dk_audit.proofs.Events.{call-judged, end-booked, ending, in-call, untold-booked}
 use Rattle.dk_audit.proofs.booking.book_event.Goals as goal
 

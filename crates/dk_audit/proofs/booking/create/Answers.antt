@@ -1,5 +1,4 @@
-use Rattle.std.proofs.Common.{refl}
-use Rattle.dk_trace.specs.declared.Event.{Event}
+use Rattle.dk_audit.proofs.Names.{refl, Event}
 use Rattle.dk_audit.proofs.Events.{create-booked, create-refused, in-call}
 use Rattle.dk_audit.proofs.booking.create.Goals as goal
 

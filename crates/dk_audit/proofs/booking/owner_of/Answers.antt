@@ -1,5 +1,4 @@
-use Rattle.std.proofs.Common.{◌∙◌, subst, sym}
-use Rattle.dk_trace.specs.Audit.{MayHave, work_of}
+use Rattle.dk_audit.proofs.Names.{◌∙◌, subst, sym, MayHave, work_of}
 use Rattle.dk_audit.proofs.Events.{no-event}
 use Rattle.dk_audit.proofs.booking.owner_of.Goals as goal
 

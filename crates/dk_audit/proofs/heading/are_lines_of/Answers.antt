@@ -1,6 +1,4 @@
-use Rattle.std.proofs.Common.{◌≡◌, ◌∙◌, length, map, arith, ap, sym}
-use Rattle.std.proofs.lemmas.List.{get_or-map, length-map, take_more_same}
-use Rattle.dk_ledger.specs.Heading.{line_of_row}
+use Rattle.dk_audit.proofs.Names.{◌≡◌, ◌∙◌, length, map, arith, ap, sym, get_or-map, length-map, take_more_same, line_of_row}
 use Rattle.dk_audit.proofs.heading.are_lines_of.Goals as goal
 
 pub loop-index-preserved : goal.loop-index-preserved

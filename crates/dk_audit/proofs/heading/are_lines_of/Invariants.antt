@@ -1,5 +1,4 @@
-use Rattle.std.proofs.Common.{◌≡◌, map, take}
-use Rattle.dk_ledger.specs.Heading.{line_of_row}
+use Rattle.dk_audit.proofs.Names.{◌≡◌, map, take, line_of_row}
 use Rattle.dk_audit.proofs.heading.are_lines_of.Given as goal
 
 abbrev pub invariant-loop-index : goal.invariant-loop-index

@@ -1,8 +1,5 @@
-use Rattle.std.proofs.Common.{ℕ, ◌≡◌, ◌<◌, ◌+◌, ◌∙◌, List, length, get_or, take, arith, sym}
-use Rattle.std.specs.Prelude.{Some, slice_get}
-use Rattle.std.proofs.lemmas.List.{take_more_same}
-use Rattle.std.proofs.lemmas.Option.{get_or_from_slice_get}
-use Rattle.dk_certify.specs.declared.table.TableRow.{TableRow}
+use Rattle.dk_audit.proofs.Names.{ℕ, ◌≡◌, ◌<◌, ◌+◌, ◌∙◌, List, length, get_or, take, arith, sym, slice_get, take_more_same, get_or_from_slice_get, TableRow}
+use Rattle.std.specs.Prelude.{Some}
 use Rattle.dk_audit.proofs.heading.are_rows_of.Goals as goal
 
 -- one row more is the same

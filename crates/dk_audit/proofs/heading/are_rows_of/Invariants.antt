@@ -1,4 +1,4 @@
-use Rattle.std.proofs.Common.{◌≡◌, take}
+use Rattle.dk_audit.proofs.Names.{◌≡◌, take}
 use Rattle.dk_audit.proofs.heading.are_rows_of.Given as goal
 
 abbrev pub invariant-loop-level : goal.invariant-loop-level

@@ -1,11 +1,4 @@
-use Rattle.std.proofs.Common.{◌∙◌, []}
-use Rattle.dk_trace.specs.Guarantees.{Bounded, Granted, Received}
-use Rattle.dk_bound.specs.ByWhen.{AllByWhen, ByWhen}
-use Rattle.dk_ledger.specs.declared.ledger.LedgerFault.{LedgerFault}
-use Rattle.dk_audit.specs.Lines.{IsFoundIn}
-use Rattle.std.proofs.lemmas.Result.{IfOk-weaker}
-use Rattle.dk_ledger.proofs.NextItem.{if_ok}
-use Rattle.dk_ledger.proofs.Readings.{passed_on}
+use Rattle.dk_audit.proofs.Names.{◌∙◌, [], Bounded, Granted, Received, AllByWhen, ByWhen, LedgerFault, IsFoundIn, IfOk-weaker, if_ok, passed_on}
 use Rattle.dk_audit.proofs.ByLine.{passed_in}
 use Rattle.dk_audit.proofs.lines.audit_bytes.Goals as goal
 

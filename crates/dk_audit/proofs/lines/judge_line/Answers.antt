@@ -1,11 +1,4 @@
-use Rattle.std.proofs.Common.{◌≡◌, ◌∙◌, ◌+◌, ◌-◌, ◌<◌, ◌++◌, Some, None, ap, arith, length, subst, sym}
-use Rattle.std.proofs.lemmas.List.{length-reverse}
-use Rattle.dk_config.specs.declared.TheConstants.{MAX_TICKS}
-use Rattle.dk_past.specs.Past.{Past}
-use Rattle.dk_ledger.specs.Cuts.{entries_of}
-use Rattle.dk_audit.specs.declared.finding.Breach.{Breach}
-use Rattle.dk_audit.specs.Lines.{FollowsSoFar}
-use Rattle.dk_audit.specs.Findings.{whole_past}
+use Rattle.dk_audit.proofs.Names.{◌≡◌, ◌∙◌, ◌+◌, ◌-◌, ◌<◌, ◌++◌, Some, None, ap, arith, length, subst, sym, length-reverse, MAX_TICKS, Past, entries_of, Breach, FollowsSoFar, whole_past}
 use Rattle.dk_audit.proofs.Ticks.{breach-judged, none-judged}
 use Rattle.dk_audit.proofs.Groups.{breach_at, ready_after, judged_so_far, judged_length, quiet_next, quiet_more, last_next}
 use Rattle.dk_audit.proofs.lines.judge_line.Goals as goal

@@ -1,9 +1,5 @@
-use Rattle.std.proofs.Common.{List, ◌≡◌, ◌-◌, ◌++◌, length}
-use Rattle.std.specs.Prelude.{replicate, None}
-use Rattle.dk_config.specs.Configuration.{Configuration}
-use Rattle.dk_trace.specs.declared.Entry.{Entry}
-use Rattle.dk_audit.specs.Booking.{IsAfter}
-use Rattle.dk_audit.specs.Findings.{whole_past}
+use Rattle.dk_audit.proofs.Names.{List, ◌≡◌, ◌-◌, ◌++◌, length, replicate, Configuration, Entry, IsAfter, whole_past}
+use Rattle.std.specs.Prelude.{None}
 use Rattle.dk_audit.proofs.lines.judge_line.Given as goal
 
 -- so many of the line's entries have followed the rules

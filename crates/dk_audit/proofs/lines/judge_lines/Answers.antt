@@ -1,11 +1,4 @@
-use Rattle.std.proofs.Common.{◌∙◌, ◌+◌, ◌++◌, length-append, arith, subst, sym}
-use Rattle.dk_ledger.specs.Cuts.{entries_of}
-use Rattle.dk_ledger.specs.declared.ledger.LedgerFault.{LedgerFault}
-use Rattle.dk_ledger.specs.ReadSoFar.{ComesNext}
-use Rattle.dk_ledger.proofs.EntryLists.{length-entries}
-use Rattle.dk_ledger.proofs.NextItem.{if_ok}
-use Rattle.dk_ledger.proofs.Readings.{passed_on}
-use Rattle.dk_audit.specs.Lines.{IsFoundSoFar}
+use Rattle.dk_audit.proofs.Names.{◌∙◌, ◌+◌, ◌++◌, length-append, arith, subst, sym, entries_of, LedgerFault, ComesNext, length-entries, if_ok, passed_on, IsFoundSoFar}
 use Rattle.dk_audit.proofs.ByLine.{found_further}
 use Rattle.dk_audit.proofs.lines.judge_lines.Goals as goal
 

@@ -1,8 +1,4 @@
-use Rattle.std.proofs.Common.{List, ◌≡◌, ◌+◌, length}
-use Rattle.std.specs.Option.{option_map_or}
-use Rattle.dk_trace.specs.declared.Entry.{Entry}
-use Rattle.dk_ledger.specs.ReadSoFar.{ComesNext}
-use Rattle.dk_audit.specs.Lines.{IsFoundSoFar}
+use Rattle.dk_audit.proofs.Names.{List, ◌≡◌, ◌+◌, length, option_map_or, Entry, ComesNext, IsFoundSoFar}
 use Rattle.dk_audit.proofs.lines.judge_lines.Given as goal
 
 -- this has been found of the entries before the next line

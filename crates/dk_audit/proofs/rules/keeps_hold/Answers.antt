@@ -1,9 +1,4 @@
-use Rattle.std.proofs.Common.{◌≡◌, ◌∙◌, List, ap, sym}
-use Rattle.dk_trace.specs.declared.Entry.{Entry}
-use Rattle.dk_trace.specs.Holds.{held_by, innermost_left}
-use Rattle.dk_mutex.specs.Recount.{last_locked}
-use Rattle.dk_past.specs.Past.{told, told_at}
-use Rattle.dk_dispatch.proofs.Telling.{telling-ready}
+use Rattle.dk_audit.proofs.Names.{◌≡◌, ◌∙◌, List, ap, sym, Entry, held_by, innermost_left, last_locked, told, told_at, telling-ready}
 use Rattle.dk_audit.proofs.Threads.{keeps-last, keeps-other}
 use Rattle.dk_audit.proofs.rules.keeps_hold.Goals as goal
 

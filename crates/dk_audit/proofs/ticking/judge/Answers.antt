@@ -1,8 +1,5 @@
 -- The tick of an entry.
-use Rattle.std.proofs.Common.{◌∙◌, ◌<◌, ap, length, subst, sym}
-use Rattle.dk_config.specs.declared.TheConstants.{MAX_TICKS}
-use Rattle.dk_trace.specs.Audit.{HasChosenLabel}
-use Rattle.dk_past.specs.Past.{Past, choice_at}
+use Rattle.dk_audit.proofs.Names.{◌∙◌, ◌<◌, ap, length, subst, sym, MAX_TICKS, HasChosenLabel, Past, choice_at}
 use Rattle.dk_audit.proofs.Ticks.{booked-at, judged-none, judged-refused, opened, refused-at}
 use Rattle.dk_audit.proofs.ticking.judge.Goals as goal
 

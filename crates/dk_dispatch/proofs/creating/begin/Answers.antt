@@ -1,6 +1,4 @@
-use Rattle.std.proofs.Common.{◌≡◌, ◌∙◌, ap, sym, Some, None}
-use Rattle.dk_threads.specs.Table.{Table, find_row, new_row, next_id, free_slot, children_at, changed_at, begun}
-use Rattle.dk_threads.proofs.Births.{begun-found}
+use Rattle.dk_dispatch.proofs.Names.{◌≡◌, ◌∙◌, ap, sym, Some, None, Table, find_row, new_row, next_id, free_slot, children_at, changed_at, begun, begun-found}
 use Rattle.dk_dispatch.proofs.creating.begin.Goals as goal
 
 pub unreachable-requires : goal.unreachable-requires

@@ -1,9 +1,4 @@
-use Rattle.std.proofs.Common.{ℕ, List, ◌≡◌, ◌+◌, ◌<◌, ◌∙◌, ap, sym, subst, refl, true, length, get_or, arith}
-use Rattle.dk_windows.specs.Clock.{Clock, begins_at}
-use Rattle.dk_budget.specs.Sound.{ArePeriods}
-use Rattle.dk_demand.specs.Cells.{Cells}
-use Rattle.dk_demand.specs.Levels.{by_level, at_level, set_to}
-use Rattle.dk_recount.specs.Opening.{kernel_work, shares_to_come}
+use Rattle.dk_dispatch.proofs.Names.{ℕ, List, ◌≡◌, ◌+◌, ◌<◌, ◌∙◌, ap, sym, subst, refl, true, length, get_or, arith, Clock, begins_at, ArePeriods, Cells, by_level, at_level, set_to, kernel_work, shares_to_come}
 use Rattle.dk_dispatch.proofs.levels.begin_cell.Goals as goal
 
 pub begins-requires : goal.begins-requires

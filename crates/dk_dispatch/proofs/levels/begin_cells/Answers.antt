@@ -1,12 +1,4 @@
-use Rattle.std.proofs.Common.{ℕ, ◌≡◌, ◌<◌, ◌≤◌, ◌+◌, ◌-◌, ◌∙◌, ◌∷◌, Bool, true, false, cond, get_or, List, length, ap, sym, subst, refl, arith, rules}
-use Rattle.std.proofs.lemmas.List.Sums.{sum_by-cons}
-use Rattle.dk_config.specs.Sums.{numbers}
-use Rattle.dk_config.proofs.Counting.{numbers-next}
-use Rattle.dk_threads.specs.declared.row.ThreadRow.{ThreadRow}
-use Rattle.dk_windows.specs.Clock.{Clock, begins_at}
-use Rattle.dk_budget.specs.Sound.{ArePeriods}
-use Rattle.dk_demand.specs.Cells.{Cells}
-use Rattle.dk_recount.specs.Opening.{AreKnown, all_rows, cell_steps, cells_begun, cells_set, is_between, kernel_work, own_in, remaining_in, shares_in, shares_to_come}
+use Rattle.dk_dispatch.proofs.Names.{ℕ, ◌≡◌, ◌<◌, ◌≤◌, ◌+◌, ◌-◌, ◌∙◌, ◌∷◌, Bool, true, false, cond, get_or, List, length, ap, sym, subst, refl, arith, rules, sum_by-cons, numbers, numbers-next, ThreadRow, Clock, begins_at, ArePeriods, Cells, AreKnown, all_rows, cell_steps, cells_begun, cells_set, is_between, kernel_work, own_in, remaining_in, shares_in, shares_to_come}
 use Rattle.dk_dispatch.proofs.Sums.{is_faster, same-cells, shares-none, shares-to, shares-up}
 use Rattle.dk_dispatch.proofs.levels.begin_cells.Goals as goal
 

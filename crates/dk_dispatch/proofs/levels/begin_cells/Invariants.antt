@@ -1,7 +1,4 @@
-use Rattle.std.proofs.Common.{◌≡◌, ◌≤◌, ◌+◌, ◌-◌, ◌*◌, ◌^◌, length}
-use Rattle.dk_config.specs.declared.TheConstants.{MAX_THREADS}
-use Rattle.dk_config.specs.Sums.{below, numbers}
-use Rattle.dk_recount.specs.Opening.{all_rows, cell_steps, cells_begun, shares_in}
+use Rattle.dk_dispatch.proofs.Names.{◌≡◌, ◌≤◌, ◌+◌, ◌-◌, ◌*◌, ◌^◌, length, MAX_THREADS, below, numbers, all_rows, cell_steps, cells_begun, shares_in}
 use Rattle.dk_dispatch.proofs.Sums.{is_faster}
 use Rattle.dk_dispatch.proofs.levels.begin_cells.Given as goal
 

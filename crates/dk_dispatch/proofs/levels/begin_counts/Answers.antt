@@ -1,12 +1,4 @@
-use Rattle.std.proofs.Common.{ℕ, ◌≡◌, ◌+◌, ◌-◌, ◌∙◌, ◌∷◌, true, false, List, length, ap, sym}
-use Rattle.std.proofs.lemmas.Bool.{cond-true, cond-false}
-use Rattle.std.specs.Prelude.{slice_set}
-use Rattle.dk_config.specs.Sums.{numbers}
-use Rattle.dk_config.proofs.Counting.{numbers-next}
-use Rattle.dk_config.proofs.Lists.{slice_set-length}
-use Rattle.dk_windows.specs.Clock.{begins_at}
-use Rattle.dk_slack.specs.Slack.{Slack}
-use Rattle.dk_recount.specs.Opening.{counts_begun}
+use Rattle.dk_dispatch.proofs.Names.{ℕ, ◌≡◌, ◌+◌, ◌-◌, ◌∙◌, ◌∷◌, true, false, List, length, ap, sym, cond-true, cond-false, slice_set, numbers, numbers-next, slice_set-length, begins_at, Slack, counts_begun}
 use Rattle.dk_dispatch.proofs.levels.begin_counts.Goals as goal
 use Rattle.dk_dispatch.proofs.levels.begin_counts.Goals.{then-begins, else-begins}
 

@@ -1,13 +1,4 @@
-use Rattle.std.proofs.Common.{ℕ, ◌≡◌, ◌<◌, ◌+◌, ◌-◌, ◌∙◌, ◌∷◌, true, false, List, length, get_or, ap, sym, arith}
-use Rattle.std.proofs.lemmas.Bool.{cond-true, cond-false}
-use Rattle.std.specs.Prelude.{slice_set}
-use Rattle.dk_config.specs.Sums.{numbers}
-use Rattle.dk_config.proofs.Counting.{numbers-next}
-use Rattle.dk_config.proofs.Lists.{slice_set-length}
-use Rattle.dk_trace.specs.Jobs.{Job}
-use Rattle.dk_windows.specs.Clock.{begins_at}
-use Rattle.dk_ready.specs.Roster.{new_job}
-use Rattle.dk_recount.specs.Opening.{parts_begun}
+use Rattle.dk_dispatch.proofs.Names.{ℕ, ◌≡◌, ◌<◌, ◌+◌, ◌-◌, ◌∙◌, ◌∷◌, true, false, List, length, get_or, ap, sym, arith, cond-true, cond-false, slice_set, numbers, numbers-next, slice_set-length, Job, begins_at, new_job, parts_begun}
 use Rattle.dk_dispatch.proofs.levels.begin_parts.Goals as goal
 use Rattle.dk_dispatch.proofs.levels.begin_parts.Goals.{then-begins, else-begins}
 

@@ -1,6 +1,4 @@
-use Rattle.std.proofs.Common.{◌≡◌, ◌-◌, length}
-use Rattle.dk_config.specs.Sums.{below, numbers}
-use Rattle.dk_recount.specs.Opening.{parts_begun}
+use Rattle.dk_dispatch.proofs.Names.{◌≡◌, ◌-◌, length, below, numbers, parts_begun}
 use Rattle.dk_dispatch.proofs.levels.begin_parts.Given as goal
 
 abbrev pub invariant-loop-level : goal.invariant-loop-level

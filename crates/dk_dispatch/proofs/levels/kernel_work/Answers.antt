@@ -1,6 +1,4 @@
-use Rattle.std.proofs.Common.{◌+◌, ◌*◌, ◌/◌, get_or, arith}
-use Rattle.dk_config.proofs.Sums.{sum-next}
-use Rattle.dk_windows.specs.Clock.{period_at}
+use Rattle.dk_dispatch.proofs.Names.{◌+◌, ◌*◌, ◌/◌, get_or, arith, sum-next, period_at}
 use Rattle.dk_dispatch.proofs.levels.kernel_work.Goals as goal
 
 pub loop-faster-preserved : goal.loop-faster-preserved

@@ -1,8 +1,4 @@
-use Rattle.std.proofs.Common.{◌≡◌, ◌+◌, ◌-◌, ◌*◌, ◌^◌, ◌≤◌, ◌/◌, get_or}
-use Rattle.dk_config.specs.declared.TheConstants.{MAX_SPAN}
-use Rattle.dk_config.specs.Sums.{sum_from}
-use Rattle.dk_windows.specs.Clock.{period_at}
-use Rattle.dk_recount.specs.Opening.{kernel_work}
+use Rattle.dk_dispatch.proofs.Names.{◌≡◌, ◌+◌, ◌-◌, ◌*◌, ◌^◌, ◌≤◌, ◌/◌, get_or, MAX_SPAN, sum_from, period_at, kernel_work}
 use Rattle.dk_dispatch.proofs.levels.kernel_work.Given as goal
 
 abbrev pub invariant-loop-faster : goal.invariant-loop-faster

@@ -1,6 +1,4 @@
-use Rattle.std.proofs.Common.{arith}
-use Rattle.dk_config.proofs.Sums.{sum-next}
-use Rattle.dk_budget.specs.Shares.{future_shares}
+use Rattle.dk_dispatch.proofs.Names.{arith, sum-next, future_shares}
 use Rattle.dk_dispatch.proofs.levels.shares_to_come.Goals as goal
 
 pub loop-process-preserved : goal.loop-process-preserved

@@ -1,8 +1,4 @@
-use Rattle.std.proofs.Common.{◌≡◌, ◌+◌, ◌-◌, ◌*◌, ◌≤◌}
-use Rattle.dk_config.specs.declared.TheConstants.{MAX_SPAN, MAX_THREADS}
-use Rattle.dk_config.specs.Sums.{sum_from}
-use Rattle.dk_budget.specs.Shares.{future_shares}
-use Rattle.dk_recount.specs.Opening.{shares_to_come}
+use Rattle.dk_dispatch.proofs.Names.{◌≡◌, ◌+◌, ◌-◌, ◌*◌, ◌≤◌, MAX_SPAN, MAX_THREADS, sum_from, future_shares, shares_to_come}
 use Rattle.dk_dispatch.proofs.levels.shares_to_come.Given as goal
 
 abbrev pub invariant-loop-process : goal.invariant-loop-process

@@ -1,5 +1,4 @@
-use Rattle.std.proofs.Common.{ℕ, ◌≡◌, ◌<◌, ◌≤◌, true}
-use Rattle.dk_windows.specs.Clock.{begins_at}
+use Rattle.dk_dispatch.proofs.Names.{ℕ, ◌≡◌, ◌<◌, ◌≤◌, true, begins_at}
 use Rattle.dk_dispatch.proofs.levels.slowest_begun.Given as goal
 
 abbrev pub invariant-loop-level : goal.invariant-loop-level

@@ -1,10 +1,4 @@
-use Rattle.std.proofs.Common.{ℕ, ◌≡◌, ◌+◌, ◌∙◌, ◌^◌, ◌∷◌, [], drop, get_or, length, ap, sym, subst, arith, List}
-use Rattle.dk_config.proofs.Lists.{drop-some, drop-none, drop-next}
-use Rattle.dk_threads.specs.declared.row.ThreadRow.{ThreadRow}
-use Rattle.dk_threads.specs.Table.{children_at}
-use Rattle.dk_recount.specs.Opening.{AreKnown, is_between, shares_in}
-use Rattle.dk_recount.proofs.Open.RowByRow.{shares-append}
-use Rattle.dk_dispatch.specs.Sums.{IsAdded}
+use Rattle.dk_dispatch.proofs.Names.{ℕ, ◌≡◌, ◌+◌, ◌∙◌, ◌^◌, ◌∷◌, [], drop, get_or, length, ap, sym, subst, arith, List, drop-some, drop-none, drop-next, ThreadRow, children_at, AreKnown, is_between, shares_in, shares-append, IsAdded}
 use Rattle.dk_dispatch.proofs.opening.add_children.Goals as goal
 use Rattle.dk_dispatch.proofs.opening.add_children.Goals.{in-Some, in_default}
 

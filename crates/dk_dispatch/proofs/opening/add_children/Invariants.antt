@@ -1,6 +1,4 @@
-use Rattle.std.proofs.Common.{ℕ, ◌≡◌, ◌+◌, ◌*◌, ◌^◌, ◌≤◌, drop, get_or, length}
-use Rattle.dk_threads.specs.Table.{children_at}
-use Rattle.dk_recount.specs.Opening.{AreKnown, is_between, shares_in}
+use Rattle.dk_dispatch.proofs.Names.{ℕ, ◌≡◌, ◌+◌, ◌*◌, ◌^◌, ◌≤◌, drop, get_or, length, children_at, AreKnown, is_between, shares_in}
 use Rattle.dk_dispatch.proofs.opening.add_children.Given as goal
 
 abbrev pub invariant-loop-index : goal.invariant-loop-index

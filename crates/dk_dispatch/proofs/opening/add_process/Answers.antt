@@ -1,8 +1,4 @@
-use Rattle.std.proofs.Common.{◌≡◌, ◌∙◌, Some, sym, subst}
-use Rattle.std.specs.List.{cons_option}
-use Rattle.dk_threads.specs.Table.{children_at, find_row}
-use Rattle.dk_threads.specs.Recount.{main_id}
-use Rattle.dk_recount.specs.Opening.{AreKnown}
+use Rattle.dk_dispatch.proofs.Names.{◌≡◌, ◌∙◌, Some, sym, subst, cons_option, children_at, find_row, main_id, AreKnown}
 use Rattle.dk_dispatch.proofs.opening.add_process.Goals as goal
 
 pub add_share-requires-clause-levels : goal.add_share-requires-clause-levels

@@ -1,4 +1,4 @@
-use Rattle.std.proofs.Common.{arith, ◌^◌}
+use Rattle.dk_dispatch.proofs.Names.{arith, ◌^◌}
 use Rattle.dk_dispatch.proofs.Sums.{added-row, slower-row}
 use Rattle.dk_dispatch.proofs.opening.add_share.Goals as goal
 

@@ -1,9 +1,4 @@
-use Rattle.std.proofs.Common.{◌≡◌, ◌+◌, ◌∙◌, ◌∷◌, [], drop, ap, sym, subst, refl, arith}
-use Rattle.std.proofs.lemmas.Option.{slice_get_past}
-use Rattle.dk_config.proofs.Lists.{drop-some, drop-none, drop-next}
-use Rattle.dk_threads.specs.Table.{children_at}
-use Rattle.dk_slack.specs.Slack.{Slack}
-use Rattle.dk_recount.specs.Opening.{AreKnown, CanAllSit, given, given_steps, quieted, quieted_one}
+use Rattle.dk_dispatch.proofs.Names.{◌≡◌, ◌+◌, ◌∙◌, ◌∷◌, [], drop, ap, sym, subst, refl, arith, slice_get_past, drop-some, drop-none, drop-next, children_at, Slack, AreKnown, CanAllSit, given, given_steps, quieted, quieted_one}
 use Rattle.dk_dispatch.proofs.opening.begin_children.Goals as goal
 use Rattle.dk_dispatch.proofs.opening.begin_children.Goals.{in-Some, in_default}
 

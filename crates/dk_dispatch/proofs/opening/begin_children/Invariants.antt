@@ -1,6 +1,4 @@
-use Rattle.std.proofs.Common.{◌≡◌, ◌+◌, drop}
-use Rattle.dk_threads.specs.Table.{children_at}
-use Rattle.dk_recount.specs.Opening.{AreKnown, CanAllSit, given, given_steps, quieted}
+use Rattle.dk_dispatch.proofs.Names.{◌≡◌, ◌+◌, drop, children_at, AreKnown, CanAllSit, given, given_steps, quieted}
 use Rattle.dk_dispatch.proofs.opening.begin_children.Given as goal
 
 abbrev pub invariant-loop-index : goal.invariant-loop-index

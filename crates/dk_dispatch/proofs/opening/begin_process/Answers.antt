@@ -1,8 +1,4 @@
-use Rattle.std.proofs.Common.{◌≡◌, ◌∙◌, Some, sym, subst}
-use Rattle.std.specs.List.{cons_option}
-use Rattle.dk_threads.specs.Table.{children_at, find_row}
-use Rattle.dk_threads.specs.Recount.{main_id}
-use Rattle.dk_recount.specs.Opening.{AreKnown, CanAllSit}
+use Rattle.dk_dispatch.proofs.Names.{◌≡◌, ◌∙◌, Some, sym, subst, cons_option, children_at, find_row, main_id, AreKnown, CanAllSit}
 use Rattle.dk_dispatch.proofs.opening.begin_process.Goals as goal
 
 pub begin_row-requires-clause-levels : goal.begin_row-requires-clause-levels

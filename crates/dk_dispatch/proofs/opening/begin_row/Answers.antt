@@ -1,5 +1,4 @@
-use Rattle.std.proofs.Common.{◌≡◌, ◌∙◌, true, sym}
-use Rattle.dk_windows.specs.Clock.{begins_at}
+use Rattle.dk_dispatch.proofs.Names.{◌≡◌, ◌∙◌, true, sym, begins_at}
 use Rattle.dk_dispatch.proofs.opening.begin_row.Goals as goal
 
 pub begins-requires : goal.begins-requires

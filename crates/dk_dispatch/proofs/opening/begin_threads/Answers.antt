@@ -1,9 +1,4 @@
-use Rattle.std.proofs.Common.{◌≡◌, ◌+◌, ◌-◌, ◌∙◌, ◌++◌, ap, sym, subst, arith, List}
-use Rattle.dk_threads.specs.declared.row.ThreadRow.{ThreadRow}
-use Rattle.dk_threads.proofs.NamedRows.{few-children}
-use Rattle.dk_slack.specs.Slack.{Slack}
-use Rattle.dk_recount.specs.Opening.{AreKnown, CanAllSit, given, given_steps, quieted, rows_from, rows_in}
-use Rattle.dk_recount.proofs.Open.RowByRow.{rows-next, given-append, quieted-append, steps-append, known-split, sit-split}
+use Rattle.dk_dispatch.proofs.Names.{◌≡◌, ◌+◌, ◌-◌, ◌∙◌, ◌++◌, ap, sym, subst, arith, List, ThreadRow, few-children, Slack, AreKnown, CanAllSit, given, given_steps, quieted, rows_from, rows_in, rows-next, given-append, quieted-append, steps-append, known-split, sit-split}
 use Rattle.dk_dispatch.proofs.opening.begin_threads.Goals as goal
 
 pub begin_process-requires-clause-few : goal.begin_process-requires-clause-few

@@ -1,5 +1,4 @@
-use Rattle.std.proofs.Common.{◌≡◌, ◌+◌, ◌-◌}
-use Rattle.dk_recount.specs.Opening.{AreKnown, CanAllSit, all_rows, given, given_steps, quieted, rows_from}
+use Rattle.dk_dispatch.proofs.Names.{◌≡◌, ◌+◌, ◌-◌, AreKnown, CanAllSit, all_rows, given, given_steps, quieted, rows_from}
 use Rattle.dk_dispatch.proofs.opening.begin_threads.Given as goal
 
 abbrev pub invariant-loop-process : goal.invariant-loop-process

@@ -1,8 +1,4 @@
-use Rattle.std.proofs.Common.{◌≡◌, ◌+◌, ◌-◌, ◌∙◌, ◌++◌, ap, subst, arith, List}
-use Rattle.dk_threads.specs.declared.row.ThreadRow.{ThreadRow}
-use Rattle.dk_threads.proofs.NamedRows.{few-children}
-use Rattle.dk_recount.specs.Opening.{AreKnown, is_between, rows_from, rows_in, shares_in}
-use Rattle.dk_recount.proofs.Open.RowByRow.{rows-next, known-split, shares-append}
+use Rattle.dk_dispatch.proofs.Names.{◌≡◌, ◌+◌, ◌-◌, ◌∙◌, ◌++◌, ap, subst, arith, List, ThreadRow, few-children, AreKnown, is_between, rows_from, rows_in, shares_in, rows-next, known-split, shares-append}
 use Rattle.dk_dispatch.proofs.opening.shares_by_level.Goals as goal
 
 pub add_process-requires-clause-few : goal.add_process-requires-clause-few

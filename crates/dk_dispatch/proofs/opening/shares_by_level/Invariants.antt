@@ -1,6 +1,4 @@
-use Rattle.std.proofs.Common.{ℕ, ◌≡◌, ◌+◌, ◌-◌, ◌*◌, ◌^◌, ◌≤◌, get_or, length}
-use Rattle.dk_config.specs.declared.TheConstants.{MAX_LEVELS, MAX_THREADS}
-use Rattle.dk_recount.specs.Opening.{AreKnown, all_rows, is_between, rows_from, shares_in}
+use Rattle.dk_dispatch.proofs.Names.{ℕ, ◌≡◌, ◌+◌, ◌-◌, ◌*◌, ◌^◌, ◌≤◌, get_or, length, MAX_LEVELS, MAX_THREADS, AreKnown, all_rows, is_between, rows_from, shares_in}
 use Rattle.dk_dispatch.proofs.opening.shares_by_level.Given as goal
 
 abbrev pub invariant-loop-process : goal.invariant-loop-process

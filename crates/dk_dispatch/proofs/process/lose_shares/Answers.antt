@@ -1,7 +1,4 @@
-use Rattle.std.proofs.Common.{◌≡◌, ◌<◌, ◌≤◌, ◌∙◌, ℕ, length, get_or, ap, sym, arith}
-use Rattle.dk_budget.specs.Shares.{future_shares}
-use Rattle.dk_demand.specs.Cells.{Cells}
-use Rattle.dk_demand.specs.Levels.{by_level, at_level, less}
+use Rattle.dk_dispatch.proofs.Names.{◌≡◌, ◌<◌, ◌≤◌, ◌∙◌, ℕ, length, get_or, ap, sym, arith, future_shares, Cells, by_level, at_level, less}
 use Rattle.dk_dispatch.proofs.Losing.{lost-more, lost-none, lost-all, unlost-at}
 use Rattle.dk_dispatch.proofs.process.lose_shares.Goals as goal
 

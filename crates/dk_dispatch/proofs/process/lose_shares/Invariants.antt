@@ -1,6 +1,4 @@
-use Rattle.std.proofs.Common.{◌≡◌, ◌+◌, ◌≤◌}
-use Rattle.dk_budget.specs.Shares.{future_shares}
-use Rattle.dk_demand.specs.Levels.{by_level}
+use Rattle.dk_dispatch.proofs.Names.{◌≡◌, ◌+◌, ◌≤◌, future_shares, by_level}
 use Rattle.dk_dispatch.proofs.Losing.{less_until}
 use Rattle.dk_dispatch.proofs.process.lose_shares.Given as goal
 

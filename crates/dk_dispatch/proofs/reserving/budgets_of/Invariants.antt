@@ -1,5 +1,4 @@
-use Rattle.std.proofs.Common.{◌≡◌, take}
-use Rattle.std.specs.Prelude.{sum_by, ◌==◌, if◌then◌else◌}
+use Rattle.dk_dispatch.proofs.Names.{◌≡◌, take, sum_by, ◌==◌, if◌then◌else◌}
 use Rattle.dk_dispatch.proofs.reserving.budgets_of.Given as goal
 
 abbrev pub invariant-loop-row : goal.invariant-loop-row

@@ -1,18 +1,6 @@
-use Rattle.std.proofs.Common.{◌≡◌, ◌<◌, ◌+◌, ◌∙◌, inl, inr, eqb, ℕ, zero, suc, List, length, map, ap, sym, refl, arith}
-use Rattle.std.specs.Prelude.{slice_get, Some}
-use Rattle.std.proofs.lemmas.Bool.{cases_Bool}
-use Rattle.dk_windows.specs.Clock.{Clock}
-use Rattle.dk_config.specs.Certification.{level_demand}
-use Rattle.dk_config.specs.Configuration.{Configuration}
-use Rattle.dk_config.specs.Sums.{numbers, below}
-use Rattle.dk_certify.specs.declared.table.TableRow.{TableRow}
-use Rattle.dk_certify.specs.Verdicts.{row_of, rows_of}
-use Rattle.dk_demand.specs.Cells.{Cells, no_ticks}
-use Rattle.dk_demand.specs.Levels.{at_level, by_level, set_to}
-use Rattle.dk_ready.proofs.Numbers.{map-same}
-use Rattle.dk_recount.specs.Start.{own_of}
-use Rattle.dk_config.proofs.Counting.{length-map-numbers as many-numbers, rows-numbers}
-use Rattle.dk_recount.proofs.Start.Building.{filled, part_filled, fill-more, fill-none, fill-all}
+use Rattle.dk_dispatch.proofs.Names.{◌≡◌, ◌<◌, ◌+◌, ◌∙◌, inl, inr, eqb, ℕ, zero, suc, List, length, map, ap, sym, refl, arith, slice_get, cases_Bool, Clock, level_demand, Configuration, numbers, below, TableRow, row_of, Cells, no_ticks, at_level, by_level, set_to, map-same, own_of, many-numbers, rows-numbers, filled, part_filled, fill-more, fill-none, fill-all}
+use Rattle.std.specs.Prelude.{Some}
+use Rattle.dk_certify.specs.Verdicts.{rows_of}
 use Rattle.dk_dispatch.proofs.reserving.first_cells.Goals as goal
 
 nothing : (c : Configuration) (f : ℕ → ℕ) → no_ticks c ≡ filled f 0 (length c.levels)

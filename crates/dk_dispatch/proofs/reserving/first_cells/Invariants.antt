@@ -1,9 +1,4 @@
-use Rattle.std.proofs.Common.{◌≡◌, length}
-use Rattle.dk_config.specs.Certification.{level_demand}
-use Rattle.dk_demand.specs.Cells.{no_ticks}
-use Rattle.dk_windows.specs.Clock.{clock_at}
-use Rattle.dk_recount.specs.Start.{own_of}
-use Rattle.dk_recount.proofs.Start.Building.{filled}
+use Rattle.dk_dispatch.proofs.Names.{◌≡◌, length, level_demand, no_ticks, clock_at, own_of, filled}
 use Rattle.dk_dispatch.proofs.reserving.first_cells.Given as goal
 
 abbrev pub invariant-loop-level : goal.invariant-loop-level

@@ -1,6 +1,4 @@
-use Rattle.std.proofs.Common.{◌≡◌, ◌∙◌, length, ap, arith}
-use Rattle.dk_config.specs.Configuration.{Configuration}
-use Rattle.dk_recount.specs.Start.{seated}
+use Rattle.dk_dispatch.proofs.Names.{◌≡◌, ◌∙◌, length, ap, arith, Configuration, seated}
 use Rattle.dk_dispatch.proofs.reserving.first_jobs.Goals as goal
 
 pub seat_main-requires-clause-known : goal.seat_main-requires-clause-known

@@ -1,5 +1,4 @@
-use Rattle.std.proofs.Common.{◌≡◌}
-use Rattle.dk_recount.specs.Start.{seated}
+use Rattle.dk_dispatch.proofs.Names.{◌≡◌, seated}
 use Rattle.dk_dispatch.proofs.reserving.first_jobs.Given as goal
 
 abbrev pub invariant-loop-process : goal.invariant-loop-process

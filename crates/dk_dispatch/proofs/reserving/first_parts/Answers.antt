@@ -1,8 +1,4 @@
-use Rattle.std.proofs.Common.{◌++◌, ◌∷◌, ◌∙◌, [], map, take, ap, sym}
-use Rattle.std.proofs.lemmas.List.{map_more, take_all}
-use Rattle.dk_config.specs.declared.rows.LevelRow.{LevelRow}
-use Rattle.dk_config.specs.Configuration.{Configuration}
-use Rattle.dk_ready.specs.Roster.{new_job}
+use Rattle.dk_dispatch.proofs.Names.{◌++◌, ◌∷◌, ◌∙◌, [], map, take, ap, sym, map_more, take_all, LevelRow, Configuration, new_job}
 use Rattle.dk_dispatch.proofs.reserving.first_parts.Goals as goal
 
 pub loop-level-init : goal.loop-level-init

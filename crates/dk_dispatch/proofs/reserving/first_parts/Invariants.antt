@@ -1,6 +1,4 @@
-use Rattle.std.proofs.Common.{◌≡◌, map, take}
-use Rattle.dk_config.specs.declared.rows.LevelRow.{LevelRow}
-use Rattle.dk_ready.specs.Roster.{new_job}
+use Rattle.dk_dispatch.proofs.Names.{◌≡◌, map, take, LevelRow, new_job}
 use Rattle.dk_dispatch.proofs.reserving.first_parts.Given as goal
 
 abbrev pub invariant-loop-level : goal.invariant-loop-level

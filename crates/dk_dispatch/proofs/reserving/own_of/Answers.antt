@@ -1,13 +1,4 @@
-use Rattle.std.proofs.Common.{◌≡◌, ◌<◌, ◌≤◌, ◌∙◌, ℕ, List, length, get_or, rules, ap, arith, sym, subst, Bool, true, false}
-use Rattle.std.specs.Prelude.{sum_by, slice_get, ◌==◌, if◌then◌else◌}
-use Rattle.std.specs.Option.{option_map_or}
-use Rattle.std.proofs.lemmas.Option.{slice_get-get_or}
-use Rattle.std.proofs.lemmas.List.Sums.{sum_by-le}
-use Rattle.dk_config.specs.declared.rows.LevelRow.{LevelRow}
-use Rattle.dk_config.specs.Configuration.{Configuration}
-use Rattle.dk_config.specs.Certification.{budgets_at}
-use Rattle.dk_config.specs.Checked.{IsWithinLimits}
-use Rattle.dk_config.specs.Windows.{release}
+use Rattle.dk_dispatch.proofs.Names.{◌≡◌, ◌<◌, ◌≤◌, ◌∙◌, ℕ, List, length, get_or, rules, ap, arith, sym, subst, Bool, true, false, sum_by, slice_get, ◌==◌, if◌then◌else◌, option_map_or, slice_get-get_or, sum_by-le, LevelRow, Configuration, budgets_at, IsWithinLimits, release}
 use Rattle.dk_dispatch.proofs.reserving.own_of.Goals as goal
 
 budget_or_none : (b : Bool) (n m : ℕ) → n ≤ m → (if b then n else 0) ≤ m

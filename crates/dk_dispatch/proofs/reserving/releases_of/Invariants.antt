@@ -1,5 +1,4 @@
-use Rattle.std.proofs.Common.{◌≡◌, map, take}
-use Rattle.dk_config.specs.declared.rows.LevelRow.{LevelRow}
+use Rattle.dk_dispatch.proofs.Names.{◌≡◌, map, take, LevelRow}
 use Rattle.dk_dispatch.proofs.reserving.releases_of.Given as goal
 
 abbrev pub invariant-loop-level : goal.invariant-loop-level

@@ -1,5 +1,4 @@
-use Rattle.std.proofs.Common.{◌≡◌, map, take}
-use Rattle.dk_config.specs.declared.rows.ProcessRow.{ProcessRow}
+use Rattle.dk_dispatch.proofs.Names.{◌≡◌, map, take, ProcessRow}
 use Rattle.dk_dispatch.proofs.reserving.rights_of.Given as goal
 
 abbrev pub invariant-loop-process : goal.invariant-loop-process

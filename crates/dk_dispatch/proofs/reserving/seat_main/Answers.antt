@@ -1,15 +1,4 @@
-use Rattle.std.proofs.Common.{◌≡◌, ◌<◌, ◌+◌, ◌*◌, ◌∙◌, ℕ, suc, List, length, get_or, add-one, ap, sym, refl, arith}
-use Rattle.std.specs.Prelude.{slice_get, is_some}
-use Rattle.std.specs.Option.{option_map_or}
-use Rattle.std.proofs.lemmas.Option.{slice_get-get_or}
-use Rattle.dk_config.specs.declared.TheConstants.{MAX_THREADS}
-use Rattle.dk_config.specs.declared.rows.ProcessRow.{ProcessRow}
-use Rattle.dk_config.specs.Configuration.{Configuration}
-use Rattle.dk_rail.specs.Queues.{holder}
-use Rattle.dk_ready.specs.declared.seat.Seat.{Seat}
-use Rattle.dk_ready.specs.Roster.{Roster, new_job, released}
-use Rattle.dk_ready.proofs.Seated.{is-seated, next-free}
-use Rattle.dk_recount.specs.Start.{seated}
+use Rattle.dk_dispatch.proofs.Names.{◌≡◌, ◌<◌, ◌+◌, ◌*◌, ◌∙◌, ℕ, suc, List, length, get_or, add-one, ap, sym, refl, arith, slice_get, is_some, option_map_or, slice_get-get_or, MAX_THREADS, ProcessRow, Configuration, holder, Seat, Roster, new_job, released, is-seated, next-free, seated}
 use Rattle.dk_dispatch.proofs.reserving.seat_main.Goals as goal
 
 number-is : (f : ProcessRow → ℕ) (c : Configuration) (rows : List ProcessRow) (p : ℕ) (row : ProcessRow) → rows ≡ c.processes → p < length c.processes → row ≡ get_or rows p row

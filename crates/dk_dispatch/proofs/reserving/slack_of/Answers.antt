@@ -1,14 +1,4 @@
-use Rattle.std.proofs.Common.{◌≡◌, ◌∙◌, ℕ, List, [], ◌∷◌, length, map, ap, subst, refl, arith}
-use Rattle.std.specs.Prelude.{IfOk}
-use Rattle.std.proofs.lemmas.List.{length-map}
-use Rattle.dk_config.specs.Configuration.{Configuration}
-use Rattle.dk_config.specs.Certification.{spare}
-use Rattle.dk_config.specs.Sums.{below}
-use Rattle.dk_config.proofs.Counting.{length-numbers}
-use Rattle.dk_certify.specs.declared.table.TableRow.{TableRow}
-use Rattle.dk_certify.specs.Verdicts.{row_of}
-use Rattle.dk_slack.specs.Slack.{at_start}
-use Rattle.dk_slack.specs.Recount.{spares_of}
+use Rattle.dk_dispatch.proofs.Names.{◌≡◌, ◌∙◌, ℕ, List, [], ◌∷◌, length, map, ap, subst, refl, arith, IfOk, length-map, Configuration, spare, below, length-numbers, TableRow, row_of, at_start, spares_of}
 use Rattle.dk_dispatch.proofs.reserving.slack_of.Goals as goal
 
 spare-rows : (c : Configuration) (ns : List ℕ) → map (λ (row : TableRow). row.spare) (map (row_of c) ns) ≡ map (λ j. spare c j) ns

@@ -1,5 +1,4 @@
-use Rattle.std.proofs.Common.{◌≡◌, map, take}
-use Rattle.dk_certify.specs.declared.table.TableRow.{TableRow}
+use Rattle.dk_dispatch.proofs.Names.{◌≡◌, map, take, TableRow}
 use Rattle.dk_dispatch.proofs.reserving.spares_of.Given as goal
 
 abbrev pub invariant-loop-level : goal.invariant-loop-level

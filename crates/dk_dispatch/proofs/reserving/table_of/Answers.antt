@@ -1,7 +1,5 @@
-use Rattle.std.proofs.Common.{◌≡◌, ◌∙◌, ap, sym}
-use Rattle.dk_certify.specs.declared.certifying.Verdict.TheVariants.{Accepted, Fails}
-use Rattle.dk_certify.specs.Verdicts.{answer_of, rows_of}
-use Rattle.dk_bound.proofs.Accepted.{no-failing}
+use Rattle.dk_dispatch.proofs.Names.{◌≡◌, ◌∙◌, ap, sym, Accepted, Fails, answer_of, no-failing}
+use Rattle.dk_certify.specs.Verdicts.{rows_of}
 use Rattle.dk_dispatch.proofs.reserving.table_of.Goals as goal
 
 pub unreachable-requires : goal.unreachable-requires

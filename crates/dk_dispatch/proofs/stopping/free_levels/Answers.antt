@@ -1,8 +1,4 @@
-use Rattle.std.proofs.Common.{◌≡◌, ◌<◌, ◌≤◌, ◌∙◌, get_or, ap, sym, arith}
-use Rattle.dk_mutex.specs.Rows.{left_up_to}
-use Rattle.dk_demand.specs.Cells.{Cells}
-use Rattle.dk_demand.specs.Levels.{by_level, at_level, less}
-use Rattle.dk_recount.proofs.Cells.{freed-more, freed-none, unfreed-at}
+use Rattle.dk_dispatch.proofs.Names.{◌≡◌, ◌<◌, ◌≤◌, ◌∙◌, get_or, ap, sym, arith, left_up_to, Cells, by_level, at_level, less, freed-more, freed-none, unfreed-at}
 use Rattle.dk_dispatch.proofs.stopping.free_levels.Goals as goal
 
 pub loop-faster-init : goal.loop-faster-init

@@ -1,5 +1,4 @@
-use Rattle.std.proofs.Common.{◌≡◌, ◌+◌, ◌≤◌}
-use Rattle.dk_recount.specs.Stopping.{cells_freed}
+use Rattle.dk_dispatch.proofs.Names.{◌≡◌, ◌+◌, ◌≤◌, cells_freed}
 use Rattle.dk_dispatch.proofs.stopping.free_levels.Given as goal
 
 abbrev pub invariant-loop-faster : goal.invariant-loop-faster

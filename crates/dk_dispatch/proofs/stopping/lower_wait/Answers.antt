@@ -1,6 +1,4 @@
-use Rattle.std.proofs.Common.{◌≡◌, ◌∙◌, ap, sym, arith}
-use Rattle.dk_demand.specs.Levels.{by_level, at_level, less}
-use Rattle.dk_recount.proofs.Cells.{held-none}
+use Rattle.dk_dispatch.proofs.Names.{◌≡◌, ◌∙◌, ap, sym, arith, by_level, at_level, less, held-none}
 use Rattle.dk_dispatch.proofs.stopping.lower_wait.Goals as goal
 
 pub returns-else-less-gt0-clause-cells : goal.returns-else-less-gt0-clause-cells

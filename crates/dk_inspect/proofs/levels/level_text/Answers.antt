@@ -1,6 +1,4 @@
-use Rattle.std.proofs.Common.{◌≡◌, ◌∙◌, ap, length, rules, subst}
-use Rattle.dk_demand.specs.Recount.{IsRecount}
-use Rattle.dk_kernel.specs.Running.{trace_of}
+use Rattle.dk_inspect.proofs.Names.{◌≡◌, ◌∙◌, ap, length, rules, subst, IsRecount, trace_of}
 use Rattle.dk_inspect.specs.Printing.{level_line_of}
 use Rattle.dk_inspect.proofs.Cells.{level-told}
 use Rattle.dk_inspect.proofs.levels.level_text.Goals as goal

@@ -1,8 +1,4 @@
-use Rattle.std.proofs.Common.{◌≡◌, ◌<◌, ◌++◌, ◌∷◌, [], ◌∙◌, ℕ, ap, refl, subst, arith, rules}
-use Rattle.std.specs.Prelude.{flat_map, IsErr}
-use Rattle.dk_config.specs.Sums.{below}
-use Rattle.dk_outside.specs.Written.{Writes}
-use Rattle.dk_inspect.specs.Printing.{level_line_of}
+use Rattle.dk_inspect.proofs.Names.{◌≡◌, ◌<◌, ◌++◌, ◌∷◌, [], ◌∙◌, ℕ, ap, refl, subst, arith, rules, flat_map, IsErr, below, Writes, level_line_of}
 use Rattle.dk_inspect.proofs.Pieces.{none_written, next_written, next_failed, written_as}
 use Rattle.dk_inspect.proofs.levels.write_levels.Goals as goal
 

@@ -1,7 +1,4 @@
-use Rattle.std.specs.Prelude.{flat_map}
-use Rattle.dk_config.specs.Sums.{below}
-use Rattle.dk_outside.specs.Written.{Writes}
-use Rattle.dk_inspect.specs.Printing.{level_line_of}
+use Rattle.dk_inspect.proofs.Names.{flat_map, below, Writes, level_line_of}
 use Rattle.dk_inspect.proofs.Pieces.{done}
 use Rattle.dk_inspect.proofs.levels.write_levels.Given as goal
 

@@ -1,5 +1,4 @@
-use Rattle.std.proofs.Common.{ap}
-use Rattle.dk_ledger.proofs.NameLemmas.{is_printable_as}
+use Rattle.dk_inspect.proofs.Names.{ap, is_printable_as}
 use Rattle.dk_inspect.proofs.printing.header_is_printable.Goals as goal
 
 pub returns : goal.returns

@@ -1,12 +1,4 @@
-use Rattle.std.proofs.Common.{◌≡◌, ◌++◌, ◌∙◌, ℕ, List, length, ap, refl, sym, rules}
-use Rattle.std.specs.Prelude.{flat_map, codes, decimal, IsErr}
-use Rattle.dk_config.specs.Sums.{below}
-use Rattle.dk_trace.specs.Choices.{denied}
-use Rattle.dk_outside.proofs.WrittenLemmas.{first_fails, second_ends}
-use Rattle.dk_ledger.specs.Heading.{ended}
-use Rattle.dk_kernel.specs.Running.{Running, trace_of}
-use Rattle.dk_inspect.specs.View.{denied_body, view}
-use Rattle.dk_inspect.specs.Printing.{level_line_of, all_lines}
+use Rattle.dk_inspect.proofs.Names.{◌≡◌, ◌++◌, ◌∙◌, ℕ, List, length, ap, refl, sym, rules, flat_map, codes, decimal, IsErr, below, denied, first_fails, second_ends, ended, Running, trace_of, denied_body, view, level_line_of, all_lines}
 use Rattle.dk_inspect.proofs.Lines.{view-parts}
 use Rattle.dk_inspect.proofs.printing.print.Goals as goal
 

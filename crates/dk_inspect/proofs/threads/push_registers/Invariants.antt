@@ -1,5 +1,4 @@
-use Rattle.std.proofs.Common.{◌≡◌, ◌≤◌, ◌+◌, ◌*◌, ◌++◌, length, take}
-use Rattle.dk_inspect.specs.View.{registers}
+use Rattle.dk_inspect.proofs.Names.{◌≡◌, ◌≤◌, ◌+◌, ◌*◌, ◌++◌, length, take, registers}
 use Rattle.dk_inspect.proofs.threads.push_registers.Given as goal
 
 abbrev pub invariant-loop-register : goal.invariant-loop-register

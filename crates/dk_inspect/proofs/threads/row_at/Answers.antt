@@ -1,10 +1,5 @@
-use Rattle.std.proofs.Common.{◌≡◌, ◌<◌, ◌-◌, ◌∙◌, suc, ap, arith, rules, length}
-use Rattle.std.specs.Prelude.{find, slice_get, option_map}
-use Rattle.dk_threads.specs.Rows.{is_row_of}
-use Rattle.dk_threads.specs.Recount.{counted_rows, counted_row, unplaced}
-use Rattle.dk_dispatch.proofs.Telling.{of-ready, telling-ready}
-use Rattle.dk_kernel.specs.Running.{trace_of}
-use Rattle.dk_inspect.specs.Printing.{IsRowAt, shown_of}
+use Rattle.dk_inspect.proofs.Names.{◌≡◌, ◌<◌, ◌-◌, ◌∙◌, suc, ap, arith, rules, length, find, slice_get, option_map, is_row_of, counted_rows, counted_row, unplaced, of-ready, telling-ready, trace_of, IsRowAt}
+use Rattle.dk_inspect.specs.Printing.{shown_of}
 use Rattle.dk_inspect.proofs.Shown.{main-found, row-shown}
 use Rattle.dk_inspect.proofs.Lines.{row-there}
 use Rattle.dk_inspect.proofs.threads.row_at.Goals as goal

@@ -1,6 +1,5 @@
-use Rattle.std.proofs.Common.{◌≡◌, ◌∙◌, true, false, arith, rules}
-use Rattle.std.specs.Prelude.{is_some}
-use Rattle.dk_inspect.specs.Printing.{IsThereIn}
+use Rattle.dk_inspect.proofs.Names.{◌≡◌, ◌∙◌, true, arith, rules, is_some, IsThereIn}
+use Rattle.std.proofs.Common.{false}
 use Rattle.dk_inspect.proofs.Lines.{text-told, lines-of-header}
 use Rattle.dk_inspect.proofs.threads.text_at.Goals as goal
 

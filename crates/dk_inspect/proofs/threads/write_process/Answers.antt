@@ -1,9 +1,4 @@
-use Rattle.std.proofs.Common.{◌≡◌, ◌<◌, ◌∙◌, ℕ, ap, refl, subst, arith, rules}
-use Rattle.std.specs.Prelude.{flat_map, IsErr}
-use Rattle.dk_config.specs.declared.TheConstants.{MAX_THREADS}
-use Rattle.dk_config.specs.Sums.{below}
-use Rattle.dk_outside.specs.Written.{Writes}
-use Rattle.dk_inspect.specs.Printing.{line_at}
+use Rattle.dk_inspect.proofs.Names.{◌≡◌, ◌<◌, ◌∙◌, ℕ, ap, refl, subst, arith, rules, flat_map, IsErr, MAX_THREADS, below, Writes, line_at}
 use Rattle.dk_inspect.proofs.Pieces.{none_written, next_written, next_failed, written_as}
 use Rattle.dk_inspect.proofs.Lines.{few-shown, nine-places}
 use Rattle.dk_inspect.proofs.threads.write_process.Goals as goal

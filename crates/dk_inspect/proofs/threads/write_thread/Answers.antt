@@ -1,6 +1,4 @@
-use Rattle.std.proofs.Common.{[], subst}
-use Rattle.std.specs.Prelude.{Some, None}
-use Rattle.dk_outside.specs.Written.{Writes}
+use Rattle.dk_inspect.proofs.Names.{[], subst, Some, None, Writes}
 use Rattle.dk_inspect.proofs.Lines.{line-told}
 use Rattle.dk_inspect.proofs.Pieces.{none_written, written_as}
 use Rattle.dk_inspect.proofs.threads.write_thread.Goals as goal

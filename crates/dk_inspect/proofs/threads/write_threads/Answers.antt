@@ -1,8 +1,5 @@
-use Rattle.std.proofs.Common.{◌≡◌, ◌<◌, ◌∙◌, ℕ, length, ap, refl, subst, arith, rules}
-use Rattle.std.specs.Prelude.{flat_map, IsErr}
-use Rattle.dk_config.specs.Sums.{below}
-use Rattle.dk_outside.specs.Written.{Writes}
-use Rattle.dk_inspect.specs.Printing.{process_lines, all_lines}
+use Rattle.dk_inspect.proofs.Names.{◌≡◌, ◌<◌, ◌∙◌, ℕ, length, ap, refl, subst, arith, rules, flat_map, IsErr, below, Writes, process_lines}
+use Rattle.dk_inspect.specs.Printing.{all_lines}
 use Rattle.dk_inspect.proofs.Pieces.{none_written, next_written, next_failed, written_as}
 use Rattle.dk_inspect.proofs.Lines.{lines-of-header}
 use Rattle.dk_inspect.proofs.threads.write_threads.Goals as goal

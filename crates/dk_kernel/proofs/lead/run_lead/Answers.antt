@@ -1,8 +1,4 @@
-use Rattle.std.proofs.Common.{◌∙◌, sym}
-use Rattle.std.proofs.lemmas.Bool.{ne_eqb}
-use Rattle.dk_trace.specs.Holds.{held_by}
-use Rattle.dk_cpu.specs.State.{context_at}
-use Rattle.dk_kernel.specs.Effects.{outcome_at}
+use Rattle.dk_kernel.proofs.Names.{◌∙◌, sym, ne_eqb, held_by, context_at, outcome_at}
 use Rattle.dk_kernel.proofs.Turned.{breaks-not}
 use Rattle.dk_kernel.proofs.lead.run_lead.Goals as goal
 

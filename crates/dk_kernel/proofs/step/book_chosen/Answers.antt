@@ -1,9 +1,4 @@
-use Rattle.std.proofs.Common.{◌≡◌, ◌∙◌, Some, ap, sym}
-use Rattle.std.proofs.lemmas.List.{get_or_default}
-use Rattle.dk_world.specs.Run.{executes}
-use Rattle.dk_past.specs.Past.{choice_at}
-use Rattle.dk_kernel.specs.declared.executor.Executor.{Executor}
-use Rattle.dk_kernel.specs.Turns.{breaks_at}
+use Rattle.dk_kernel.proofs.Names.{◌≡◌, ◌∙◌, Some, ap, sym, get_or_default, executes, choice_at, Executor, breaks_at}
 use Rattle.dk_kernel.proofs.Stepped.{may-turn, turn-booked, within}
 use Rattle.dk_kernel.proofs.step.book_chosen.Goals as goal
 

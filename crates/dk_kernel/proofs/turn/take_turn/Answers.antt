@@ -1,7 +1,4 @@
-use Rattle.std.proofs.Common.{◌∙◌, ap}
-use Rattle.dk_trace.specs.Audit.{label_of}
-use Rattle.dk_world.specs.Run.{work_done}
-use Rattle.dk_kernel.specs.Effects.{outcome_at}
+use Rattle.dk_kernel.proofs.Names.{◌∙◌, ap, label_of, work_done, outcome_at}
 use Rattle.dk_kernel.proofs.Turned.{ending, may-effect, turned-broken, turned-whole}
 use Rattle.dk_kernel.proofs.turn.take_turn.Goals as goal
 

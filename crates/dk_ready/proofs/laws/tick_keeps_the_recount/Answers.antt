@@ -1,5 +1,4 @@
-use Rattle.std.proofs.Common.{◌∷◌, length}
-use Rattle.dk_trace.specs.Entries.{quiet}
+use Rattle.dk_ready.proofs.Names.{◌∷◌, length, quiet}
 use Rattle.dk_ready.proofs.Moving.{jobs-keep, spent-moves}
 use Rattle.dk_ready.proofs.KernelParts.{others-keep, tick-spends}
 use Rattle.dk_ready.proofs.laws.tick_keeps_the_recount.Goals as goal

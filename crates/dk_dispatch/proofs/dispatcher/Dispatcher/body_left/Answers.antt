@@ -1,10 +1,4 @@
-use Rattle.std.proofs.Common.{◌≡◌, true, length, subst}
-use Rattle.dk_trace.specs.Members.{Has}
-use Rattle.dk_trace.specs.Threads.{threads}
-use Rattle.dk_trace.specs.Jobs.{thread_body_left}
-use Rattle.dk_threads.specs.Recount.{has_row}
-use Rattle.dk_past.specs.Past.{told}
-use Rattle.dk_dispatch.specs.Standing.{Dispatched}
+use Rattle.dk_dispatch.proofs.Names.{◌≡◌, true, length, subst, Has, threads, thread_body_left, has_row, told, Dispatched}
 use Rattle.dk_dispatch.proofs.Telling.{is-telling, recount-at}
 use Rattle.dk_dispatch.proofs.dispatcher.Dispatcher.body_left.Goals as goal
 

@@ -1,8 +1,4 @@
-use Rattle.std.proofs.Common.{subst}
-use Rattle.dk_recount.specs.Facing.{CallerIsThere}
-use Rattle.dk_recount.specs.Recount.{IsRuled}
-use Rattle.dk_past.specs.Past.{call_label}
-use Rattle.dk_dispatch.specs.Standing.{Dispatched}
+use Rattle.dk_dispatch.proofs.Names.{subst, CallerIsThere, IsRuled, call_label, Dispatched}
 use Rattle.dk_dispatch.proofs.Calling.{calling}
 use Rattle.dk_dispatch.proofs.dispatcher.Dispatcher.callers_are_there.Goals as goal
 

@@ -1,9 +1,5 @@
-use Rattle.std.proofs.Common.{ℕ, ◌≡◌, Some, inr, refl, subst}
-use Rattle.dk_trace.specs.declared.Work.{Work}
-use Rattle.dk_trace.specs.Entries.{thread_of}
-use Rattle.dk_trace.specs.Audit.{work_of}
-use Rattle.dk_past.specs.Past.{call_label}
-use Rattle.dk_dispatch.specs.Standing.{Dispatched, slots}
+use Rattle.dk_dispatch.proofs.Names.{ℕ, ◌≡◌, Some, inr, refl, subst, Work, thread_of, work_of, call_label, Dispatched}
+use Rattle.dk_dispatch.specs.Standing.{slots}
 use Rattle.dk_dispatch.proofs.Ticking.{is-ready}
 use Rattle.dk_dispatch.proofs.dispatcher.Dispatcher.callers_have_slots.Goals as goal
 

@@ -1,13 +1,4 @@
-use Rattle.std.proofs.Common.{◌≡◌, ◌<◌, ◌∙◌, length, ap, sym, subst, inl, refl, arith}
-use Rattle.dk_config.specs.declared.TheConstants.{MAX_TICKS}
-use Rattle.dk_trace.specs.declared.Work.{Work}
-use Rattle.dk_trace.specs.declared.Choice.{Choice}
-use Rattle.dk_trace.specs.Audit.{label_of}
-use Rattle.dk_recount.specs.Tables.{Tables}
-use Rattle.dk_recount.specs.Recount.{IsCharged}
-use Rattle.dk_recount.specs.Charging.{MayCharge, charged}
-use Rattle.dk_past.specs.Past.{choice_at}
-use Rattle.dk_dispatch.specs.Standing.{Dispatched}
+use Rattle.dk_dispatch.proofs.Names.{◌≡◌, ◌<◌, ◌∙◌, length, ap, sym, subst, inl, refl, arith, MAX_TICKS, Work, Choice, label_of, Tables, IsCharged, MayCharge, charged, choice_at, Dispatched}
 use Rattle.dk_dispatch.proofs.Ticking.{is-ready, ready-levels, stands-charged}
 use Rattle.dk_dispatch.proofs.dispatcher.Dispatcher.charge.Goals as goal
 

@@ -1,5 +1,4 @@
-use Rattle.std.proofs.Common.{◌≡◌, ◌∙◌, arith}
-use Rattle.dk_trace.specs.Choices.{chosen}
+use Rattle.dk_dispatch.proofs.Names.{◌≡◌, ◌∙◌, arith, chosen}
 use Rattle.dk_dispatch.proofs.Ticking.{at-ready, ready-levels}
 use Rattle.dk_dispatch.proofs.dispatcher.Dispatcher.choose.Goals as goal
 

@@ -1,8 +1,4 @@
-use Rattle.std.proofs.Common.{◌∙◌, ap, sym, subst}
-use Rattle.dk_recount.specs.Tables.{Tables}
-use Rattle.dk_recount.specs.Recount.{IsClosed}
-use Rattle.dk_recount.proofs.Closing.{booked-closed}
-use Rattle.dk_dispatch.specs.Standing.{Dispatched}
+use Rattle.dk_dispatch.proofs.Names.{◌∙◌, ap, sym, subst, Tables, IsClosed, booked-closed, Dispatched}
 use Rattle.dk_dispatch.proofs.Ticking.{below-most, stands-closed}
 use Rattle.dk_dispatch.proofs.dispatcher.Dispatcher.close.Goals as goal
 

@@ -1,9 +1,4 @@
-use Rattle.std.proofs.Common.{◌≡◌, ◌∙◌, sym, subst}
-use Rattle.dk_threads.specs.declared.row.ThreadRow.{ThreadRow}
-use Rattle.dk_recount.specs.Tables.{Tables}
-use Rattle.dk_recount.specs.Creating.{child_row, with_child}
-use Rattle.dk_recount.specs.Facing.{Creates, IsNewRow}
-use Rattle.dk_past.specs.Past.{call_label}
+use Rattle.dk_dispatch.proofs.Names.{◌≡◌, ◌∙◌, sym, subst, ThreadRow, Tables, child_row, with_child, Creates, IsNewRow, call_label}
 use Rattle.dk_dispatch.proofs.Calling.{calling, is-created, is-not-created, stands-created}
 use Rattle.dk_dispatch.proofs.dispatcher.Dispatcher.create.Goals as goal
 

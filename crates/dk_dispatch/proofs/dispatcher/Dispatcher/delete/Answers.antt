@@ -1,16 +1,7 @@
-use Rattle.std.proofs.Common.{◌≡◌, ◌∙◌, false, ap, arith, sym, subst}
-use Rattle.std.specs.Option.{option_map_or}
-use Rattle.dk_trace.specs.declared.Event.{Event}
-use Rattle.dk_trace.specs.Entries.{is_same}
-use Rattle.dk_trace.proofs.Same.{same-self}
-use Rattle.dk_recount.specs.Recount.{IsBooked}
-use Rattle.dk_recount.specs.Facing.{Keeps, slots}
-use Rattle.dk_recount.specs.Stopping.{child_of, without_child}
-use Rattle.dk_past.specs.Past.{Past, call_entry, call_label}
+use Rattle.dk_dispatch.proofs.Names.{◌≡◌, ◌∙◌, false, ap, arith, sym, subst, option_map_or, Event, is_same, same-self, IsBooked, Keeps, slots, child_of, without_child, Past, call_entry, call_label, Dispatched, Stands, seen}
 use Rattle.dk_dispatch.proofs.Calling.{calling, is-done, is-refused, levels}
 use Rattle.dk_dispatch.proofs.StopCalling.{running-is, deleted-is, deletes-child}
 use Rattle.dk_dispatch.proofs.Stops.{delete-keeps}
-use Rattle.dk_dispatch.specs.Standing.{Dispatched, Stands, slots as seen}
 use Rattle.dk_dispatch.proofs.dispatcher.Dispatcher.delete.Goals as goal
 
 pub delete-requires : goal.delete-requires

@@ -1,5 +1,4 @@
-use Rattle.std.proofs.Common.{◌≡◌, ◌∙◌, ap, length, subst, sym}
-use Rattle.dk_demand.specs.Cells.{Cells}
+use Rattle.dk_dispatch.proofs.Names.{◌≡◌, ◌∙◌, ap, length, subst, sym, Cells}
 use Rattle.dk_demand.specs.Recount.{IsRecount}
 use Rattle.dk_dispatch.proofs.Ticking.{at-ready}
 use Rattle.dk_dispatch.proofs.dispatcher.Dispatcher.demand.Goals as goal

@@ -1,5 +1,4 @@
-use Rattle.std.proofs.Common.{◌≡◌, ◌∙◌, arith}
-use Rattle.dk_trace.specs.Choices.{denied}
+use Rattle.dk_dispatch.proofs.Names.{◌≡◌, ◌∙◌, arith, denied}
 use Rattle.dk_dispatch.proofs.Ticking.{at-ready, ready-levels}
 use Rattle.dk_dispatch.proofs.dispatcher.Dispatcher.denial.Goals as goal
 

@@ -1,15 +1,6 @@
-use Rattle.std.proofs.Common.{◌≡◌, ◌≤◌, ◌+◌, ◌*◌, ◌∙◌, ◌∷◌, inl, inr, not, true, false, eqb, length, ap, sym, subst, arith, Some}
-use Rattle.std.proofs.lemmas.Bool.{cases_Bool}
-use Rattle.dk_trace.specs.Entries.{is_of}
-use Rattle.dk_threads.specs.Table.{find_row, runs}
-use Rattle.dk_recount.specs.Recount.{IsBooked}
-use Rattle.dk_recount.specs.Counts.{stopped}
-use Rattle.dk_recount.specs.Facing.{Keeps, slots}
-use Rattle.dk_recount.specs.Stopping.{StopsChild}
-use Rattle.dk_recount.specs.Process.{StopsProcess, running_children}
+use Rattle.dk_dispatch.proofs.Names.{◌≡◌, ◌≤◌, ◌+◌, ◌*◌, ◌∙◌, ◌∷◌, inl, inr, not, true, false, eqb, length, ap, sym, subst, arith, Some, cases_Bool, is_of, find_row, runs, IsBooked, stopped, Keeps, slots, StopsChild, StopsProcess, running_children, Dispatched, seen}
 use Rattle.dk_dispatch.proofs.Stops.{child-steps, child-stopped, family-steps, main-stopped, row-name, stop-keeps}
 use Rattle.dk_dispatch.proofs.Ticking.{ends-as, is-charged, is-ending, stands-stopped, stop-steps}
-use Rattle.dk_dispatch.specs.Standing.{Dispatched, slots as seen}
 use Rattle.dk_dispatch.proofs.dispatcher.Dispatcher.end.Goals as goal
 
 pub stop-requires : goal.stop-requires

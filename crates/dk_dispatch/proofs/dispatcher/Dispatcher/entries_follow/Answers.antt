@@ -1,4 +1,4 @@
-use Rattle.dk_recount.specs.Recount.{IsRuled}
+use Rattle.dk_dispatch.proofs.Names.{IsRuled}
 use Rattle.dk_dispatch.proofs.Ticking.{at-ready}
 use Rattle.dk_dispatch.proofs.dispatcher.Dispatcher.entries_follow.Goals as goal
 

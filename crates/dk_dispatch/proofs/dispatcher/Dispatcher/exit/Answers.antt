@@ -1,6 +1,4 @@
-use Rattle.std.proofs.Common.{refl}
-use Rattle.dk_trace.specs.declared.Event.{Event}
-use Rattle.dk_past.specs.Past.{call_entry}
+use Rattle.dk_dispatch.proofs.Names.{refl, Event, call_entry}
 use Rattle.dk_dispatch.proofs.dispatcher.Dispatcher.exit.Goals as goal
 
 pub end-requires : goal.end-requires

@@ -1,6 +1,4 @@
-use Rattle.std.proofs.Common.{◌≡◌}
-use Rattle.dk_trace.specs.Holds.{held_by}
-use Rattle.dk_mutex.specs.Recount.{last_locked}
+use Rattle.dk_dispatch.proofs.Names.{◌≡◌, held_by, last_locked}
 use Rattle.dk_dispatch.proofs.Telling.{at-told}
 use Rattle.dk_dispatch.proofs.dispatcher.Dispatcher.held_by.Goals as goal
 

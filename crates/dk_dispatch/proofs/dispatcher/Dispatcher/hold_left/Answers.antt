@@ -1,5 +1,4 @@
-use Rattle.std.proofs.Common.{◌≡◌}
-use Rattle.dk_trace.specs.Holds.{held_by, innermost_left}
+use Rattle.dk_dispatch.proofs.Names.{◌≡◌, held_by, innermost_left}
 use Rattle.dk_dispatch.proofs.Telling.{at-told}
 use Rattle.dk_dispatch.proofs.dispatcher.Dispatcher.hold_left.Goals as goal
 

@@ -1,7 +1,4 @@
-use Rattle.std.proofs.Common.{subst, sym}
-use Rattle.dk_trace.specs.declared.Phase.{Phase}
-use Rattle.dk_trace.specs.declared.Choice.{Choice}
-use Rattle.dk_recount.specs.Stretching.{Passes}
+use Rattle.dk_dispatch.proofs.Names.{subst, sym, Phase, Choice, Passes}
 use Rattle.dk_dispatch.proofs.Lending.{lend-owes}
 use Rattle.dk_dispatch.proofs.Stretching.{goes, rows-later, stands-later}
 use Rattle.dk_dispatch.proofs.dispatcher.Dispatcher.lend.Goals as goal

@@ -1,6 +1,4 @@
-use Rattle.std.proofs.Common.{arith, subst}
-use Rattle.dk_dispatch.specs.Standing.{Dispatched}
-use Rattle.dk_dispatch.specs.Calls.{IsFree}
+use Rattle.dk_dispatch.proofs.Names.{arith, subst, Dispatched, IsFree}
 use Rattle.dk_dispatch.proofs.Calling.{calling, done, levels, refused, right, stands-booked}
 use Rattle.dk_dispatch.proofs.dispatcher.Dispatcher.lock.Goals as goal
 

@@ -1,4 +1,4 @@
-use Rattle.std.proofs.Common.{◌∙◌}
+use Rattle.dk_dispatch.proofs.Names.{◌∙◌}
 use Rattle.dk_dispatch.proofs.Telling.{tick-told}
 use Rattle.dk_dispatch.proofs.dispatcher.Dispatcher.now.Goals as goal
 

@@ -1,7 +1,4 @@
-use Rattle.std.proofs.Common.{sym, subst}
-use Rattle.dk_recount.specs.Recount.{IsReady}
-use Rattle.dk_recount.specs.Facing.{Keeps, slots}
-use Rattle.dk_dispatch.specs.Standing.{Dispatched, slots as seen}
+use Rattle.dk_dispatch.proofs.Names.{sym, subst, IsReady, Keeps, slots, Dispatched, seen}
 use Rattle.dk_dispatch.proofs.Keeping.{opened-keeps}
 use Rattle.dk_dispatch.proofs.Ticking.{is-closed, opened-steps, some-periods, stands-opened}
 use Rattle.dk_dispatch.proofs.dispatcher.Dispatcher.open.Goals as goal

@@ -1,5 +1,4 @@
-use Rattle.std.proofs.Common.{arith}
-use Rattle.dk_trace.specs.declared.Choice.{Choice}
+use Rattle.dk_dispatch.proofs.Names.{arith, Choice}
 use Rattle.dk_dispatch.proofs.Stretching.{goes, has-room, rows-later, stands-later}
 use Rattle.dk_dispatch.proofs.dispatcher.Dispatcher.rest.Goals as goal
 

@@ -1,6 +1,4 @@
-use Rattle.std.proofs.Common.{ℕ, ◌<◌, ◌≤◌, length}
-use Rattle.dk_config.specs.declared.TheConstants.{MAX_THREADS}
-use Rattle.dk_threads.specs.Recount.{counted_rows}
+use Rattle.dk_dispatch.proofs.Names.{ℕ, ◌<◌, ◌≤◌, length, MAX_THREADS, counted_rows}
 use Rattle.dk_dispatch.proofs.Seats.{rows-few}
 use Rattle.dk_dispatch.proofs.Ticking.{at-ready}
 use Rattle.dk_dispatch.proofs.dispatcher.Dispatcher.rows_are_few.Goals as goal

@@ -1,9 +1,4 @@
-use Rattle.std.proofs.Common.{◌+◌, ◌≤◌, length, subst, sym}
-use Rattle.dk_config.specs.declared.TheConstants.{MAX_TICKS}
-use Rattle.dk_trace.specs.declared.Phase.{Phase}
-use Rattle.dk_trace.specs.declared.Choice.{Choice}
-use Rattle.dk_dispatch.specs.Standing.{Dispatched}
-use Rattle.dk_dispatch.specs.Ticks.{MayRun}
+use Rattle.dk_dispatch.proofs.Names.{◌+◌, ◌≤◌, length, subst, sym, MAX_TICKS, Phase, Choice, Dispatched, MayRun}
 use Rattle.dk_dispatch.proofs.Running.{may-by-tables}
 use Rattle.dk_dispatch.proofs.Stretching.{goes, rows-later, stands-later}
 use Rattle.dk_dispatch.proofs.Ticking.{is-ready}

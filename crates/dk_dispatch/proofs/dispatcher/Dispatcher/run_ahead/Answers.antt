@@ -1,8 +1,4 @@
-use Rattle.std.proofs.Common.{◌+◌, ◌≤◌, length, subst, sym}
-use Rattle.std.specs.Prelude.{IfSome}
-use Rattle.dk_config.specs.declared.TheConstants.{MAX_TICKS}
-use Rattle.dk_dispatch.specs.Standing.{Dispatched}
-use Rattle.dk_dispatch.specs.Ticks.{Runs}
+use Rattle.dk_dispatch.proofs.Names.{◌+◌, ◌≤◌, length, subst, sym, IfSome, MAX_TICKS, Dispatched, Runs}
 use Rattle.dk_dispatch.proofs.Running.{runs-by-past}
 use Rattle.dk_dispatch.proofs.Stretching.{has-room}
 use Rattle.dk_dispatch.proofs.Ticking.{is-ready}

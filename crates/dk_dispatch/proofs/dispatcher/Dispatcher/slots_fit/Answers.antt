@@ -1,7 +1,4 @@
-use Rattle.std.proofs.Common.{ℕ, ◌≡◌, ◌<◌, ◌≤◌, Some, option_map, length}
-use Rattle.dk_trace.specs.declared.ThreadId.{ThreadId}
-use Rattle.dk_threads.specs.declared.row.ThreadRow.{ThreadRow}
-use Rattle.dk_threads.specs.Table.{find_row}
+use Rattle.dk_dispatch.proofs.Names.{ℕ, ◌≡◌, ◌<◌, ◌≤◌, Some, option_map, length, ThreadId, ThreadRow, find_row}
 use Rattle.dk_dispatch.proofs.Seats.{seats-fit}
 use Rattle.dk_dispatch.proofs.Ticking.{at-ready}
 use Rattle.dk_dispatch.proofs.dispatcher.Dispatcher.slots_fit.Goals as goal

@@ -1,4 +1,4 @@
-use Rattle.std.proofs.Common.{refl}
+use Rattle.dk_dispatch.proofs.Names.{refl}
 use Rattle.dk_dispatch.proofs.dispatcher.Dispatcher.stop.Goals as goal
 
 pub end-requires : goal.end-requires

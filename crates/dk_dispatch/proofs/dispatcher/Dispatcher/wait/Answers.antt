@@ -1,4 +1,4 @@
-use Rattle.std.proofs.Common.{arith}
+use Rattle.dk_dispatch.proofs.Names.{arith}
 use Rattle.dk_dispatch.proofs.Calling.{done, levels, refused, right, stands-booked}
 use Rattle.dk_dispatch.proofs.dispatcher.Dispatcher.wait.Goals as goal
 

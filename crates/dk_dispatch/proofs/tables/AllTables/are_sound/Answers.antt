@@ -1,5 +1,4 @@
-use Rattle.std.proofs.Common.{subst}
-use Rattle.dk_recount.specs.Tables.{HasFamilies, IsSound}
+use Rattle.dk_dispatch.proofs.Names.{subst, HasFamilies, IsSound}
 use Rattle.dk_dispatch.proofs.tables.AllTables.are_sound.Goals as goal
 
 pub returns-clause-sound : goal.returns-clause-sound

@@ -1,8 +1,5 @@
-use Rattle.std.proofs.Common.{ℕ, zero, suc, ◌≡◌, ◌<◌, Bool, true, false, None, [], ◌∷◌, sym, refl, arith}
-use Rattle.std.specs.Prelude.{◌==◌, ◌||◌, not, nat_lt}
-use Rattle.dk_trace.specs.declared.Refusal.{Refusal}
-use Rattle.dk_trace.specs.Refusals.{first_refusal}
-use Rattle.dk_recount.specs.Events.{has_right}
+use Rattle.dk_dispatch.proofs.Names.{ℕ, zero, suc, ◌≡◌, ◌<◌, Bool, true, false, None, [], ◌∷◌, sym, refl, arith, ◌==◌, ◌||◌, nat_lt, Refusal, first_refusal, has_right}
+use Rattle.std.specs.Prelude.{not}
 use Rattle.dk_dispatch.proofs.tables.AllTables.ask.Goals as goal
 
 -- who asks for nothing is refused

@@ -1,13 +1,4 @@
-use Rattle.std.proofs.Common.{◌≡◌, ◌∙◌, ℕ, Bool, List, sym, subst, refl}
-use Rattle.dk_trace.specs.Jobs.{Job}
-use Rattle.dk_threads.specs.Table.{Table}
-use Rattle.dk_budget.specs.Book.{Book}
-use Rattle.dk_mutex.specs.declared.row.Lockable.{Lockable}
-use Rattle.dk_demand.specs.Cells.{Cells}
-use Rattle.dk_slack.specs.Slack.{Slack}
-use Rattle.dk_ready.specs.Roster.{Roster}
-use Rattle.dk_recount.specs.Tables.{Tables, IsSound}
-use Rattle.dk_recount.proofs.Start.Recount.{start-sound}
+use Rattle.dk_dispatch.proofs.Names.{◌≡◌, ◌∙◌, ℕ, Bool, List, sym, subst, refl, Job, Table, Book, Lockable, Cells, Slack, Roster, Tables, IsSound, start-sound}
 use Rattle.dk_dispatch.proofs.tables.AllTables.at_start.Goals as goal
 
 same-tables : (t t' : Table) (b b' : Book) (m m' : List Lockable) (d d' : Cells) (s s' : Slack) (j j' : Roster) (k k' : List Job) (r r' : List ℕ) (a a' : List Bool)

@@ -1,14 +1,5 @@
-use Rattle.std.proofs.Common.{ℕ, ◌≡◌, ◌+◌, ◌≤◌, ◌∙◌, List, length, ap, refl, sym, subst, arith}
-use Rattle.dk_trace.specs.Jobs.{Job}
-use Rattle.dk_windows.specs.Clock.{Clock}
-use Rattle.dk_demand.specs.Cells.{Cells}
-use Rattle.dk_slack.specs.Slack.{Slack}
-use Rattle.dk_ready.specs.Roster.{Roster}
-use Rattle.dk_config.specs.Sums.{below}
-use Rattle.dk_recount.specs.Tables.{Tables}
-use Rattle.dk_recount.specs.Opening.{AreKnown, CanAllSit, MayBegin, all_rows, begin_steps, begun, cell_steps, cells_begun, counts_begun, given, given_steps, parts_begun, quieted}
-use Rattle.dk_dispatch.specs.contracts.tables.AllTables.{the_view}
-use Rattle.dk_recount.proofs.Open.Sizes.{given-seats, given-lists, quieted-length, counts-length, parts-length, cells-windows}
+use Rattle.dk_dispatch.proofs.Names.{ℕ, ◌≡◌, ◌+◌, ◌≤◌, ◌∙◌, List, length, ap, refl, sym, subst, arith, Job, Clock, Cells, Slack, Roster, below, Tables, AreKnown, CanAllSit, MayBegin, all_rows, begin_steps, cell_steps, cells_begun, counts_begun, given, given_steps, parts_begun, quieted, the_view, given-seats, given-lists, quieted-length, counts-length, parts-length, cells-windows}
+use Rattle.dk_recount.specs.Opening.{begun}
 use Rattle.dk_dispatch.proofs.tables.AllTables.begin.Goals as goal
 
 pub begin_threads-requires-clause-levels : goal.begin_threads-requires-clause-levels

@@ -1,6 +1,4 @@
-use Rattle.std.proofs.Common.{◌≡◌, ◌∙◌, false, ap, sym, subst}
-use Rattle.dk_windows.specs.Clock.{Clock, begins_at}
-use Rattle.dk_recount.specs.Tables.{HasFamilies, IsSound, Tables}
+use Rattle.dk_dispatch.proofs.Names.{◌≡◌, ◌∙◌, false, ap, sym, subst, Clock, begins_at, HasFamilies, IsSound, Tables}
 use Rattle.dk_dispatch.proofs.tables.AllTables.begin_due.Goals as goal
 
 pub move_and_begin-requires : goal.move_and_begin-requires

@@ -1,8 +1,4 @@
-use Rattle.std.proofs.Common.{◌∙◌, ap, sym, subst}
-use Rattle.dk_trace.specs.declared.Phase.{Phase}
-use Rattle.dk_trace.specs.declared.Source.{Source}
-use Rattle.dk_trace.specs.declared.Choice.{Choice}
-use Rattle.dk_recount.specs.Charging.{MayCharge, charged}
+use Rattle.dk_dispatch.proofs.Names.{◌∙◌, ap, sym, subst, Phase, Source, Choice, MayCharge, charged}
 use Rattle.dk_dispatch.proofs.tables.AllTables.charge.Goals as goal
 
 pub charge_kernel-requires : goal.charge_kernel-requires

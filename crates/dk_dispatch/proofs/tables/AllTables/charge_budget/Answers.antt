@@ -1,18 +1,4 @@
-use Rattle.std.proofs.Common.{ℕ, ◌≡◌, ◌<◌, ◌≤◌, ◌∙◌, List, Some, length, map, ap, sym, subst, refl}
-use Rattle.std.specs.Prelude.{IsSome, slice_index}
-use Rattle.dk_trace.specs.declared.ThreadId.{ThreadId}
-use Rattle.dk_trace.specs.declared.Choice.{Choice}
-use Rattle.dk_trace.specs.declared.Phase.{Phase}
-use Rattle.dk_rail.specs.Queues.{holder}
-use Rattle.dk_mutex.specs.declared.row.Lockable.{Lockable}
-use Rattle.dk_mutex.specs.Rows.{spent as spent_row}
-use Rattle.dk_mutex.specs.Table.{effective_level}
-use Rattle.dk_demand.specs.Cells.{Cells, dropped_cells, held_cells}
-use Rattle.dk_slack.specs.Slack.{Slack}
-use Rattle.dk_ready.specs.Roster.{Roster, left_on, spent_on}
-use Rattle.dk_recount.specs.Tables.{Tables, node_in}
-use Rattle.dk_recount.specs.Charging.{HasWork, MayBudget, charged, counts, level_in}
-use Rattle.dk_dispatch.specs.contracts.tables.AllTables.{the_view}
+use Rattle.dk_dispatch.proofs.Names.{ℕ, ◌≡◌, ◌<◌, ◌≤◌, ◌∙◌, List, Some, length, map, ap, sym, subst, refl, IsSome, slice_index, ThreadId, Choice, Phase, holder, Lockable, spent_row, effective_level, Cells, dropped_cells, held_cells, Slack, Roster, left_on, spent_on, Tables, node_in, HasWork, MayBudget, charged, counts, level_in, the_view}
 use Rattle.dk_dispatch.proofs.tables.AllTables.charge_budget.Goals as goal
 
 pub spend-requires-clause-node : goal.spend-requires-clause-node

@@ -1,13 +1,4 @@
-use Rattle.std.proofs.Common.{ℕ, ◌≡◌, ◌∙◌, List, Some, get_or, ap, sym, subst, refl, arith}
-use Rattle.std.specs.Prelude.{slice_set}
-use Rattle.dk_trace.specs.declared.Choice.{Choice}
-use Rattle.dk_trace.specs.Jobs.{Job}
-use Rattle.dk_trace.specs.JobSteps.{spent}
-use Rattle.dk_demand.specs.Cells.{Cells, dropped_cells}
-use Rattle.dk_ready.specs.Roster.{new_job}
-use Rattle.dk_recount.specs.Tables.{Tables}
-use Rattle.dk_recount.specs.Charging.{MayKernel, charged, counts}
-use Rattle.dk_dispatch.specs.contracts.tables.AllTables.{the_view}
+use Rattle.dk_dispatch.proofs.Names.{ℕ, ◌≡◌, ◌∙◌, List, Some, get_or, ap, sym, subst, refl, arith, slice_set, Choice, Job, spent, Cells, dropped_cells, new_job, Tables, MayKernel, charged, counts, the_view}
 use Rattle.dk_dispatch.proofs.tables.AllTables.charge_kernel.Goals as goal
 
 pub spend-requires-clause-level : goal.spend-requires-clause-level

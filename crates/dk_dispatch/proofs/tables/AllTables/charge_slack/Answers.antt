@@ -1,17 +1,4 @@
-use Rattle.std.proofs.Common.{◌≡◌, ◌+◌, ◌<◌, ◌≤◌, ◌∙◌, ℕ, Bool, true, false, eqb, List, map, None, ap, sym, subst, refl, arith}
-use Rattle.std.specs.Prelude.{if◌then◌else◌}
-use Rattle.dk_trace.specs.declared.ThreadId.{ThreadId}
-use Rattle.dk_trace.specs.declared.Choice.{Choice}
-use Rattle.dk_trace.specs.declared.Source.{Source}
-use Rattle.dk_trace.specs.declared.Phase.{Phase}
-use Rattle.dk_mutex.specs.declared.row.Lockable.{Lockable}
-use Rattle.dk_mutex.specs.Rows.{spent as spent_row}
-use Rattle.dk_demand.specs.Cells.{Cells}
-use Rattle.dk_slack.specs.Slack.{Slack}
-use Rattle.dk_slack.specs.Wishes.{want, spent as spent_wish}
-use Rattle.dk_recount.specs.Tables.{Tables, node_in}
-use Rattle.dk_recount.specs.Charging.{MayCount, MaySlack, charged, counts}
-use Rattle.dk_dispatch.specs.contracts.tables.AllTables.{the_view}
+use Rattle.dk_dispatch.proofs.Names.{◌≡◌, ◌+◌, ◌<◌, ◌≤◌, ◌∙◌, ℕ, Bool, true, false, eqb, List, map, None, ap, sym, subst, refl, arith, if◌then◌else◌, ThreadId, Choice, Source, Phase, Lockable, spent_row, Cells, Slack, want, spent_wish, Tables, node_in, MayCount, MaySlack, charged, counts, the_view}
 use Rattle.dk_dispatch.proofs.tables.AllTables.charge_slack.Goals as goal
 
 told : (d : Tables) (id : ThreadId) (source : Source) (part : Phase) (s : Slack) (m : List Lockable) (cells : Cells)

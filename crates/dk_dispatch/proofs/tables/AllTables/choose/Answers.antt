@@ -1,7 +1,4 @@
-use Rattle.std.proofs.Common.{◌≡◌, ◌∙◌, ap, false, not, sym, true}
-use Rattle.dk_demand.specs.Cells.{first_unfit}
-use Rattle.dk_recount.specs.Tables.{Tables}
-use Rattle.dk_recount.specs.Choosing.{fits_in}
+use Rattle.dk_dispatch.proofs.Names.{◌≡◌, ◌∙◌, ap, false, not, sym, true, first_unfit, Tables, fits_in}
 use Rattle.dk_dispatch.proofs.Looking.{fits-where-none, slack-is-chosen, unfit-where-some, work-is-chosen}
 use Rattle.dk_dispatch.proofs.tables.AllTables.choose.Goals as goal
 

@@ -1,12 +1,4 @@
-use Rattle.std.proofs.Common.{ℕ, ◌≡◌, ◌<◌, ◌≤◌, ◌∙◌, length, ap, sym, subst, refl}
-use Rattle.std.specs.Prelude.{slice_index}
-use Rattle.dk_demand.specs.Cells.{Cells, dropped_cells}
-use Rattle.dk_slack.specs.Slack.{Slack}
-use Rattle.dk_slack.specs.Wishes.{dropped}
-use Rattle.dk_ready.specs.Roster.{Roster, closed_on, dropped_on}
-use Rattle.dk_recount.specs.Tables.{Tables}
-use Rattle.dk_recount.specs.Jobs.{MayClose, job_closed}
-use Rattle.dk_dispatch.specs.contracts.tables.AllTables.{the_view}
+use Rattle.dk_dispatch.proofs.Names.{ℕ, ◌≡◌, ◌<◌, ◌≤◌, ◌∙◌, length, ap, sym, subst, refl, slice_index, Cells, dropped_cells, Slack, dropped, Roster, closed_on, dropped_on, Tables, MayClose, job_closed, the_view}
 use Rattle.dk_dispatch.proofs.tables.AllTables.close_job.Goals as goal
 
 pub close-dropped-requires-clause-node : goal.close-dropped-requires-clause-node

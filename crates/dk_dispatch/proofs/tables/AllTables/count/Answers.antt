@@ -1,8 +1,4 @@
-use Rattle.std.proofs.Common.{ℕ, ◌≡◌, Option, refl}
-use Rattle.dk_slack.specs.Slack.{Slack}
-use Rattle.dk_recount.specs.Tables.{Tables}
-use Rattle.dk_recount.specs.Charging.{counts}
-use Rattle.dk_dispatch.specs.contracts.tables.AllTables.{the_view}
+use Rattle.dk_dispatch.proofs.Names.{ℕ, ◌≡◌, Option, refl, Slack, Tables, counts, the_view}
 use Rattle.dk_dispatch.proofs.tables.AllTables.count.Goals as goal
 
 told : (d t : Tables) (level : Option ℕ) (s : Slack) → t ≡ d → s ≡ counts level t.slack → record t { slack = s } ≡ record d { slack = counts level d.slack }

@@ -1,18 +1,4 @@
-use Rattle.std.proofs.Common.{ℕ, ◌≡◌, ◌+◌, ◌∙◌, Bool, Some, ap, sym, subst, refl}
-use Rattle.std.specs.Prelude.{if◌then◌else◌}
-use Rattle.std.proofs.lemmas.Bool.{eq-eqb as eqb-on}
-use Rattle.dk_trace.specs.declared.Refusal.{Refusal}
-use Rattle.dk_windows.specs.Clock.{Clock, end_at}
-use Rattle.dk_threads.specs.declared.row.ThreadRow.{ThreadRow}
-use Rattle.dk_threads.specs.Table.{begun, children_at, free_slot, new_row, next_id, serials_at}
-use Rattle.dk_threads.specs.Table.{changed_at as changed_family}
-use Rattle.dk_budget.specs.Book.{Book}
-use Rattle.dk_budget.specs.Calls.{lend_refusal, lent_to, new_loan}
-use Rattle.dk_budget.specs.Calls.{changed_at as changed_lender}
-use Rattle.dk_ready.specs.Roster.{released}
-use Rattle.dk_recount.specs.Tables.{Tables}
-use Rattle.dk_recount.specs.Creating.{MayCreate, child_row, free_node, new_seat, with_child}
-use Rattle.dk_dispatch.specs.contracts.tables.AllTables.{the_view}
+use Rattle.dk_dispatch.proofs.Names.{ℕ, ◌≡◌, ◌+◌, ◌∙◌, Bool, Some, ap, sym, subst, refl, if◌then◌else◌, eqb-on, Refusal, Clock, end_at, ThreadRow, begun, children_at, free_slot, new_row, next_id, serials_at, changed_family, Book, lend_refusal, lent_to, new_loan, changed_lender, released, Tables, MayCreate, child_row, free_node, new_seat, with_child, the_view}
 use Rattle.dk_dispatch.proofs.tables.AllTables.create.Goals as goal
 
 pub lend-requires-clause-known : goal.lend-requires-clause-known

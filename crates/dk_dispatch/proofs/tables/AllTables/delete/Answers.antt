@@ -1,6 +1,4 @@
-use Rattle.std.proofs.Common.{◌≡◌, Some, sym, subst}
-use Rattle.dk_recount.specs.Tables.{Tables}
-use Rattle.dk_recount.specs.Stopping.{child_of, running_child}
+use Rattle.dk_dispatch.proofs.Names.{◌≡◌, Some, sym, subst, Tables, child_of, running_child}
 use Rattle.dk_dispatch.proofs.tables.AllTables.delete.Goals as goal
 
 pub stop_child-requires : goal.stop_child-requires

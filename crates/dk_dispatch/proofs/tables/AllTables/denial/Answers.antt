@@ -1,8 +1,4 @@
-use Rattle.std.proofs.Common.{◌≡◌, ◌∙◌, Bool, Some, None, ap, false, true}
-use Rattle.std.specs.Prelude.{if◌then◌else◌}
-use Rattle.dk_demand.specs.Cells.{first_unfit}
-use Rattle.dk_recount.specs.Tables.{Tables}
-use Rattle.dk_recount.specs.Choosing.{claims_slack}
+use Rattle.dk_dispatch.proofs.Names.{◌≡◌, ◌∙◌, Bool, Some, None, ap, false, true, if◌then◌else◌, first_unfit, Tables, claims_slack}
 use Rattle.dk_dispatch.proofs.Looking.{is-claimed}
 use Rattle.dk_dispatch.proofs.tables.AllTables.denial.Goals as goal
 

@@ -1,8 +1,4 @@
-use Rattle.std.proofs.Common.{◌∙◌, ap, subst}
-use Rattle.dk_threads.specs.Table.{AreFamilies, find_row}
-use Rattle.dk_threads.proofs.NamedRows.{found-fits}
-use Rattle.dk_recount.specs.Tables.{Tables}
-use Rattle.dk_recount.proofs.Facing.{found-own}
+use Rattle.dk_dispatch.proofs.Names.{◌∙◌, ap, subst, AreFamilies, find_row, found-fits, Tables, found-own}
 use Rattle.dk_dispatch.proofs.tables.AllTables.find.Goals as goal
 
 pub returns-clause-fits : goal.returns-clause-fits

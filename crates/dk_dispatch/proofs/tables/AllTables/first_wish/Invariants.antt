@@ -1,5 +1,4 @@
-use Rattle.std.proofs.Common.{◌+◌, ◌≤◌}
-use Rattle.dk_recount.specs.Choosing.{HasNoWish}
+use Rattle.dk_dispatch.proofs.Names.{◌+◌, ◌≤◌, HasNoWish}
 use Rattle.dk_dispatch.proofs.tables.AllTables.first_wish.Given as goal
 
 abbrev pub invariant-loop-level : goal.invariant-loop-level

@@ -1,8 +1,4 @@
-use Rattle.std.proofs.Common.{◌≡◌, None, arith, subst}
-use Rattle.dk_mutex.specs.Table.{holder_at}
-use Rattle.dk_ready.specs.First.{IsComputing}
-use Rattle.dk_recount.specs.Choosing.{kernel_left}
-use Rattle.dk_recount.specs.Tables.{IsSound, Tables}
+use Rattle.dk_dispatch.proofs.Names.{◌≡◌, None, arith, subst, holder_at, IsComputing, kernel_left, IsSound, Tables}
 use Rattle.dk_dispatch.proofs.Looking.{first-works}
 use Rattle.dk_dispatch.proofs.tables.AllTables.first_work.Goals as goal
 

@@ -1,9 +1,4 @@
-use Rattle.std.proofs.Common.{ℕ, ◌≡◌, ◌<◌, ◌∙◌, Bool, false, List, length, get_or, ap, sym}
-use Rattle.std.specs.Prelude.{slice_get}
-use Rattle.std.specs.Option.{option_map_or}
-use Rattle.std.proofs.lemmas.Option.{slice_get-get_or}
-use Rattle.dk_recount.specs.Tables.{Tables}
-use Rattle.dk_recount.specs.Events.{has_right}
+use Rattle.dk_dispatch.proofs.Names.{ℕ, ◌≡◌, ◌<◌, ◌∙◌, Bool, false, List, length, get_or, ap, sym, slice_get, option_map_or, slice_get-get_or, Tables, has_right}
 use Rattle.dk_dispatch.proofs.tables.AllTables.has_right.Goals as goal
 
 is-right : (rights : List Bool) (p : ℕ) (right : Bool) → p < length rights → right ≡ get_or rights p right → right ≡ option_map_or (λ (r : Bool). r) (slice_get rights p) false

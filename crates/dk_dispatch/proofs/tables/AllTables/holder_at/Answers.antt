@@ -1,7 +1,4 @@
-use Rattle.std.proofs.Common.{◌∙◌, ap, subst}
-use Rattle.dk_threads.specs.Table.{AreFamilies}
-use Rattle.dk_mutex.specs.Table.{holder_at}
-use Rattle.dk_recount.specs.Tables.{Tables}
+use Rattle.dk_dispatch.proofs.Names.{◌∙◌, ap, subst, AreFamilies, holder_at, Tables}
 use Rattle.dk_dispatch.proofs.tables.AllTables.holder_at.Goals as goal
 
 pub returns-clause-told : goal.returns-clause-told

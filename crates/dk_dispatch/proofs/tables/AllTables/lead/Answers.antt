@@ -1,8 +1,4 @@
-use Rattle.std.proofs.Common.{◌∙◌, ◌≡◌, None, arith, refl, subst}
-use Rattle.dk_mutex.specs.Front.{RunsFirst}
-use Rattle.dk_ready.specs.First.{IsComputing}
-use Rattle.dk_recount.specs.Choosing.{kernel_left}
-use Rattle.dk_recount.specs.Tables.{HasFamilies, IsSound, Tables}
+use Rattle.dk_dispatch.proofs.Names.{◌∙◌, ◌≡◌, None, arith, refl, subst, RunsFirst, IsComputing, kernel_left, HasFamilies, IsSound, Tables}
 use Rattle.dk_dispatch.proofs.Leading.{leads, slot-rest}
 use Rattle.dk_dispatch.proofs.tables.AllTables.lead.Goals as goal
 

@@ -1,12 +1,4 @@
-use Rattle.std.proofs.Common.{ℕ, ◌≡◌, ◌∙◌, ◌<◌, None, ap, refl, subst, sym}
-use Rattle.dk_trace.specs.declared.ThreadId.{ThreadId}
-use Rattle.dk_windows.specs.Clock.{passed}
-use Rattle.dk_demand.specs.Cells.{Cells}
-use Rattle.dk_slack.specs.Slack.{Slack}
-use Rattle.dk_slack.specs.Wishes.{spent_for, want}
-use Rattle.dk_recount.specs.Tables.{Tables, node_in}
-use Rattle.dk_recount.specs.Stretching.{MayCountFor, counts_for, lent}
-use Rattle.dk_dispatch.specs.contracts.tables.AllTables.{the_view}
+use Rattle.dk_dispatch.proofs.Names.{ℕ, ◌≡◌, ◌∙◌, ◌<◌, None, ap, refl, subst, sym, ThreadId, passed, Cells, Slack, spent_for, want, Tables, node_in, MayCountFor, counts_for, lent, the_view}
 use Rattle.dk_dispatch.proofs.tables.AllTables.lend.Goals as goal
 
 told : (x : ThreadId) (n node : ℕ) (d t : Tables) (e : Cells) (s r : Slack) → t ≡ d → node ≡ node_in t.threads x → e ≡ record t.demand { windows = passed n t.demand.windows }

@@ -1,16 +1,4 @@
-use Rattle.std.proofs.Common.{ℕ, ◌≡◌, ◌+◌, ◌*◌, ◌<◌, ◌≤◌, ◌∙◌, map, None, Option, Some, option_map, ap, arith, subst, sym}
-use Rattle.std.specs.Option.{option_map_or}
-use Rattle.dk_config.specs.declared.TheConstants.{MAX_THREADS}
-use Rattle.dk_trace.specs.declared.ThreadId.{ThreadId}
-use Rattle.dk_threads.specs.declared.row.ThreadRow.{ThreadRow}
-use Rattle.dk_threads.specs.Table.{find_row}
-use Rattle.dk_mutex.specs.Rows.{spent as spent_row}
-use Rattle.dk_mutex.specs.Table.{hold_left}
-use Rattle.dk_demand.specs.Cells.{first_unfit}
-use Rattle.dk_demand.specs.Waiting.{at_tick}
-use Rattle.dk_slack.specs.Ahead.{IsAhead}
-use Rattle.dk_ready.specs.Roster.{seat_at}
-use Rattle.dk_recount.specs.Tables.{IsSound, Tables, node_in}
+use Rattle.dk_dispatch.proofs.Names.{ℕ, ◌≡◌, ◌+◌, ◌*◌, ◌<◌, ◌≤◌, ◌∙◌, map, None, Option, Some, option_map, ap, arith, subst, sym, option_map_or, MAX_THREADS, ThreadId, ThreadRow, find_row, spent_row, hold_left, first_unfit, at_tick, IsAhead, seat_at, IsSound, Tables, node_in}
 use Rattle.dk_dispatch.proofs.Lending.{may-lend}
 use Rattle.dk_dispatch.proofs.Runs.{ends-sooner, room-sooner}
 use Rattle.dk_dispatch.proofs.tables.AllTables.lend_ahead.Goals as goal

@@ -1,9 +1,4 @@
-use Rattle.std.proofs.Common.{◌≡◌, ◌∙◌, true, ap, sym, subst}
-use Rattle.dk_trace.specs.Jobs.{body_left}
-use Rattle.dk_mutex.specs.Table.{is_free, lock_refusal}
-use Rattle.dk_ready.specs.Roster.{seat_at}
-use Rattle.dk_recount.specs.Tables.{Tables, node_in}
-use Rattle.dk_recount.specs.Events.{body_in}
+use Rattle.dk_dispatch.proofs.Names.{◌≡◌, ◌∙◌, true, ap, sym, subst, body_left, is_free, lock_refusal, seat_at, Tables, node_in, body_in}
 use Rattle.dk_dispatch.proofs.Answering.{locked-tables}
 use Rattle.dk_dispatch.proofs.tables.AllTables.lock.Goals as goal
 

@@ -1,6 +1,4 @@
-use Rattle.std.proofs.Common.{◌∙◌, sym, subst}
-use Rattle.dk_recount.specs.Tables.{HasFamilies}
-use Rattle.dk_recount.specs.Opening.{MayBegin}
+use Rattle.dk_dispatch.proofs.Names.{◌∙◌, sym, subst, HasFamilies, MayBegin}
 use Rattle.dk_dispatch.proofs.tables.AllTables.move_and_begin.Goals as goal
 
 pub begin-requires : goal.begin-requires

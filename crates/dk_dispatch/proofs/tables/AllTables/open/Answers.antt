@@ -1,4 +1,4 @@
-use Rattle.std.proofs.Common.{◌∙◌, arith}
+use Rattle.dk_dispatch.proofs.Names.{◌∙◌, arith}
 use Rattle.dk_dispatch.proofs.tables.AllTables.open.Goals as goal
 
 pub returns-clause-tables : goal.returns-clause-tables

@@ -1,10 +1,4 @@
-use Rattle.std.proofs.Common.{ℕ, ◌≡◌, None, refl}
-use Rattle.dk_windows.specs.Clock.{passed}
-use Rattle.dk_demand.specs.Cells.{Cells}
-use Rattle.dk_slack.specs.Slack.{Slack}
-use Rattle.dk_recount.specs.Tables.{Tables}
-use Rattle.dk_recount.specs.Stretching.{counts_for, rested}
-use Rattle.dk_dispatch.specs.contracts.tables.AllTables.{the_view}
+use Rattle.dk_dispatch.proofs.Names.{ℕ, ◌≡◌, None, refl, passed, Cells, Slack, Tables, counts_for, rested, the_view}
 use Rattle.dk_dispatch.proofs.tables.AllTables.pass_idle.Goals as goal
 
 told : (d t : Tables) (n : ℕ) (e : Cells) (s : Slack) → t ≡ d → e ≡ record t.demand { windows = passed n t.demand.windows } → s ≡ counts_for n None t.slack

@@ -1,8 +1,4 @@
-use Rattle.std.proofs.Common.{ℕ, ◌≡◌, ◌∙◌, Some, option_map, ap, subst, sym}
-use Rattle.dk_threads.specs.Table.{AreFamilies}
-use Rattle.dk_ready.specs.Roster.{seat_at}
-use Rattle.dk_recount.specs.Tables.{Tables}
-use Rattle.dk_recount.specs.Questions.{ready_in}
+use Rattle.dk_dispatch.proofs.Names.{ℕ, ◌≡◌, ◌∙◌, Some, option_map, ap, subst, sym, AreFamilies, seat_at, Tables, ready_in}
 use Rattle.dk_dispatch.proofs.tables.AllTables.ready_at.Goals as goal
 
 pub returns-clause-told : goal.returns-clause-told

@@ -1,7 +1,4 @@
-use Rattle.std.proofs.Common.{arith, sym, subst}
-use Rattle.dk_trace.specs.declared.Choice.{Choice}
-use Rattle.dk_recount.specs.Tables.{HasFamilies, IsSound}
-use Rattle.dk_recount.specs.Stretching.{Passes}
+use Rattle.dk_dispatch.proofs.Names.{arith, sym, subst, Choice, HasFamilies, IsSound, Passes}
 use Rattle.dk_dispatch.proofs.Stretching.{some-levels}
 use Rattle.dk_dispatch.proofs.tables.AllTables.rest.Goals as goal
 

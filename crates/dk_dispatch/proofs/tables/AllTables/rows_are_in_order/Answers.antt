@@ -1,6 +1,4 @@
-use Rattle.std.proofs.Common.{subst}
-use Rattle.dk_threads.specs.Table.{AreFamilies}
-use Rattle.dk_recount.specs.Tables.{Tables}
+use Rattle.dk_dispatch.proofs.Names.{subst, AreFamilies, Tables}
 use Rattle.dk_dispatch.proofs.tables.AllTables.rows_are_in_order.Goals as goal
 
 pub returns : goal.returns

@@ -1,8 +1,4 @@
-use Rattle.std.proofs.Common.{sym, subst}
-use Rattle.dk_trace.specs.declared.Phase.{Phase}
-use Rattle.dk_trace.specs.declared.Choice.{Choice}
-use Rattle.dk_recount.specs.Tables.{HasFamilies, IsSound}
-use Rattle.dk_recount.specs.Stretching.{Passes}
+use Rattle.dk_dispatch.proofs.Names.{sym, subst, Phase, Choice, HasFamilies, IsSound, Passes}
 use Rattle.dk_dispatch.proofs.tables.AllTables.run.Goals as goal
 
 pub compute-requires-clause-front : goal.compute-requires-clause-front

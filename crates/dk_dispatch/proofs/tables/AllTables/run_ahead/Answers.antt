@@ -1,12 +1,4 @@
-use Rattle.std.proofs.Common.{◌∙◌, ℕ, ◌≡◌, ◌≤◌, map, true, None, arith, inr, refl, subst, sym}
-use Rattle.dk_mutex.specs.Front.{RunsFirst}
-use Rattle.dk_mutex.specs.Table.{effective_level, hold_left, holder_at}
-use Rattle.dk_mutex.specs.Rows.{spent as spent_row}
-use Rattle.dk_slack.specs.Wishes.{first_node}
-use Rattle.dk_ready.specs.First.{IsComputingFor}
-use Rattle.dk_recount.specs.Choosing.{HasNoWish, kernel_left}
-use Rattle.dk_recount.specs.Tables.{HasFamilies, IsSound, Tables}
-use Rattle.dk_dispatch.specs.declared.tables.leading.Lead.{Lead}
+use Rattle.dk_dispatch.proofs.Names.{◌∙◌, ℕ, ◌≡◌, ◌≤◌, map, true, None, arith, inr, refl, subst, sym, RunsFirst, effective_level, hold_left, holder_at, spent_row, first_node, IsComputingFor, HasNoWish, kernel_left, HasFamilies, IsSound, Tables, Lead}
 use Rattle.dk_dispatch.proofs.Leading.{leads, slot-rest}
 use Rattle.dk_dispatch.proofs.Runs.{ends-sooner, is-computing, may-run, room-sooner}
 use Rattle.dk_dispatch.proofs.tables.AllTables.run_ahead.Goals as goal

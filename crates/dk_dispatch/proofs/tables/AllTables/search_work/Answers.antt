@@ -1,7 +1,4 @@
-use Rattle.std.proofs.Common.{ℕ, ◌≡◌, ◌+◌, ◌≤◌, ◌<◌, ◌∙◌, inl, inr, None, ap, arith, length, sym, refl}
-use Rattle.std.proofs.lemmas.Bool.{cases_lt}
-use Rattle.dk_recount.specs.Choosing.{HasNoWork, work_in}
-use Rattle.dk_recount.specs.Tables.{Tables}
+use Rattle.dk_dispatch.proofs.Names.{ℕ, ◌≡◌, ◌+◌, ◌≤◌, ◌<◌, ◌∙◌, inl, inr, None, ap, arith, length, sym, refl, cases_lt, HasNoWork, work_in, Tables}
 use Rattle.dk_dispatch.proofs.tables.AllTables.search_work.Goals as goal
 
 -- a level without work comes after those

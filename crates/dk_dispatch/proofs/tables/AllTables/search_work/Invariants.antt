@@ -1,5 +1,4 @@
-use Rattle.std.proofs.Common.{◌+◌, ◌*◌, ◌≤◌}
-use Rattle.dk_recount.specs.Choosing.{HasNoWork}
+use Rattle.dk_dispatch.proofs.Names.{◌+◌, ◌*◌, ◌≤◌, HasNoWork}
 use Rattle.dk_dispatch.proofs.tables.AllTables.search_work.Given as goal
 
 abbrev pub invariant-loop-level : goal.invariant-loop-level

@@ -1,12 +1,4 @@
-use Rattle.std.proofs.Common.{ℕ, ◌≡◌, refl}
-use Rattle.dk_threads.specs.declared.row.ThreadRow.{ThreadRow}
-use Rattle.dk_threads.specs.Table.{Table, begun, children_at, free_slot, new_row, next_id}
-use Rattle.dk_threads.specs.Table.{changed_at as changed_family}
-use Rattle.dk_ready.specs.Roster.{Roster, new_job, released}
-use Rattle.dk_recount.specs.Tables.{Tables}
-use Rattle.dk_recount.specs.Stopping.{node_on}
-use Rattle.dk_recount.specs.Creating.{free_node, new_seat}
-use Rattle.dk_dispatch.specs.contracts.tables.AllTables.{the_view}
+use Rattle.dk_dispatch.proofs.Names.{ℕ, ◌≡◌, refl, ThreadRow, Table, begun, children_at, free_slot, new_row, next_id, changed_family, Roster, new_job, released, Tables, node_on, free_node, new_seat, the_view}
 use Rattle.dk_dispatch.proofs.tables.AllTables.seat_child.Goals as goal
 
 seated : (p level start : ℕ) (d t : Tables) (node : ℕ) (row : ThreadRow) (h : Table) (j : Roster)

@@ -1,10 +1,4 @@
-use Rattle.std.proofs.Common.{◌≡◌, ◌+◌, ◌*◌, ◌≤◌, ◌∙◌, length, drop, ap, sym, subst, refl, arith}
-use Rattle.std.specs.Prelude.{filter}
-use Rattle.dk_threads.specs.Table.{Table, is_running, children_at}
-use Rattle.dk_threads.proofs.Stops.{steps-next}
-use Rattle.dk_recount.specs.Tables.{Tables}
-use Rattle.dk_recount.specs.Process.{shut_all, MayShutAll, running_at}
-use Rattle.dk_recount.proofs.Stop.Shut.{shut-join, may-first, may-rest, shut-threads, shut-kernel, next-running}
+use Rattle.dk_dispatch.proofs.Names.{◌≡◌, ◌+◌, ◌*◌, ◌≤◌, ◌∙◌, length, drop, ap, sym, subst, refl, arith, filter, Table, is_running, children_at, steps-next, Tables, shut_all, MayShutAll, running_at, shut-join, may-first, may-rest, shut-threads, shut-kernel, next-running}
 use Rattle.dk_dispatch.proofs.tables.AllTables.shut_children.Goals as goal
 
 pub loop-index-init : goal.loop-index-init

@@ -1,7 +1,4 @@
-use Rattle.std.proofs.Common.{◌≡◌, ◌+◌, ◌*◌, ◌≤◌, length, drop}
-use Rattle.std.specs.Prelude.{filter}
-use Rattle.dk_threads.specs.Table.{is_running, children_at}
-use Rattle.dk_recount.specs.Process.{shut_all, MayShutAll}
+use Rattle.dk_dispatch.proofs.Names.{◌≡◌, ◌+◌, ◌*◌, ◌≤◌, length, drop, filter, is_running, children_at, shut_all, MayShutAll}
 use Rattle.dk_dispatch.proofs.tables.AllTables.shut_children.Given as goal
 
 abbrev pub invariant-loop-index : goal.invariant-loop-index

@@ -1,9 +1,4 @@
-use Rattle.std.proofs.Common.{ℕ, ◌≡◌, ◌≤◌, ◌∙◌, true, false, None, Some, eqb, ltb, rules, sym, refl, arith}
-use Rattle.std.proofs.lemmas.Bool.Decides.{nat_tests}
-use Rattle.dk_trace.specs.declared.ThreadId.{ThreadId}
-use Rattle.dk_trace.specs.declared.Refusal.{Refusal}
-use Rattle.dk_recount.specs.Tables.{Tables}
-use Rattle.dk_recount.specs.Events.{has_right, slack_refusal_in}
+use Rattle.dk_dispatch.proofs.Names.{ℕ, ◌≡◌, ◌≤◌, ◌∙◌, true, false, None, Some, eqb, ltb, rules, sym, refl, arith, nat_tests, ThreadId, Refusal, Tables, has_right, slack_refusal_in}
 use Rattle.dk_dispatch.proofs.tables.AllTables.slack_refusal.Goals as goal
 
 not-refused : (d : Tables) (x : ThreadId) (amount : ℕ) → has_right d x.process ≡ true → (amount ≡ 0 → ⊥) → amount ≤ 1000000 → slack_refusal_in d x amount ≡ None

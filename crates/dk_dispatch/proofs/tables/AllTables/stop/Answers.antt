@@ -1,9 +1,4 @@
-use Rattle.std.proofs.Common.{◌≡◌, ◌≤◌, ◌+◌, ◌*◌, false, eqb, length, sym, subst, arith, Some}
-use Rattle.std.proofs.lemmas.Bool.Decides.{nat_tests}
-use Rattle.dk_threads.specs.Table.{find_row}
-use Rattle.dk_recount.specs.Tables.{Tables}
-use Rattle.dk_recount.specs.Process.{running_children}
-use Rattle.std.proofs.lemmas.Bool.{eq-eqb as eqb-on}
+use Rattle.dk_dispatch.proofs.Names.{◌≡◌, ◌≤◌, ◌+◌, ◌*◌, false, eqb, length, sym, subst, arith, Some, nat_tests, find_row, Tables, running_children, eqb-on}
 use Rattle.dk_dispatch.proofs.Stops.{row-name}
 use Rattle.dk_dispatch.proofs.tables.AllTables.stop.Goals as goal
 

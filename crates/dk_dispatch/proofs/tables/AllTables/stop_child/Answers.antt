@@ -1,14 +1,4 @@
-use Rattle.std.proofs.Common.{◌≡◌, ◌<◌, ◌∙◌, true, length, ap, sym, subst, refl}
-use Rattle.dk_windows.specs.Clock.{Clock}
-use Rattle.dk_threads.specs.declared.row.ThreadRow.{ThreadRow}
-use Rattle.dk_threads.specs.Table.{Table, child_stopped, runs}
-use Rattle.dk_threads.specs.Table.{changed_at as changed_family}
-use Rattle.dk_budget.specs.Book.{Book}
-use Rattle.dk_budget.specs.Calls.{stopped_child}
-use Rattle.dk_budget.specs.Calls.{changed_at as changed_lender}
-use Rattle.dk_recount.specs.Tables.{Tables}
-use Rattle.dk_recount.specs.Stopping.{shut, without_child}
-use Rattle.dk_dispatch.specs.contracts.tables.AllTables.{the_view}
+use Rattle.dk_dispatch.proofs.Names.{◌≡◌, ◌<◌, ◌∙◌, true, length, ap, sym, subst, refl, Clock, ThreadRow, Table, child_stopped, runs, changed_family, Book, stopped_child, changed_lender, Tables, shut, without_child, the_view}
 use Rattle.dk_dispatch.proofs.tables.AllTables.stop_child.Goals as goal
 
 pub shut-requires : goal.shut-requires

@@ -1,21 +1,4 @@
-use Rattle.std.proofs.Common.{◌≡◌, ◌<◌, ◌+◌, ◌*◌, ◌≤◌, ◌∙◌, ℕ, Bool, List, length, ap, sym, subst, refl, arith}
-use Rattle.std.specs.Prelude.{slice_index}
-use Rattle.dk_trace.specs.Jobs.{Job}
-use Rattle.dk_windows.specs.Clock.{Clock}
-use Rattle.dk_threads.specs.Table.{Table, all_stopped, stands}
-use Rattle.dk_threads.specs.Table.{changed_at as changed_family}
-use Rattle.dk_budget.specs.Book.{Book}
-use Rattle.dk_budget.specs.Shares.{future_shares}
-use Rattle.dk_budget.specs.Calls.{stopped_process}
-use Rattle.dk_budget.specs.Calls.{changed_at as changed_lender}
-use Rattle.dk_mutex.specs.declared.row.Lockable.{Lockable}
-use Rattle.dk_demand.specs.Cells.{Cells}
-use Rattle.dk_slack.specs.Slack.{Slack}
-use Rattle.dk_ready.specs.Roster.{Roster}
-use Rattle.dk_recount.specs.Tables.{Tables}
-use Rattle.dk_recount.specs.Stopping.{shut}
-use Rattle.dk_recount.specs.Process.{shut_all, running_children, cells_lost}
-use Rattle.dk_recount.proofs.Stop.Shut.{shut-threads, shut-loans, shut-windows, shut-kernel, one-more}
+use Rattle.dk_dispatch.proofs.Names.{◌≡◌, ◌<◌, ◌+◌, ◌*◌, ◌≤◌, ◌∙◌, ℕ, Bool, List, length, ap, sym, subst, refl, arith, slice_index, Job, Clock, Table, all_stopped, stands, changed_family, Book, future_shares, stopped_process, changed_lender, Lockable, Cells, Slack, Roster, Tables, shut, shut_all, running_children, cells_lost, shut-threads, shut-loans, shut-windows, shut-kernel, one-more}
 use Rattle.dk_dispatch.proofs.tables.AllTables.stop_family.Goals as goal
 
 tables-same : {t t' : Table} {b b' : Book} {m m' : List Lockable} {d d' : Cells} {s s' : Slack} {j j' : Roster} {k k' : List Job} {r r' : List ℕ} {a a' : List Bool}

@@ -1,7 +1,4 @@
-use Rattle.std.proofs.Common.{ℕ, ◌∙◌, ap, subst}
-use Rattle.dk_threads.specs.Table.{AreFamilies}
-use Rattle.dk_slack.specs.Wishes.{want}
-use Rattle.dk_recount.specs.Tables.{Tables, node_in}
+use Rattle.dk_dispatch.proofs.Names.{ℕ, ◌∙◌, ap, subst, AreFamilies, want, Tables, node_in}
 use Rattle.dk_dispatch.proofs.tables.AllTables.want.Goals as goal
 
 pub returns-clause-told : goal.returns-clause-told

@@ -1,12 +1,4 @@
-use Rattle.std.proofs.Common.{ℕ, ◌≡◌, ◌*◌, ◌<◌, ◌∙◌, length, ap, sym, subst, refl}
-use Rattle.dk_trace.specs.declared.ThreadId.{ThreadId}
-use Rattle.dk_slack.specs.Slack.{Slack}
-use Rattle.dk_slack.specs.Wishes.{asked as asked_wish}
-use Rattle.dk_ready.specs.Roster.{seat_at}
-use Rattle.dk_recount.specs.Tables.{Tables, node_in}
-use Rattle.dk_recount.specs.Charging.{level_in}
-use Rattle.dk_recount.specs.Events.{MayAsk, asked}
-use Rattle.dk_dispatch.specs.contracts.tables.AllTables.{the_view}
+use Rattle.dk_dispatch.proofs.Names.{ℕ, ◌≡◌, ◌*◌, ◌<◌, ◌∙◌, length, ap, sym, subst, refl, ThreadId, Slack, asked_wish, seat_at, Tables, node_in, level_in, MayAsk, asked, the_view}
 use Rattle.dk_dispatch.proofs.tables.AllTables.wish.Goals as goal
 
 pub ask-requires-clause-node : goal.ask-requires-clause-node

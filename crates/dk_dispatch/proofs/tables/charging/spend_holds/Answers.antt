@@ -1,7 +1,4 @@
-use Rattle.std.proofs.Common.{arith, ◌≡◌, ◌∙◌, ◌&&◌, false, leb, ltb, ℕ, suc, List, [], ◌∷◌, ap, refl, sym}
-use Rattle.std.proofs.lemmas.Bool.Decides.{nat_tests}
-use Rattle.dk_demand.specs.Cells.{Cells, held_cells}
-use Rattle.dk_demand.specs.Levels.{adjusted, between, by_level}
+use Rattle.dk_dispatch.proofs.Names.{arith, ◌≡◌, ◌∙◌, ◌&&◌, false, leb, ltb, ℕ, suc, List, [], ◌∷◌, ap, refl, sym, nat_tests, Cells, held_cells, adjusted, between, by_level}
 use Rattle.dk_dispatch.proofs.tables.charging.spend_holds.Goals as goal
 
 nowhere : (level : ℕ) (f : ℕ → ℕ) (j n : ℕ) → between level level f j n ≡ n

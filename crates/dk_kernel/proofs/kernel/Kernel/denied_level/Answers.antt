@@ -1,5 +1,4 @@
-use Rattle.std.proofs.Common.{◌≡◌}
-use Rattle.dk_trace.specs.Choices.{denied}
+use Rattle.dk_kernel.proofs.Names.{◌≡◌, denied}
 use Rattle.dk_kernel.proofs.Fields.{of-view}
 use Rattle.dk_kernel.proofs.kernel.Kernel.denied_level.Goals as goal
 

@@ -1,6 +1,4 @@
-use Rattle.std.proofs.Common.{◌∙◌, ap}
-use Rattle.dk_recount.specs.Recount.{IsRuled}
-use Rattle.dk_kernel.specs.Running.{Running, trace_of}
+use Rattle.dk_kernel.proofs.Names.{◌∙◌, ap, IsRuled, Running, trace_of}
 use Rattle.dk_kernel.proofs.Fields.{entries-are, of-view}
 use Rattle.dk_kernel.proofs.kernel.Kernel.dispatcher.Goals as goal
 

@@ -1,7 +1,4 @@
-use Rattle.std.proofs.Common.{◌∙◌, ◌++◌, ap}
-use Rattle.dk_trace.specs.declared.Label.{Label}
-use Rattle.dk_trace.specs.Entries.{quiet}
-use Rattle.dk_kernel.specs.Running.{trace_of}
+use Rattle.dk_kernel.proofs.Names.{◌∙◌, ◌++◌, ap, Label, quiet, trace_of}
 use Rattle.dk_kernel.proofs.Stretched.{replicate-some}
 use Rattle.dk_kernel.proofs.kernel.Kernel.idle.Goals as goal
 

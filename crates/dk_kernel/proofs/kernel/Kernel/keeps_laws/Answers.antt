@@ -1,5 +1,4 @@
-use Rattle.dk_recount.specs.Recount.{IsRuled}
-use Rattle.dk_kernel.specs.Laws.{KeepsLaws}
+use Rattle.dk_kernel.proofs.Names.{IsRuled, KeepsLaws}
 use Rattle.dk_kernel.proofs.Fields.{of-view}
 use Rattle.dk_kernel.proofs.kernel.Kernel.keeps_laws.Goals as goal
 

@@ -1,5 +1,4 @@
-use Rattle.std.proofs.Common.{◌∙◌, length, ap, sym}
-use Rattle.dk_kernel.specs.Running.{Running, trace_of}
+use Rattle.dk_kernel.proofs.Names.{◌∙◌, length, ap, sym, Running, trace_of}
 use Rattle.dk_kernel.proofs.Fields.{entries-are}
 use Rattle.dk_kernel.proofs.kernel.Kernel.now.Goals as goal
 

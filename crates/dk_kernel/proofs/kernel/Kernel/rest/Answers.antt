@@ -1,6 +1,5 @@
 -- The ticks of nobody go from the world of the ticks so far to that of so many more.
-use Rattle.std.proofs.Common.{arith, refl}
-use Rattle.dk_trace.specs.declared.Choice.{Choice}
+use Rattle.dk_kernel.proofs.Names.{arith, refl, Choice}
 use Rattle.dk_kernel.proofs.Fields.{has-room, later-fields, seen-entries}
 use Rattle.dk_kernel.proofs.Stretched.{rest-running}
 use Rattle.dk_kernel.proofs.kernel.Kernel.rest.Goals as goal

@@ -1,8 +1,5 @@
 -- The laws hold of the run that is so much longer.
-use Rattle.std.proofs.Common.{◌≡◌, ◌+◌, ◌-◌, ◌++◌, ap, arith}
-use Rattle.std.specs.Prelude.{replicate}
-use Rattle.dk_trace.specs.Entries.{quiet}
-use Rattle.dk_kernel.specs.Running.{Running, trace_of}
+use Rattle.dk_kernel.proofs.Names.{◌≡◌, ◌+◌, ◌-◌, ◌++◌, ap, arith, replicate, quiet, Running, trace_of}
 use Rattle.dk_kernel.proofs.Stretched.{refused-last}
 use Rattle.dk_kernel.proofs.kernel.Kernel.stretch.Goals as goal
 

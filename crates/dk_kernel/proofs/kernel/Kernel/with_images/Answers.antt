@@ -1,9 +1,6 @@
 -- The first images stand for the first world.
-use Rattle.std.proofs.Common.{◌≡◌, ◌≤◌, ◌∙◌, ap, length, map, subst, sym}
+use Rattle.dk_kernel.proofs.Names.{◌≡◌, ◌≤◌, ◌∙◌, ap, length, map, subst, sym, Workload, start, code_of}
 use Rattle.std.specs.Prelude.{All}
-use Rattle.dk_loader.specs.Workload.{Workload}
-use Rattle.dk_past.specs.Past.{start}
-use Rattle.dk_kernel.specs.Ties.{code_of}
 use Rattle.dk_kernel.proofs.Boots.{boot-running, codes-first_states}
 use Rattle.dk_kernel.proofs.kernel.Kernel.with_images.Goals as goal
 

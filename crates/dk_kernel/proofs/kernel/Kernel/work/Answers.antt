@@ -1,7 +1,5 @@
 -- The ticks of a thread go from the world of the ticks so far to that of so many more.
-use Rattle.std.proofs.Common.{arith, refl}
-use Rattle.dk_trace.specs.declared.Phase.{Phase}
-use Rattle.dk_trace.specs.declared.Choice.{Choice}
+use Rattle.dk_kernel.proofs.Names.{arith, refl, Phase, Choice}
 use Rattle.dk_kernel.proofs.Fields.{has-room, seen-newest, seen-next}
 use Rattle.dk_kernel.proofs.Working.{worked-later}
 use Rattle.dk_kernel.proofs.kernel.Kernel.work.Goals as goal

@@ -1,6 +1,5 @@
 -- A stretch takes at most one step, and so less than its ticks may take. A tick takes no more than it may.
-use Rattle.std.proofs.Common.{ap, arith, refl, rules}
-use Rattle.dk_kernel.specs.Running.{Running, trace_of}
+use Rattle.dk_kernel.proofs.Names.{ap, arith, refl, rules, Running, trace_of}
 use Rattle.dk_kernel.proofs.Steps.{stretch-steps, tick-more}
 use Rattle.dk_kernel.proofs.kernel.running.go_on.Goals as goal
 

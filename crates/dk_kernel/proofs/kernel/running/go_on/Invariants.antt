@@ -1,7 +1,4 @@
-use Rattle.std.proofs.Common.{◌≡◌, ◌+◌, ◌≤◌}
-use Rattle.std.specs.Prelude.{Ok}
-use Rattle.dk_kernel.specs.Running.{trace_of}
-use Rattle.dk_kernel.specs.Steps.{run_steps}
+use Rattle.dk_kernel.proofs.Names.{◌≡◌, ◌+◌, ◌≤◌, Ok, trace_of, run_steps}
 use Rattle.dk_kernel.proofs.kernel.running.go_on.Given as goal
 
 -- whoever had taken the run as it began has taken what it is now

@@ -1,5 +1,4 @@
-use Rattle.std.proofs.Common.{inl, inr, ◌∙◌, sym}
-use Rattle.std.proofs.lemmas.List.{length-set}
+use Rattle.dk_ready.proofs.Names.{inl, inr, ◌∙◌, sym, length-set}
 use Rattle.dk_ready.proofs.Staying.{kept-after}
 use Rattle.dk_ready.proofs.jobs.Jobs.close.Goals as goal
 use Rattle.dk_ready.proofs.jobs.Jobs.close.Goals.{then-is_some, else-is_some}
