@@ -1,6 +1,7 @@
 //! What a label and an event say.
-ghost use Rattle.std.specs.Prelude.{◌≡◌, ◌≤◌, length};
-ghost use Rattle.dk_trace.specs.Entries.{thread_of};
+ghost use Rattle.std.specs.Prelude.{◌≡◌, ◌≤◌, length, false};
+ghost use Rattle.std.specs.Option.{option_map_or};
+ghost use Rattle.dk_trace.specs.Entries.{is_same, payer, thread_of};
 ghost use Rattle.dk_trace.specs.Says.{arguments_of, word_of};
 
 use crate::{Event, Label, ThreadId};
@@ -27,6 +28,28 @@ impl Label {
             | Label::Out(thread)
             | Label::Slack { thread, .. } => Some(thread),
             Label::Kernel(_) | Label::Idle => None,
+        }
+    }
+
+    /// Whether this thread has a tick of the label, on its budget or on slack.
+    pub fn is_of(self, thread: ThreadId) -> bool
+        ensures { result ≡ option_map_or (is_same thread) (thread_of self) false }
+    {
+        match self.thread() {
+            Some(other) => thread.is_same(other),
+            None => false,
+        }
+    }
+
+    /// Whether this thread's budget pays for a tick of the label.
+    pub fn is_paid_by(self, thread: ThreadId) -> bool
+        ensures { result ≡ option_map_or (is_same thread) (payer self) false }
+    {
+        match self {
+            Label::In(payer) | Label::Run(payer) | Label::Call(payer) | Label::Out(payer) => {
+                thread.is_same(payer)
+            }
+            Label::Slack { .. } | Label::Kernel(_) | Label::Idle => false,
         }
     }
 }
