@@ -1,7 +1,7 @@
 use Rattle.dk_budget.proofs.Names.{sym, subst, List, Lender, Book, IsSound, given_back}
 use Rattle.dk_budget.proofs.Giving.{map-written}
 use Rattle.dk_budget.proofs.Keeping.{sound-all_given_back}
-use Rattle.dk_budget.proofs.lends.Lends.give_back_due.Goals as goal
+use Rattle.dk_budget.proofs.loans.Loans.give_back_due.Goals as goal
 
 pub invariant_of-self : goal.invariant_of-self
 invariant_of-self c =

@@ -1,6 +1,6 @@
 use Rattle.dk_budget.proofs.Names.{◌≡◌, ◌∙◌, ℕ, None, length, refl, sym, ap, arith, Loan, Book, changed_at, lent_to}
 use Rattle.dk_budget.proofs.Keeping.{lent-written, read-row, refusal-of, sound-row}
-use Rattle.dk_budget.proofs.lends.Lends.lend.Goals as goal
+use Rattle.dk_budget.proofs.loans.Loans.lend.Goals as goal
 
 pub invariant_of-self : goal.invariant_of-self
 invariant_of-self c =

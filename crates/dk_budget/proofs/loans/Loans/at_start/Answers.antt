@@ -1,6 +1,6 @@
 use Rattle.dk_budget.proofs.Names.{◌≡◌, ap, Configuration}
 use Rattle.dk_budget.proofs.Starting.{sound-at_start}
-use Rattle.dk_budget.proofs.lends.Lends.at_start.Goals as goal
+use Rattle.dk_budget.proofs.loans.Loans.at_start.Goals as goal
 
 pub invariant_of-result : goal.invariant_of-result
 invariant_of-result c =

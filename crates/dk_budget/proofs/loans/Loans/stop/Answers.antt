@@ -1,6 +1,6 @@
 use Rattle.dk_budget.proofs.Names.{get_or, Book, stopped_child}
 use Rattle.dk_budget.proofs.Keeping.{row-written, sound-stopped_child}
-use Rattle.dk_budget.proofs.lends.Lends.stop.Goals as goal
+use Rattle.dk_budget.proofs.loans.Loans.stop.Goals as goal
 
 pub invariant_of-self : goal.invariant_of-self
 invariant_of-self c =

@@ -1,7 +1,7 @@
 use Rattle.dk_budget.proofs.Names.{◌≡◌, ◌<◌, ◌+◌, ◌∙◌, List, ℕ, length, ap, subst, sym, sum_by, Lender, Book, ArePeriods, IsSoundLender, child_future, future_shares, main_future}
 use Rattle.dk_budget.proofs.Finding.{of-row}
 use Rattle.dk_budget.proofs.Keeping.{read-row, sound-row}
-use Rattle.dk_budget.proofs.lends.Lends.future_shares.Goals as goal
+use Rattle.dk_budget.proofs.loans.Loans.future_shares.Goals as goal
 
 pub main_future-requires : goal.main_future-requires
 main_future-requires c =

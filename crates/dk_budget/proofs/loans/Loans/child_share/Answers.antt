@@ -2,7 +2,7 @@ use Rattle.dk_budget.proofs.Names.{◌≡◌, ◌<◌, ◌∙◌, length, List, 
 use Rattle.std.proofs.Common.{◌==◌}
 use Rattle.dk_budget.proofs.Keeping.{read-row, sound-row}
 use Rattle.dk_budget.proofs.Finding.{found-loan, present-child}
-use Rattle.dk_budget.proofs.lends.Lends.child_share.Goals as goal
+use Rattle.dk_budget.proofs.loans.Loans.child_share.Goals as goal
 
 pub start-start-requires : goal.start-start-requires
 start-start-requires c =

@@ -1,5 +1,5 @@
 use Rattle.dk_budget.proofs.Names.{◌≡◌, ◌<◌, ◌≤◌, ◌∙◌, ◌++◌, ◌∷◌, [], ap, subst, sym, take, get_or, length, map, ℕ, List, arith, slice_get, option_map_or, slice_get-get_or, length-map, length-take-le, map-append, take_more, MAX_LEVELS, LevelRow, Configuration, period}
-use Rattle.dk_budget.proofs.lends.periods_of.Goals as goal
+use Rattle.dk_budget.proofs.loans.periods_of.Goals as goal
 
 -- the period of a level that was read
 read : (c : Configuration) (levels : List LevelRow) (i : ℕ) (d : LevelRow) → levels ≡ c.levels → i < length levels → (get_or levels i d).period ≡ period c i

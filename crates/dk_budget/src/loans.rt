@@ -6,9 +6,9 @@ ghost use Rattle.dk_config.specs.Windows.{main_level, max_level, slots};
 ghost use Rattle.dk_windows.specs.Clock.{end_at, periods_of};
 ghost use Rattle.dk_budget.specs.Book.{book_of, lender_of};
 ghost use Rattle.dk_budget.specs.Calls.{all_given_back, changed_at, lend_refusal, lent_to, new_loan, stopped_child, stopped_process};
-ghost use Rattle.dk_budget.specs.Shares.{future_shares, present_child_share, present_main_share, spare_of};
+ghost use Rattle.dk_budget.specs.Shares.{future_shares, present_child_share, present_main_share};
 
-use crate::lender::{Lender, give_back_all, lent, loan_of};
+use crate::lender::{Lender, give_back_all, loan_of};
 use crate::loan::Loan;
 use crate::refusing::lend_refusal;
 use crate::shares::{child_share, children_future, main_future, main_share};
@@ -23,7 +23,7 @@ use std::marker::Model;
 /// configuration that the calls need, which none of them changes. A call that takes windows takes
 /// those of the same levels. A loan is counted until `give_back_due` takes it out at its end.
 #[derive(Drop)]
-pub struct Lends {
+pub struct Loans {
     /// The switch cost in ticks.
     switch: u32,
     /// The period of each level.
@@ -31,7 +31,7 @@ pub struct Lends {
     lenders: ArrayVec<Lender, MAX_PROCESSES>,
 }
 
-impl Model for Lends {
+impl Model for Loans {
     ghost use Rattle.dk_budget.specs.Book.{Book};
     ghost use Rattle.dk_budget.specs.Sound.{IsSound};
 
@@ -88,10 +88,10 @@ fn lenders_of(config: &Config) -> ArrayVec<Lender, MAX_PROCESSES>
     lenders
 }
 
-impl Lends {
+impl Loans {
     /// Nothing is lent. The configuration is certified. This divides, once for each level; the other
     /// calls don't.
-    pub fn at_start(config: &Config) -> Lends
+    pub fn at_start(config: &Config) -> Loans
         requires checked { IsChecked config.now }
         requires limits { IsWithinLimits config.now }
         requires accepted { IsAccepted config.now }
@@ -99,7 +99,7 @@ impl Lends {
     {
         let periods = periods_of(config);
         let lenders = lenders_of(config);
-        Lends {
+        Loans {
             switch: config.costs.switch,
             periods,
             lenders,
@@ -154,18 +154,6 @@ impl Lends {
             end: None,
         });
         Ok(start)
-    }
-
-    /// What could still be lent, in ticks of a window of the main's level: the main keeps a share
-    /// with which it gets in, does something and gets out.
-    pub fn spare_of(&self, process: u8) -> u32
-        requires { process < length self.now.lenders }
-        ensures { result ≡ spare_of self.now process }
-    {
-        let lender = &self.lenders[process as usize];
-        let least = 2 * self.switch + 1;
-        let rest = (lender.budget as u64).saturating_sub(lent(&lender.loans));
-        rest.saturating_sub(least as u64) as u32
     }
 
     /// The main's share of the present window of its level, in ticks.

@@ -1,5 +1,5 @@
 use Rattle.dk_budget.proofs.Names.{◌≡◌, ◌≤◌, ◌∙◌, ◌++◌, ◌∷◌, [], ap, sym, arith, length, map, range_with_len, length-map-range_with_len, map-range_with_len_more, MAX_PROCESSES, Configuration, Lender, lender_of}
-use Rattle.dk_budget.proofs.lends.lenders_of.Goals as goal
+use Rattle.dk_budget.proofs.loans.lenders_of.Goals as goal
 
 pub push-requires : goal.push-requires
 push-requires c =

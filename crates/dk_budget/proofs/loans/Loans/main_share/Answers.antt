@@ -1,7 +1,7 @@
 use Rattle.dk_budget.proofs.Names.{◌≡◌, ◌<◌, ◌∙◌, List, ℕ, length, ap, subst, sym, start_at, Lender, Book, main_share, present_main_share}
 use Rattle.dk_budget.proofs.Finding.{of-row}
 use Rattle.dk_budget.proofs.Keeping.{read-row, sound-row}
-use Rattle.dk_budget.proofs.lends.Lends.main_share.Goals as goal
+use Rattle.dk_budget.proofs.loans.Loans.main_share.Goals as goal
 
 pub start-requires : goal.start-requires
 start-requires c =

@@ -1,5 +1,5 @@
 use Rattle.dk_budget.proofs.Names.{◌≡◌, ◌<◌, ◌∙◌, ap, sym, ℕ, List, [], length, get_or, Option, None, Some, arith, slice_get, option_map_or, slice_get-get_or, Configuration, ProcessRow, Loan, lender_of}
-use Rattle.dk_budget.proofs.lends.lender_of.Goals as goal
+use Rattle.dk_budget.proofs.loans.lender_of.Goals as goal
 
 first : (c : Configuration) (p : ℕ) (row : ProcessRow) → slice_get c.processes p ≡ Some row
     → record { level = row.level; max_level = row.max_level; budget = row.budget; threads = row.threads; stop = None; loans = record { items = [] } } ≡ lender_of c p
