@@ -1,7 +1,7 @@
 //! What the inputs of a command come to, and what words come to.
 ghost use Rattle.std.specs.Prelude.{◌≡◌, ◌^◌, ◌<◌, Ok, None, IfOk, IfSome, MatchResult, map, string_bytes};
 ghost use Rattle.dk_request.specs.Meaning.{MeansNothing};
-ghost use Rattle.dk_inputs.specs.Plan.{planned};
+ghost use Rattle.dk_inputs.specs.Jobs.{job_for_words};
 ghost use Rattle.dk_inputs.specs.Inputs.{AreTested, job_of};
 ghost use Rattle.dk_inputs.specs.Follows.{CountsStay, Follows, Makes};
 ghost use Rattle.dk_command.specs.Output.{Fails, SomeFails};
@@ -52,14 +52,14 @@ fn work_of(alloc: Global, inputs: Inputs) -> Result<Work, Refusal>
 }
 
 /// What the words come to: None where they are no command.
-pub fn plan<D: Depot>(
+pub fn work_for<D: Depot>(
     alloc: Global,
     words: &[String],
     depot: &mut D,
 ) -> Result<Option<Work>, Refusal>
     requires { (D.seen depot.old).given < 2 ^ 62 }
     ensures follows { Follows SomeDoes SomeFails (D.seen depot.old) (D.seen depot.new) result
-        (planned (map string_bytes words.now)) }
+        (job_for_words (map string_bytes words.now)) }
     ensures usage_only { result ≡ Ok None → MeansNothing (map string_bytes words.now) }
     ensures usage { MeansNothing (map string_bytes words.now)
         → MatchResult result (λ work. work ≡ None) (λ e. e ≡ Refusal.NoMemory) }

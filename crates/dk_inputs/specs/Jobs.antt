@@ -92,40 +92,40 @@ abbrev pub audit_of : Configuration → List ℕ → Files → Reads Job
 audit_of c name at = file_at at name MAX_LEDGER_BYTES why.LongLedger >>= λ bytes. done (findings c bytes)
 
 -- what a request comes to
-abbrev pub plan_of : Request → Files → Reads Job
-plan_of (request.Run file ticks output) at =
+abbrev pub job_for : Request → Files → Reads Job
+job_for (request.Run file ticks output) at =
     config_at at file >>= λ c.
     test (certified c) >>= λ rows.
     run_of c ticks output at
-plan_of (request.Certify file) at =
+job_for (request.Certify file) at =
     config_at at file >>= λ c.
     test (certified c) >>= λ rows.
     done (certificate rows)
-plan_of (request.Gen number ticks) at =
+job_for (request.Gen number ticks) at =
     done (run (generated number) ticks asked.Report)
-plan_of (request.Ledger file output) at =
+job_for (request.Ledger file output) at =
     file_at at file MAX_LEDGER_BYTES why.LongLedger >>= λ bytes.
     done (ledger bytes output)
-plan_of (request.Migrate file) at =
+job_for (request.Migrate file) at =
     config_at at file >>= λ c.
     done (document (migrated c))
-plan_of (request.Asm file) at =
+job_for (request.Asm file) at =
     file_at at file MAX_SOURCE_BYTES why.LongSource >>= λ bytes.
     done (source bytes)
-plan_of (request.Dis file) at =
+job_for (request.Dis file) at =
     file_at at file MAX_PROGRAM_BYTES why.LongCode >>= λ bytes.
     done (code bytes)
-plan_of (request.Audit file name) at =
+job_for (request.Audit file name) at =
     config_at at file >>= λ c.
     test (certified c) >>= λ rows.
     audit_of c name at
-plan_of (request.Plan file name) at =
+job_for (request.Plan file name) at =
     config_at at file >>= λ c.
     test (process_in c name) >>= λ p.
     done (budget c p name)
-plan_of (request.Harmonise lo hi asks) at =
+job_for (request.Harmonise lo hi asks) at =
     done (base lo hi asks)
-plan_of (request.Inspect file tick) at =
+job_for (request.Inspect file tick) at =
     config_at at file >>= λ c.
     test (certified c) >>= λ rows.
     programs_at at c.processes >>= λ programs.
@@ -137,10 +137,10 @@ some_found (Ok x) = Ok (Some x)
 some_found (Err e) = Err e
 
 -- no job, where the words ask for nothing
-abbrev pub plan_for : Option Request → Files → Reads (Option Job)
-plan_for None at = done None
-plan_for (Some request) at = record { given = (plan_of request at).given; found = some_found (plan_of request at).found }
+abbrev pub some_job_for : Option Request → Files → Reads (Option Job)
+some_job_for None at = done None
+some_job_for (Some request) at = record { given = (job_for request at).given; found = some_found (job_for request at).found }
 
 -- what the words come to
-unfoldable pub planned : List (List ℕ) → Files → Reads (Option Job)
-planned words at = plan_for (meaning words) at
+unfoldable pub job_for_words : List (List ℕ) → Files → Reads (Option Job)
+job_for_words words at = some_job_for (meaning words) at

@@ -1,9 +1,9 @@
-//! The plan of each command: what it reads and tests, in order.
+//! What each command reads and tests, in order.
 ghost use Rattle.std.specs.Prelude.{◌≡◌, ◌^◌, ◌<◌, ◌≤◌, IfOk, Ok};
 ghost use Rattle.dk_request.specs.declared.request.Request.TheVariants as request;
 ghost use Rattle.dk_config.specs.Checked.{BreaksNoRule, IsAccepted, IsChecked, IsWithinLimits};
 ghost use Rattle.dk_ledger.specs.Heading.{IsPrintable};
-ghost use Rattle.dk_inputs.specs.Plan.{audit_of, run, run_of, plan_of};
+ghost use Rattle.dk_inputs.specs.Jobs.{audit_of, run, run_of, job_for};
 ghost use Rattle.dk_gen.specs.Generated.{generated};
 ghost use Rattle.dk_plan.specs.Base.{AreAsks};
 ghost use Rattle.dk_inputs.specs.Follows.{Finds, Gives};
@@ -70,7 +70,7 @@ fn audited<D: Depot>(
 }
 
 /// What `run` reads and tests.
-pub fn run_plan<D: Depot>(
+pub fn run_inputs<D: Depot>(
     alloc: Global,
     depot: &mut D,
     file: &str,
@@ -80,7 +80,7 @@ pub fn run_plan<D: Depot>(
     requires room { (D.seen depot.old).given < 2 ^ 62 }
     requires few { ticks ≤ MAX_RUN_TICKS }
     ensures found { Finds job_of (D.seen depot.old) (D.seen depot.new) result
-        (plan_of (request.Run file.now ticks output)) }
+        (job_for (request.Run file.now ticks output)) }
     ensures tested { IfOk result AreTested }
 {
     let config = config_at(alloc, depot, file)?;
@@ -89,10 +89,10 @@ pub fn run_plan<D: Depot>(
 }
 
 /// What `certify` reads and tests.
-pub fn certify_plan<D: Depot>(alloc: Global, depot: &mut D, file: &str) -> Result<Inputs, Refusal>
+pub fn certify_inputs<D: Depot>(alloc: Global, depot: &mut D, file: &str) -> Result<Inputs, Refusal>
     requires { (D.seen depot.old).given < 2 ^ 62 }
     ensures found { Finds job_of (D.seen depot.old) (D.seen depot.new) result
-        (plan_of (request.Certify file.now)) }
+        (job_for (request.Certify file.now)) }
     ensures tested { IfOk result AreTested }
 {
     let config = config_at(alloc, depot, file)?;
@@ -117,7 +117,7 @@ fn generated(alloc: Global, number: u64, ticks: u32) -> Result<Inputs, Refusal>
 }
 
 /// What `gen` tests. It reads nothing.
-pub fn gen_plan<D: Depot>(
+pub fn gen_inputs<D: Depot>(
     alloc: Global,
     depot: &mut D,
     number: u64,
@@ -125,14 +125,14 @@ pub fn gen_plan<D: Depot>(
 ) -> Result<Inputs, Refusal>
     requires { ticks ≤ MAX_RUN_TICKS }
     ensures found { Finds job_of (D.seen depot.old) (D.seen depot.new) result
-        (plan_of (request.Gen number ticks)) }
+        (job_for (request.Gen number ticks)) }
     ensures tested { IfOk result AreTested }
 {
     generated(alloc, number, ticks)
 }
 
 /// What `ledger` reads and tests.
-pub fn ledger_plan<D: Depot>(
+pub fn ledger_inputs<D: Depot>(
     alloc: Global,
     depot: &mut D,
     file: &str,
@@ -140,7 +140,7 @@ pub fn ledger_plan<D: Depot>(
 ) -> Result<Inputs, Refusal>
     requires { (D.seen depot.old).given < 2 ^ 62 }
     ensures found { Finds job_of (D.seen depot.old) (D.seen depot.new) result
-        (plan_of (request.Ledger file.now output)) }
+        (job_for (request.Ledger file.now output)) }
     ensures tested { IfOk result AreTested }
 {
     let bytes = file_at(alloc, depot, file, MAX_LEDGER_BYTES, Refusal::LongLedger)?;
@@ -148,10 +148,10 @@ pub fn ledger_plan<D: Depot>(
 }
 
 /// What `migrate` reads and tests.
-pub fn migrate_plan<D: Depot>(alloc: Global, depot: &mut D, file: &str) -> Result<Inputs, Refusal>
+pub fn migrate_inputs<D: Depot>(alloc: Global, depot: &mut D, file: &str) -> Result<Inputs, Refusal>
     requires { (D.seen depot.old).given < 2 ^ 62 }
     ensures found { Finds job_of (D.seen depot.old) (D.seen depot.new) result
-        (plan_of (request.Migrate file.now)) }
+        (job_for (request.Migrate file.now)) }
     ensures tested { IfOk result AreTested }
 {
     let config = config_at(alloc, depot, file)?;
@@ -159,10 +159,10 @@ pub fn migrate_plan<D: Depot>(alloc: Global, depot: &mut D, file: &str) -> Resul
 }
 
 /// What `asm` reads and tests.
-pub fn asm_plan<D: Depot>(alloc: Global, depot: &mut D, file: &str) -> Result<Inputs, Refusal>
+pub fn asm_inputs<D: Depot>(alloc: Global, depot: &mut D, file: &str) -> Result<Inputs, Refusal>
     requires { (D.seen depot.old).given < 2 ^ 62 }
     ensures found { Finds job_of (D.seen depot.old) (D.seen depot.new) result
-        (plan_of (request.Asm file.now)) }
+        (job_for (request.Asm file.now)) }
     ensures tested { IfOk result AreTested }
 {
     let bytes = file_at(alloc, depot, file, MAX_SOURCE_BYTES, Refusal::LongSource)?;
@@ -170,10 +170,10 @@ pub fn asm_plan<D: Depot>(alloc: Global, depot: &mut D, file: &str) -> Result<In
 }
 
 /// What `dis` reads and tests.
-pub fn dis_plan<D: Depot>(alloc: Global, depot: &mut D, file: &str) -> Result<Inputs, Refusal>
+pub fn dis_inputs<D: Depot>(alloc: Global, depot: &mut D, file: &str) -> Result<Inputs, Refusal>
     requires { (D.seen depot.old).given < 2 ^ 62 }
     ensures found { Finds job_of (D.seen depot.old) (D.seen depot.new) result
-        (plan_of (request.Dis file.now)) }
+        (job_for (request.Dis file.now)) }
     ensures tested { IfOk result AreTested }
 {
     let bytes = file_at(alloc, depot, file, MAX_PROGRAM_BYTES, Refusal::LongCode)?;
@@ -181,7 +181,7 @@ pub fn dis_plan<D: Depot>(alloc: Global, depot: &mut D, file: &str) -> Result<In
 }
 
 /// What `audit` reads and tests.
-pub fn audit_plan<D: Depot>(
+pub fn audit_inputs<D: Depot>(
     alloc: Global,
     depot: &mut D,
     file: &str,
@@ -189,7 +189,7 @@ pub fn audit_plan<D: Depot>(
 ) -> Result<Inputs, Refusal>
     requires { (D.seen depot.old).given < 2 ^ 62 }
     ensures found { Finds job_of (D.seen depot.old) (D.seen depot.new) result
-        (plan_of (request.Audit file.now ledger.now)) }
+        (job_for (request.Audit file.now ledger.now)) }
     ensures tested { IfOk result AreTested }
 {
     let config = config_at(alloc, depot, file)?;
@@ -198,7 +198,7 @@ pub fn audit_plan<D: Depot>(
 }
 
 /// What `plan` reads and tests.
-pub fn budget_plan<D: Depot>(
+pub fn budget_inputs<D: Depot>(
     alloc: Global,
     depot: &mut D,
     file: &str,
@@ -206,7 +206,7 @@ pub fn budget_plan<D: Depot>(
 ) -> Result<Inputs, Refusal>
     requires { (D.seen depot.old).given < 2 ^ 62 }
     ensures found { Finds job_of (D.seen depot.old) (D.seen depot.new) result
-        (plan_of (request.Plan file.now name)) }
+        (job_for (request.Plan file.now name)) }
     ensures tested { IfOk result AreTested }
 {
     let config = config_at(alloc, depot, file)?;
@@ -219,19 +219,19 @@ pub fn budget_plan<D: Depot>(
 }
 
 /// What `harmonise` does its work with. It reads nothing.
-pub fn base_plan<D: Depot>(depot: &mut D, lo: u32, hi: u32, asks: Asks) -> Result<Inputs, Refusal>
+pub fn base_inputs<D: Depot>(depot: &mut D, lo: u32, hi: u32, asks: Asks) -> Result<Inputs, Refusal>
     requires some { 1 ≤ lo }
     requires range { lo ≤ hi }
     requires asks { AreAsks hi asks }
     ensures found { Finds job_of (D.seen depot.old) (D.seen depot.new) result
-        (plan_of (request.Harmonise lo hi asks)) }
+        (job_for (request.Harmonise lo hi asks)) }
     ensures tested { IfOk result AreTested }
 {
     Ok(Inputs::Base { lo, hi, asks })
 }
 
 /// What `inspect` reads and tests.
-pub fn inspect_plan<D: Depot>(
+pub fn inspect_inputs<D: Depot>(
     alloc: Global,
     depot: &mut D,
     file: &str,
@@ -240,7 +240,7 @@ pub fn inspect_plan<D: Depot>(
     requires room { (D.seen depot.old).given < 2 ^ 62 }
     requires few { tick ≤ MAX_RUN_TICKS }
     ensures found { Finds job_of (D.seen depot.old) (D.seen depot.new) result
-        (plan_of (request.Inspect file.now tick)) }
+        (job_for (request.Inspect file.now tick)) }
     ensures tested { IfOk result AreTested }
 {
     let config = config_at(alloc, depot, file)?;

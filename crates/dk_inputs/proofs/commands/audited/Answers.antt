@@ -2,7 +2,7 @@ use Rattle.dk_inputs.proofs.Names.{ℕ, Global, Vec, ◌≡◌, refl, rules, Err
 use Rattle.dk_inputs.specs.declared.refusal.Refusal.TheVariants as why
 use Rattle.dk_inputs.specs.declared.inputs.Inputs.TheVariants as inputs
 use Rattle.dk_inputs.proofs.FollowLemmas.{made, next, refused}
-use Rattle.dk_inputs.proofs.plans.audited.Goals as goal
+use Rattle.dk_inputs.proofs.commands.audited.Goals as goal
 
 -- The ledger was refused.
 pub returns-in_err-bytes-clause-found : goal.returns-in_err-bytes-clause-found

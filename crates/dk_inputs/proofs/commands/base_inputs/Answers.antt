@@ -1,7 +1,7 @@
 use Rattle.dk_inputs.proofs.Names.{refl, job_of, base}
 use Rattle.dk_inputs.specs.declared.inputs.Inputs.TheVariants as inputs
 use Rattle.dk_inputs.proofs.FollowLemmas.{made}
-use Rattle.dk_inputs.proofs.plans.base_plan.Goals as goal
+use Rattle.dk_inputs.proofs.commands.base_inputs.Goals as goal
 
 pub returns-clause-found : goal.returns-clause-found
 returns-clause-found g c =

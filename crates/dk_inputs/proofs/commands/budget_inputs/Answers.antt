@@ -1,7 +1,7 @@
 use Rattle.dk_inputs.proofs.Names.{ℕ, ◌≡◌, List, refl, rules, subst, Err, Ok, Configuration, Gives, job_of, budget, config_at, process_in, ◌>>=◌, done, test}
 use Rattle.dk_inputs.specs.declared.inputs.Inputs.TheVariants as inputs
 use Rattle.dk_inputs.proofs.FollowLemmas.{made, next, refused, tested}
-use Rattle.dk_inputs.proofs.plans.budget_plan.Goals as goal
+use Rattle.dk_inputs.proofs.commands.budget_inputs.Goals as goal
 
 -- The configuration was refused.
 pub returns-in_err-config-clause-found : goal.returns-in_err-config-clause-found

@@ -1,7 +1,7 @@
 use Rattle.dk_inputs.proofs.Names.{◌≡◌, refl, rules, Err, Ok, Configuration, Heading, job_of, certificate, certified, config_at, ◌>>=◌, done, test}
 use Rattle.dk_inputs.specs.declared.inputs.Inputs.TheVariants as inputs
 use Rattle.dk_inputs.proofs.FollowLemmas.{made, next, refused, tested}
-use Rattle.dk_inputs.proofs.plans.certify_plan.Goals as goal
+use Rattle.dk_inputs.proofs.commands.certify_inputs.Goals as goal
 
 -- The configuration was refused.
 pub returns-in_err-config-clause-found : goal.returns-in_err-config-clause-found

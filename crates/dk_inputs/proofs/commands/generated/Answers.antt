@@ -1,5 +1,5 @@
 use Rattle.dk_inputs.proofs.Names.{◌≡◌, ◌∙◌, ap, rules, heading}
-use Rattle.dk_inputs.proofs.plans.generated.Goals as goal
+use Rattle.dk_inputs.proofs.commands.generated.Goals as goal
 
 pub returns-clause-tested : goal.returns-clause-tested
 returns-clause-tested c =

@@ -1,7 +1,7 @@
 use Rattle.dk_inputs.proofs.Names.{◌≡◌, ap, rules, sym, Err, Ok, Configuration, Heading, Loaded, job_of, certified, config_at, state, ◌>>=◌, done, programs_at, test}
 use Rattle.dk_inputs.specs.declared.inputs.Inputs.TheVariants as inputs
 use Rattle.dk_inputs.proofs.FollowLemmas.{made, next, refused, tested}
-use Rattle.dk_inputs.proofs.plans.inspect_plan.Goals as goal
+use Rattle.dk_inputs.proofs.commands.inspect_inputs.Goals as goal
 
 -- The configuration was refused.
 pub returns-in_err-config-clause-found : goal.returns-in_err-config-clause-found

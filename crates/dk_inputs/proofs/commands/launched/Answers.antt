@@ -1,7 +1,7 @@
 use Rattle.dk_inputs.proofs.Names.{◌≡◌, ap, rules, sym, Err, Ok, Configuration, Loaded, job_of, run, done, programs_at}
 use Rattle.dk_inputs.specs.declared.inputs.Inputs.TheVariants as inputs
 use Rattle.dk_inputs.proofs.FollowLemmas.{made, next, refused}
-use Rattle.dk_inputs.proofs.plans.launched.Goals as goal
+use Rattle.dk_inputs.proofs.commands.launched.Goals as goal
 
 -- A program was refused.
 pub returns-in_err-loaded-clause-found : goal.returns-in_err-loaded-clause-found

@@ -1,7 +1,7 @@
 use Rattle.dk_inputs.proofs.Names.{◌≡◌, refl, rules, Err, Ok, Configuration, migrated, job_of, config_at, document, done}
 use Rattle.dk_inputs.specs.declared.inputs.Inputs.TheVariants as inputs
 use Rattle.dk_inputs.proofs.FollowLemmas.{made, next, refused}
-use Rattle.dk_inputs.proofs.plans.migrate_plan.Goals as goal
+use Rattle.dk_inputs.proofs.commands.migrate_inputs.Goals as goal
 
 -- The configuration was refused.
 pub returns-in_err-config-clause-found : goal.returns-in_err-config-clause-found

@@ -1,6 +1,6 @@
 use Rattle.dk_inputs.proofs.Names.{◌≡◌, rules, Err, Ok, Configuration, Heading, job_of, certified, config_at, run_of, ◌>>=◌, test}
 use Rattle.dk_inputs.proofs.FollowLemmas.{next, refused, tested}
-use Rattle.dk_inputs.proofs.plans.run_plan.Goals as goal
+use Rattle.dk_inputs.proofs.commands.run_inputs.Goals as goal
 
 -- The configuration was refused.
 pub returns-in_err-config-clause-found : goal.returns-in_err-config-clause-found
@@ -21,7 +21,7 @@ returns-in_err-header-clause-found g c =
     (refused job_of (λ (h : Heading). h.levels) (λ at. test (certified k)) (λ at y. run_of k c.args.ticks c.args.output at)
     mid mid mid e c.from_residual-in_err-header.result is (tested (λ (h : Heading). h.levels) mid (Err e) (certified k) c.in_err-header.ensures.found))
 
--- The configuration was read, it is certified, and the run of it follows its plan.
+-- The configuration was read, it is certified, and the programs of the run are read.
 pub returns-clause-found : goal.returns-clause-found
 returns-clause-found g c =
     let k = c.in_ok-config.config in
