@@ -1,3 +1,2 @@
-pub mod ExitLemmas
 pub mod Faults
 pub mod Reading
