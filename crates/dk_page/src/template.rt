@@ -76,10 +76,20 @@ td.fill{width:24%;min-width:9rem}
 #certification :is(td,th):nth-child(n+4):nth-child(-n+11),#by-when :is(td,th):nth-child(n+3):nth-child(-n+8),#room :is(td,th):nth-child(n+5):nth-child(-n+10),#run :is(td,th):nth-child(n+3):nth-child(-n+20),#inputs :is(td,th):nth-child(3){text-align:right}
 #run :is(td,th):is(:nth-child(8),:nth-child(9),:nth-child(16),:nth-child(18),:nth-child(20)){display:none}
 #run :is(td,th){padding-left:.35rem;padding-right:.35rem}
+#totals td:is(:nth-child(odd),.fill){color:var(--soft)}#totals td:nth-child(even){text-align:right}
+#totals tr:not([data-kind=process]) .fill{display:none}
+#totals tr[data-kind=process] td:nth-child(2){text-align:left;font-weight:600}
+#totals tr[data-kind=kernel] td:is(:nth-child(2),:nth-child(4)){color:var(--soft);text-align:left}#totals tr[data-kind=kernel] td:is(:nth-child(3),:nth-child(5)){color:var(--ink);text-align:right}
+#totals table{font-size:.84rem}#totals td{padding-left:.25rem;padding-right:.25rem}#totals td.fill{width:auto;min-width:5rem}
+#totals tr{--whole:max(1,var(--c3) + var(--c5) + var(--c7) + var(--c9) + var(--c11) + var(--c13))}
+#totals .bar i:nth-child(1){background:var(--amber);width:calc((var(--c3) + var(--c9))/var(--whole)*100%)}
+#totals .bar i:nth-child(2){background:var(--blue);left:calc((var(--c3) + var(--c9))/var(--whole)*100%);width:calc((var(--c5) + var(--c7))/var(--whole)*100%)}
+#totals .bar i:nth-child(3){background:var(--blue-soft);left:calc((var(--c3) + var(--c5) + var(--c7) + var(--c9))/var(--whole)*100%);width:calc((var(--c11) + var(--c13))/var(--whole)*100%)}
 .picture{overflow-x:auto}.picture svg{display:block;min-width:60rem}
 .legend{display:flex;flex-wrap:wrap;gap:.2rem 1rem;margin:.5rem 0 0;padding:0;list-style:none;font-size:.8rem;color:var(--soft)}
 .legend i{display:inline-block;width:14px;height:11px;margin-right:.35em;vertical-align:-1px;box-shadow:inset 0 0 0 1px var(--line)}
 .legend .demand,.legend .work,.legend .now{background:var(--blue)}
+.legend .switching{background:var(--amber)}
 .legend .most{background:var(--blue-soft)}
 .legend .blocking{background:repeating-linear-gradient(45deg,var(--amber) 0 5px,var(--warn-soft) 5px 9px)}
 .legend .wait{background:repeating-linear-gradient(135deg,var(--blue-soft) 0 4px,transparent 4px 8px)}
@@ -277,6 +287,20 @@ pub(crate) const RUN: &str = "<section id=\"run\" aria-labelledby=\"run-title\">
 /// What stands behind that: what its bars show.
 pub(crate) const RUN_END: &str = "</tbody></table></div>
 <ul class=\"legend\" aria-hidden=\"true\"><li><i class=\"now\"></i>used least</li><li><i class=\"most\"></i>used most</li><li><i></i>budget</li></ul>
+</section>
+";
+
+/// What stands before the totals.
+pub(crate) const TOTALS: &str = "<section id=\"totals\" aria-labelledby=\"totals-title\">
+<div class=\"head\"><h2 id=\"totals-title\">Totals</h2><span class=\"scope one\">of this ledger</span></div>
+<p class=\"why\">Whose the ticks of the ledger are: of all of them, of the kernel level by level, and of each process, whose bar has its switches, its work and its slack side by side; then the threads that it created, its refused calls and its faults.</p>
+<div class=\"scroll\"><table><caption class=\"hidden\">Totals, line by line</caption>
+<tbody>
+";
+
+/// What stands behind them: what their bars show.
+pub(crate) const TOTALS_END: &str = "</tbody></table></div>
+<ul class=\"legend\" aria-hidden=\"true\"><li><i class=\"switching\"></i>switches</li><li><i class=\"work\"></i>work</li><li><i class=\"most\"></i>slack</li></ul>
 </section>
 ";
 

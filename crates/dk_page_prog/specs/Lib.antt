@@ -1,3 +1,5 @@
 pub mod Answers
+pub mod Asking
 pub mod Ends
 pub mod Exits
+pub mod Numbers
