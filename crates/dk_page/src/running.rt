@@ -139,7 +139,7 @@ fn sections_of(alloc: Global, run: &Run) -> Result<Vec<u8>, AllocError>
     Ok(out)
 }
 
-fn add_both<'x>(
+pub(crate) fn add_both<'x>(
     alloc: Global,
     out: &mut Vec<u8>,
     file: &'x [u8],

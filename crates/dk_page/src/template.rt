@@ -76,6 +76,8 @@ td.fill{width:24%;min-width:9rem}
 #certification :is(td,th):nth-child(n+4):nth-child(-n+11),#by-when :is(td,th):nth-child(n+3):nth-child(-n+8),#room :is(td,th):nth-child(n+5):nth-child(-n+10),#run :is(td,th):nth-child(n+3):nth-child(-n+20),#inputs :is(td,th):nth-child(3){text-align:right}
 #run :is(td,th):is(:nth-child(8),:nth-child(9),:nth-child(16),:nth-child(18),:nth-child(20)){display:none}
 #run :is(td,th){padding-left:.35rem;padding-right:.35rem}
+#needs tr[data-kind=missed] td:first-child{color:var(--alert);font-weight:700}#needs tr[data-kind=open] td:first-child{color:var(--amber-ink);font-weight:700}#needs tr[data-kind=met] td:first-child{color:var(--good);font-weight:600}
+#needs :is(td,th):nth-child(n+5):nth-child(-n+6){text-align:right}#needs .fill{display:none}
 #totals td:is(:nth-child(odd),.fill){color:var(--soft)}#totals td:nth-child(even){text-align:right}
 #totals tr:not([data-kind=process]) .fill{display:none}
 #totals tr[data-kind=process] td:nth-child(2){text-align:left;font-weight:600}
@@ -243,6 +245,37 @@ pub(crate) const TEXT_END: &str = "</pre>
 pub(crate) const FAULTS: &str = "<section id=\"faults\" aria-labelledby=\"faults-title\">
 <div class=\"head\"><h2 id=\"faults-title\">Faults</h2><span class=\"scope given\">of the document</span></div>
 <p class=\"why\">The document isn’t that of a configuration, so nothing is certified, and nothing is said of any run.</p>
+<pre tabindex=\"0\">
+";
+
+/// The tile of needs that are all met.
+pub(crate) const MET_TILE: &str =
+    "<li class=\"tile good\"><span class=\"what\">Requirements</span><b>all met</b><span>in every run</span></li>
+";
+
+/// The tile of needs that aren't.
+pub(crate) const UNMET_TILE: &str =
+    "<li class=\"tile bad\"><span class=\"what\">Requirements</span><b>not all met</b><span>some are missed, or open</span></li>
+";
+
+/// The tile of a document that isn't one of needs of the configuration.
+pub(crate) const REFUSED_TILE: &str =
+    "<li class=\"tile bad\"><span class=\"what\">Requirements</span><b>refused</b><span>nothing is decided</span></li>
+";
+
+/// What stands before the needs.
+pub(crate) const NEEDS: &str = "<section id=\"needs\" aria-labelledby=\"needs-title\">
+<div class=\"head\"><h2 id=\"needs-title\">Requirements</h2><span class=\"scope every\">holds for every run</span></div>
+<p class=\"why\">What is needed of the layout, need by need, with the number that is promised of every run, or how far a number of the configuration can go, and what is asked of it. What the programs or a ledger decide is open here: <code>deosk-show check</code> asks them.</p>
+<div class=\"scroll\"><table><caption class=\"hidden\">What is needed, and whether it is met</caption>
+<thead><tr><th scope=\"col\">Verdict</th><th scope=\"col\">Name</th><th scope=\"col\">Of</th><th scope=\"col\">Measure</th><th scope=\"col\">Number</th><th scope=\"col\">Asked</th><th scope=\"col\">Reason</th><th class=\"fill\" aria-hidden=\"true\"></th></tr></thead>
+<tbody>
+";
+
+/// What stands before why nothing is decided of needs.
+pub(crate) const NEEDS_REFUSED: &str = "<section id=\"needs\" aria-labelledby=\"needs-title\">
+<div class=\"head\"><h2 id=\"needs-title\">Requirements</h2><span class=\"scope given\">of the document</span></div>
+<p class=\"why\">The document isn’t one of needs of this configuration, so nothing is decided.</p>
 <pre tabindex=\"0\">
 ";
 

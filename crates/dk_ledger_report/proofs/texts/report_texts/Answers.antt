@@ -20,6 +20,6 @@ returns-clause-told c =
       record { heading = h; entries = all.0 },
       all.1.readable,
       all.1.text,
-      c.in_ok-report.ensures ∙ ap (λ t. c.in_ok-header.header.items ++ t) (c.as_slice.ensures.value ∙ totals) ∙ ap (λ t. t ++ c.in_ok-totals.totals.items) c.in_ok-header.ensures,
+      c.in_ok-report.ensures ∙ ap (λ t. t ++ c.as_slice.result.now) c.in_ok-header.ensures ∙ ap (λ t. header_text h ++ t) (c.as_slice.ensures.value ∙ totals),
       totals,
     )
