@@ -1,2 +1,4 @@
 pub mod Answers
+pub mod Asking
 pub mod Ends
+pub mod Numbers

@@ -2,6 +2,8 @@
 #![tactic(auto)]
 
 mod answers;
+mod asking;
+mod numbers;
 mod page;
 mod program;
 mod status;
