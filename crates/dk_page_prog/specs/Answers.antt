@@ -1,11 +1,13 @@
 -- What the words and the files come to.
-use Rattle.std.specs.Prelude.{ℕ, ◌≡◌, ◌<◌, ◌≤◌, ◌⊎◌, ◌==◌, ◌&&◌, not, Bool, false, length, List, [], ◌∷◌, ◌++◌, Option, Some, None, if◌then◌else◌, codes, decimal}
-use Rattle.std.specs.Str.{bytes_eq}
+use Rattle.std.specs.Prelude.{ℕ, ◌≡◌, ◌<◌, ◌≤◌, ◌⊎◌, length, List, ◌++◌, Option, Some, None, codes, decimal}
 use Rattle.dk_config.specs.declared.TheConstants.{MAX_CONFIG_BYTES, MAX_LEDGER_BYTES}
 use Rattle.dk_ledger.specs.Readable.{IsNoText, IsWrongLine}
 use Rattle.dk_review.specs.Reviews.{IsOfOther, IsReview, IsReviewWith}
+use Rattle.dk_review.specs.Runs.{EndsBefore, IsOfLedger as HasLedger}
+use Rattle.dk_review.specs.declared.drawing.Range.{Range}
 use Rattle.dk_review.specs.declared.reviewing.Ending.{Ending}
 use Rattle.dk_review.specs.declared.reviewing.Review.{Review}
+use Rattle.dk_page_prog.specs.Asking.{asked, ledger_asked, range_asked}
 use Rattle.dk_page_prog.specs.declared.answers.Answer.{Answer}
 use Rattle.dk_page_prog.specs.declared.status.Answered.{Answered}
 use Rattle.dk_page_prog.specs.declared.status.Answered.TheVariants as answered
@@ -71,62 +73,54 @@ IsWrong bytes a = (n : ℕ) × IsWrongLine n bytes × IsNoText bytes × Says (li
 abbrev pub IsOther : List ℕ → List ℕ → Answer → Type 0
 IsOther document bytes a = IsOfOther document bytes × Says (codes "ledger: of another configuration\n") answered.Ledger a
 
--- the page of the document and the ledger, or why there is none: the bytes are no ledger, or one of another configuration
-abbrev pub IsOfBoth : List ℕ → List ℕ → List ℕ → List ℕ → Answer → Type 0
-IsOfBoth name document ledger bytes a =
-    IsOfReview (IsReviewWith name document ledger bytes) a ⊎ (IsWrong bytes a ⊎ IsOther document bytes a)
+-- the range ends behind the last tick of the ledger
+abbrev pub ends_text : ℕ → List ℕ
+ends_text ticks = codes "range: ledger ends at " ++ (decimal ticks ++ codes "\n")
 
-abbrev pub IsOfLedger : List ℕ → List ℕ → List ℕ → Answer → List ℕ → Type 0
-IsOfLedger name document ledger a bytes =
-    IsWithin MAX_LEDGER_BYTES (IsLongLedger a) (λ b. IsOfBoth name document ledger b a) bytes
+abbrev pub IsPast : Option Range → List ℕ → Answer → Type 0
+IsPast range bytes a = (ticks : ℕ) × HasLedger (EndsBefore range ticks) bytes × Says (ends_text ticks) answered.Ledger a
+
+-- why there is no page: the bytes are no ledger, or one of another configuration, or the range isn't in it
+abbrev pub IsRefused : List ℕ → Option Range → List ℕ → Answer → Type 0
+IsRefused document range bytes a = IsWrong bytes a ⊎ (IsOther document bytes a ⊎ IsPast range bytes a)
+
+-- the page of the document and the ledger, or why there is none
+abbrev pub IsOfBoth : List ℕ → List ℕ → List ℕ → Option Range → List ℕ → Answer → Type 0
+IsOfBoth name document ledger range bytes a =
+    IsOfReview (IsReviewWith name document ledger bytes range) a ⊎ IsRefused document range bytes a
+
+abbrev pub IsOfLedger : List ℕ → List ℕ → List ℕ → Option Range → Answer → List ℕ → Type 0
+IsOfLedger name document ledger range a bytes =
+    IsWithin MAX_LEDGER_BYTES (IsLongLedger a) (λ b. IsOfBoth name document ledger range b a) bytes
 
 -- what two files come to that were read so
-abbrev pub IsOfFiles : List ℕ → List ℕ → Answer → List ℕ → List ℕ → Type 0
-IsOfFiles name ledger a document bytes =
-    IsWithin MAX_CONFIG_BYTES (IsLongConfig a) (λ d. IsOfLedger name d ledger a bytes) document
+abbrev pub IsOfFiles : List ℕ → List ℕ → Option Range → Answer → List ℕ → List ℕ → Type 0
+IsOfFiles name ledger range a document bytes =
+    IsWithin MAX_CONFIG_BYTES (IsLongConfig a) (λ d. IsOfLedger name d ledger range a bytes) document
 
 -- what the document and the file of the ledger come to
-abbrev pub IsWithLedger : (List ℕ → Option (List ℕ)) → List ℕ → List ℕ → Answer → List ℕ → Type 0
-IsWithLedger at name ledger a document =
-    (bytes : List ℕ) × (at ledger ≡ Some bytes) × IsOfFiles name ledger a document bytes
+abbrev pub IsWithLedger : (List ℕ → Option (List ℕ)) → List ℕ → List ℕ → Option Range → Answer → List ℕ → Type 0
+IsWithLedger at name ledger range a document =
+    (bytes : List ℕ) × (at ledger ≡ Some bytes) × IsOfFiles name ledger range a document bytes
 
 -- what the files of these two names come to
-abbrev pub IsOfNames : (List ℕ → Option (List ℕ)) → List ℕ → List ℕ → Answer → Type 0
-IsOfNames at name ledger a = (document : List ℕ) × (at name ≡ Some document) × IsWithLedger at name ledger a document
+abbrev pub IsOfNames : (List ℕ → Option (List ℕ)) → List ℕ → List ℕ → Option Range → Answer → Type 0
+IsOfNames at name ledger range a =
+    (document : List ℕ) × (at name ≡ Some document) × IsWithLedger at name ledger range a document
 
 abbrev pub IsUsage : Answer → Type 0
-IsUsage a = Says (codes "usage: deosk-show page FILE [LEDGER]\n") answered.Usage a
-
--- a word that isn't empty, and doesn't begin as a flag does
-abbrev pub is_name : List ℕ → Bool
-is_name [] = false
-is_name (b ∷ rest) = not (b == 45)
-
--- a page of the file of this name is asked for
-abbrev pub is_page : List ℕ → List ℕ → Bool
-is_page verb name = bytes_eq verb (codes "page") && is_name name
-
--- the name of the file whose page the words ask for; the first word is the program's name, and isn't looked at
-abbrev pub asked : List (List ℕ) → Option (List ℕ)
-asked (me ∷ verb ∷ name ∷ []) = if is_page verb name then Some name else None
-asked (me ∷ verb ∷ name ∷ ledger ∷ []) = if is_page verb name && is_name ledger then Some name else None
-asked _ = None
-
--- the name of the ledger, where the words name one
-abbrev pub ledger_asked : List (List ℕ) → Option (List ℕ)
-ledger_asked (me ∷ verb ∷ name ∷ ledger ∷ []) = Some ledger
-ledger_asked _ = None
+IsUsage a = Says (codes "usage: deosk-show page FILE [LEDGER [FROM TO]]\n") answered.Usage a
 
 -- the file of this name comes to this, alone or with that of a ledger
-abbrev pub IsAsked : (List ℕ → Option (List ℕ)) → List ℕ → Option (List ℕ) → Answer → Type 0
-IsAsked at name (Some ledger) a = IsOfNames at name ledger a
-IsAsked at name None a = IsOfName at name a
+abbrev pub IsAsked : (List ℕ → Option (List ℕ)) → List ℕ → Option (List ℕ) → Option Range → Answer → Type 0
+IsAsked at name (Some ledger) range a = IsOfNames at name ledger range a
+IsAsked at name None range a = IsOfName at name a
 
 -- what is asked for comes to this: the page of the file of this name, or the usage line
-abbrev pub IsAnswerTo : (List ℕ → Option (List ℕ)) → Option (List ℕ) → Option (List ℕ) → Answer → Type 0
-IsAnswerTo at (Some name) ledger a = IsAsked at name ledger a
-IsAnswerTo at None ledger a = IsUsage a
+abbrev pub IsAnswerTo : (List ℕ → Option (List ℕ)) → Option (List ℕ) → Option (List ℕ) → Option Range → Answer → Type 0
+IsAnswerTo at (Some name) ledger range a = IsAsked at name ledger range a
+IsAnswerTo at None ledger range a = IsUsage a
 
 -- what the words come to
 abbrev pub IsAnswered : List (List ℕ) → (List ℕ → Option (List ℕ)) → Answer → Type 0
-IsAnswered words at a = IsAnswerTo at (asked words) (ledger_asked words) a
+IsAnswered words at a = IsAnswerTo at (asked words) (ledger_asked words) (range_asked words) a

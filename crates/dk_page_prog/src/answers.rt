@@ -3,12 +3,13 @@ ghost use Rattle.std.specs.Prelude.{◌≡◌, ◌≢◌, ◌≤◌, ◌<◌, �
 ghost use Rattle.dk_config.specs.declared.TheConstants.{MAX_CONFIG_BYTES};
 ghost use Rattle.dk_outside.specs.Counts.{Rises};
 ghost use Rattle.dk_outside.specs.declared.depot.DepotError.{DepotError};
-ghost use Rattle.dk_page_prog.specs.Answers.{IsAnswerTo, IsAnswered, IsAsked, IsOfBoth, IsOfDocument, IsOfFile, IsOfFiles, IsOfLedger, IsOfName, IsOfNames, IsWithLedger, Says, asked, ended_of, is_name, is_page, ledger_asked, line_text};
+ghost use Rattle.dk_page_prog.specs.Answers.{IsAnswerTo, IsAnswered, IsAsked, IsOfBoth, IsOfDocument, IsOfFile, IsOfFiles, IsOfLedger, IsOfName, IsOfNames, IsWithLedger, Says, ended_of, ends_text, line_text};
 
+use crate::asking::{asked, ledger_asked, range_asked};
 use crate::status::Answered;
 use dk_config::{MAX_CONFIG_BYTES, MAX_LEDGER_BYTES};
 use dk_outside::{Depot, DepotError};
-use dk_review::{Ending, RunFault, review_of, review_with};
+use dk_review::{Ending, Range, RunFault, review_of, review_with};
 use std::alloc::{AllocError, Global};
 
 /// What is written, and what the call came to once it is.
@@ -89,6 +90,21 @@ fn line_answer(alloc: Global, line: u32) -> Result<Answer, DepotError>
     Ok(Answer { bytes, ended })
 }
 
+fn ends_text(alloc: Global, ticks: u32) -> Result<String, AllocError>
+    ensures { IfOk result (λ s. string_bytes s ≡ ends_text ticks) }
+{
+    format!(in alloc; "range: ledger ends at {ticks}\n")
+}
+
+fn ends_answer(alloc: Global, ticks: u32) -> Result<Answer, DepotError>
+    ensures is { IfOk result (Says (ends_text ticks) Answered.Ledger) }
+    ensures memory { result ≢ Err DepotError.Failed }
+{
+    let bytes = ends_text(alloc, ticks)?.into_bytes();
+    let ended = Answered::Ledger;
+    Ok(Answer { bytes, ended })
+}
+
 /// The page of a document and a ledger that aren't too long, or why there is none.
 fn of_both(
     alloc: Global,
@@ -96,17 +112,19 @@ fn of_both(
     document: &[u8],
     ledger: &str,
     bytes: &[u8],
+    range: Option<Range>,
 ) -> Result<Answer, DepotError>
     requires { length document.now ≤ MAX_CONFIG_BYTES }
-    ensures is { IfOk result (IsOfBoth name.now document.now ledger.now bytes.now) }
+    ensures is { IfOk result (IsOfBoth name.now document.now ledger.now range bytes.now) }
     ensures memory { result ≢ Err DepotError.Failed }
 {
-    match review_with(alloc, name, document, ledger, bytes) {
+    match review_with(alloc, name, document, ledger, bytes, range) {
         Ok(review) => Ok(Answer {
             bytes: review.bytes,
             ended: ended_of(review.ending),
         }),
         Err(RunFault::Line(line)) => line_answer(alloc, line),
+        Err(RunFault::Ends(ticks)) => ends_answer(alloc, ticks),
         Err(RunFault::Other) => {
             words_answer(
                 alloc,
@@ -124,9 +142,10 @@ fn of_ledger(
     document: &[u8],
     ledger: &str,
     bytes: &[u8],
+    range: Option<Range>,
 ) -> Result<Answer, DepotError>
     requires { length document.now ≤ MAX_CONFIG_BYTES }
-    ensures is { IfOk result (λ a. IsOfLedger name.now document.now ledger.now a bytes.now) }
+    ensures is { IfOk result (λ a. IsOfLedger name.now document.now ledger.now range a bytes.now) }
     ensures memory { result ≢ Err DepotError.Failed }
 {
     if bytes.len() > MAX_LEDGER_BYTES as usize {
@@ -136,7 +155,7 @@ fn of_ledger(
             Answered::Ledger,
         )
     } else {
-        of_both(alloc, name, document, ledger, bytes)
+        of_both(alloc, name, document, ledger, bytes, range)
     }
 }
 
@@ -146,14 +165,15 @@ fn of_files(
     document: &[u8],
     ledger: &str,
     bytes: &[u8],
+    range: Option<Range>,
 ) -> Result<Answer, DepotError>
-    ensures is { IfOk result (λ a. IsOfFiles name.now ledger.now a document.now bytes.now) }
+    ensures is { IfOk result (λ a. IsOfFiles name.now ledger.now range a document.now bytes.now) }
     ensures memory { result ≢ Err DepotError.Failed }
 {
     if document.len() > MAX_CONFIG_BYTES as usize {
         words_answer(alloc, "config: longer than 65536 bytes\n", Answered::Config)
     } else {
-        of_ledger(alloc, name, document, ledger, bytes)
+        of_ledger(alloc, name, document, ledger, bytes, range)
     }
 }
 
@@ -163,72 +183,34 @@ fn with_ledger<D: Depot>(
     name: &str,
     document: &[u8],
     ledger: &str,
+    range: Option<Range>,
     depot: &mut D,
 ) -> Result<Answer, DepotError>
     requires { (D.seen depot.old).given < 2 ^ 63 }
-    ensures is { IfSome (D.seen depot.old).files (λ at. IfOk result (λ a. IsWithLedger at name.now ledger.now a document.now)) }
+    ensures is { IfSome (D.seen depot.old).files (λ at. IfOk result (λ a. IsWithLedger at name.now ledger.now range a document.now)) }
     ensures cause { IsErrOf result DepotError.Failed → Rises (D.seen depot.old).faults (D.seen depot.new).faults }
     ensures stays { result ≢ Err DepotError.Failed → (D.seen depot.new).faults ≡ (D.seen depot.old).faults }
     ensures same { (D.seen depot.new).files ≡ (D.seen depot.old).files }
 {
     let bytes = depot.read(alloc, ledger, MAX_LEDGER_BYTES)?;
-    of_files(alloc, name, document, ledger, bytes.as_slice())
+    of_files(alloc, name, document, ledger, bytes.as_slice(), range)
 }
 
 fn of_names<D: Depot>(
     alloc: Global,
     name: &str,
     ledger: &str,
+    range: Option<Range>,
     depot: &mut D,
 ) -> Result<Answer, DepotError>
     requires { (D.seen depot.old).given < 2 ^ 62 }
-    ensures is { IfSome (D.seen depot.old).files (λ at. IfOk result (IsOfNames at name.now ledger.now)) }
+    ensures is { IfSome (D.seen depot.old).files (λ at. IfOk result (IsOfNames at name.now ledger.now range)) }
     ensures cause { IsErrOf result DepotError.Failed → Rises (D.seen depot.old).faults (D.seen depot.new).faults }
     ensures stays { result ≢ Err DepotError.Failed → (D.seen depot.new).faults ≡ (D.seen depot.old).faults }
     ensures same { (D.seen depot.new).files ≡ (D.seen depot.old).files }
 {
     let document = depot.read(alloc, name, MAX_CONFIG_BYTES)?;
-    with_ledger(alloc, name, document.as_slice(), ledger, depot)
-}
-
-/// Whether the word isn't empty, and doesn't begin as a flag does.
-fn is_name(word: &[u8]) -> bool
-    ensures { result ≡ is_name word.now }
-{
-    match word {
-        [first, ..] => *first != b'-',
-        [] => false,
-    }
-}
-
-fn is_page(verb: &str, name: &str) -> bool
-    ensures { result ≡ is_page verb.now name.now }
-{
-    verb == "page" && is_name(name.as_bytes())
-}
-
-/// The name of the file whose page the words ask for.
-fn asked(words: &[String]) -> Option<&str>
-    ensures { option_map (λ n. n.now) result ≡ asked (map string_bytes words.now) }
-{
-    match words {
-        [_, verb, name] if is_page(verb.as_str(), name.as_str()) => Some(name.as_str()),
-        [_, verb, name, ledger]
-            if is_page(verb.as_str(), name.as_str()) && is_name(ledger.as_bytes()) => {
-            Some(name.as_str())
-        }
-        _ => None,
-    }
-}
-
-/// The name of the ledger, where a page is asked for and the words name one.
-fn ledger_asked(words: &[String]) -> Option<&str>
-    ensures { option_map (λ n. n.now) result ≡ ledger_asked (map string_bytes words.now) }
-{
-    match words {
-        [_, _, _, ledger] => Some(ledger.as_str()),
-        _ => None,
-    }
+    with_ledger(alloc, name, document.as_slice(), ledger, range, depot)
 }
 
 /// What the file of this name comes to, alone or with that of a ledger.
@@ -236,16 +218,17 @@ fn of_asked<D: Depot>(
     alloc: Global,
     name: &str,
     ledger: Option<&str>,
+    range: Option<Range>,
     depot: &mut D,
 ) -> Result<Answer, DepotError>
     requires { (D.seen depot.old).given < 2 ^ 62 }
-    ensures is { IfSome (D.seen depot.old).files (λ at. IfOk result (IsAsked at name.now (option_map (λ n. n.now) ledger.entry))) }
+    ensures is { IfSome (D.seen depot.old).files (λ at. IfOk result (IsAsked at name.now (option_map (λ n. n.now) ledger.entry) range)) }
     ensures cause { IsErrOf result DepotError.Failed → Rises (D.seen depot.old).faults (D.seen depot.new).faults }
     ensures stays { result ≢ Err DepotError.Failed → (D.seen depot.new).faults ≡ (D.seen depot.old).faults }
     ensures same { (D.seen depot.new).files ≡ (D.seen depot.old).files }
 {
     match ledger {
-        Some(ledger) => of_names(alloc, name, ledger, depot),
+        Some(ledger) => of_names(alloc, name, ledger, range, depot),
         None => of_name(alloc, name, depot),
     }
 }
@@ -255,20 +238,21 @@ fn answer_of<D: Depot>(
     alloc: Global,
     name: Option<&str>,
     ledger: Option<&str>,
+    range: Option<Range>,
     depot: &mut D,
 ) -> Result<Answer, DepotError>
     requires { (D.seen depot.old).given < 2 ^ 62 }
     ensures is { IfSome (D.seen depot.old).files (λ at. IfOk result
-        (IsAnswerTo at (option_map (λ n. n.now) name.entry) (option_map (λ n. n.now) ledger.entry))) }
+        (IsAnswerTo at (option_map (λ n. n.now) name.entry) (option_map (λ n. n.now) ledger.entry) range)) }
     ensures cause { IsErrOf result DepotError.Failed → Rises (D.seen depot.old).faults (D.seen depot.new).faults }
     ensures stays { result ≢ Err DepotError.Failed → (D.seen depot.new).faults ≡ (D.seen depot.old).faults }
     ensures same { (D.seen depot.new).files ≡ (D.seen depot.old).files }
 {
     match name {
-        Some(name) => of_asked(alloc, name, ledger, depot),
+        Some(name) => of_asked(alloc, name, ledger, range, depot),
         None => words_answer(
             alloc,
-            "usage: deosk-show page FILE [LEDGER]\n",
+            "usage: deosk-show page FILE [LEDGER [FROM TO]]\n",
             Answered::Usage,
         ),
     }
@@ -286,5 +270,11 @@ pub(crate) fn answer_to<D: Depot>(
     ensures stays { result ≢ Err DepotError.Failed → (D.seen depot.new).faults ≡ (D.seen depot.old).faults }
     ensures same { (D.seen depot.new).files ≡ (D.seen depot.old).files }
 {
-    answer_of(alloc, asked(words), ledger_asked(words), depot)
+    answer_of(
+        alloc,
+        asked(words),
+        ledger_asked(words),
+        range_asked(words),
+        depot,
+    )
 }

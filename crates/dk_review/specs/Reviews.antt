@@ -1,5 +1,5 @@
 -- The page of a document, with all that is told of it.
-use Rattle.std.specs.Prelude.{ℕ, Bool, true, false, List, [], ◌≡◌, length, Result, Ok, Err}
+use Rattle.std.specs.Prelude.{ℕ, Bool, true, false, List, [], ◌≡◌, length, Option, Result, Ok, Err}
 use Rattle.dk_config.specs.Configuration.{Configuration}
 use Rattle.dk_certify.specs.declared.certifying.Verdict.{Verdict}
 use Rattle.dk_certify.specs.declared.certifying.Verdict.TheVariants as verdict
@@ -22,6 +22,7 @@ use Rattle.dk_page.specs.declared.told.Additions.{Additions}
 use Rattle.dk_page.specs.declared.told.Certification.{Certification}
 use Rattle.dk_page.specs.declared.told.Certification.TheVariants.{Certified, Failing}
 use Rattle.dk_page.specs.declared.told.Told.{Told}
+use Rattle.dk_review.specs.declared.drawing.Range.{Range}
 use Rattle.dk_review.specs.declared.reviewing.Ending.{Ending}
 use Rattle.dk_review.specs.declared.reviewing.Review.{Review}
 use Rattle.dk_review.specs.Runs.{IsRunOf}
@@ -71,23 +72,23 @@ audited_ending true = Ending.Certified
 audited_ending false = Ending.Unruly
 
 -- of a certified configuration and a ledger of it; the ending tells whether it follows the rules
-pub record IsReviewedRun (name document ledger bytes : List ℕ) (c : Configuration) (r : Review) : Type 0 where
+pub record IsReviewedRun (name document ledger bytes : List ℕ) (range : Option Range) (c : Configuration) (r : Review) : Type 0 where
   pub told : Told
   pub run : Run
   pub added : Additions
   pub is_told : IsTold c told
-  pub is_run : IsRunOf c bytes run
+  pub is_run : IsRunOf c range bytes run
   pub adds : IsAddedBy name ledger bytes run added
   pub page : r.bytes.items ≡ page_text name document told added
   pub ends : r.ending ≡ audited_ending run.passed
 
 -- of a configuration that isn't certified nothing is told of a ledger
-abbrev pub IsReviewedBy : List ℕ → List ℕ → List ℕ → List ℕ → Configuration → Verdict → Review → Type 0
-IsReviewedBy name document ledger bytes c (verdict.Accepted rows) r = IsReviewedRun name document ledger bytes c r
-IsReviewedBy name document ledger bytes c (verdict.Fails level needs window) r = IsReviewed name document c r
+abbrev pub IsReviewedBy : List ℕ → List ℕ → List ℕ → List ℕ → Option Range → Configuration → Verdict → Review → Type 0
+IsReviewedBy name document ledger bytes range c (verdict.Accepted rows) r = IsReviewedRun name document ledger bytes range c r
+IsReviewedBy name document ledger bytes range c (verdict.Fails level needs window) r = IsReviewed name document c r
 
-abbrev pub IsReviewedWith : List ℕ → List ℕ → List ℕ → List ℕ → Configuration → Review → Type 0
-IsReviewedWith name document ledger bytes c r = IsReviewedBy name document ledger bytes c (verdict_of c) r
+abbrev pub IsReviewedWith : List ℕ → List ℕ → List ℕ → List ℕ → Option Range → Configuration → Review → Type 0
+IsReviewedWith name document ledger bytes range c r = IsReviewedBy name document ledger bytes range c (verdict_of c) r
 
 -- of a document that is that of none: all that is wrong with it
 pub record IsRefused (name document : List ℕ) (r : Review) : Type 0 where
@@ -104,10 +105,10 @@ IsReviewOf name document Holds (Err e) r = IsRefused name document r
 abbrev pub IsReview : List ℕ → List ℕ → Review → Type 0
 IsReview name document r = IsReviewOf name document (IsReviewed name document) (reading document) r
 
--- with the ledger of the one name in these bytes
-abbrev pub IsReviewWith : List ℕ → List ℕ → List ℕ → List ℕ → Review → Type 0
-IsReviewWith name document ledger bytes r =
-    IsReviewOf name document (IsReviewedWith name document ledger bytes) (reading document) r
+-- with the ledger of the one name in these bytes, and the picture of the range that is asked for
+abbrev pub IsReviewWith : List ℕ → List ℕ → List ℕ → List ℕ → Option Range → Review → Type 0
+IsReviewWith name document ledger bytes range r =
+    IsReviewOf name document (IsReviewedWith name document ledger bytes range) (reading document) r
 
 -- the ledger in these bytes is one of another configuration
 abbrev pub IsOfOther : List ℕ → List ℕ → Type 0

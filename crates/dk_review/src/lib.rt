@@ -7,5 +7,6 @@ mod reviewing;
 mod running;
 mod telling;
 
+pub use drawing::Range;
 pub use fault::RunFault;
 pub use reviewing::{Ending, Review, review_of, review_with};

@@ -9,6 +9,7 @@ ghost use Rattle.dk_review.specs.declared.fault.RunFault.{RunFault as Why};
 ghost use Rattle.dk_review.specs.Reviews.{IsOfOther, IsRefused, IsReview, IsReviewWith, IsReviewed, IsReviewedRun, IsReviewedWith, audited_ending, certified_ending};
 ghost use Rattle.dk_review.specs.Runs.{IsFaultOf, IsRunOf};
 
+use crate::drawing::Range;
 use crate::fault::RunFault;
 use crate::running::run_of;
 use crate::telling::told_of;
@@ -109,14 +110,16 @@ fn page_of(
     config: &Config,
     ledger: &str,
     bytes: &[u8],
+    range: Option<Range>,
     told_of_ledger: &Run,
 ) -> Result<Review, NoMemory>
     requires unbroken { BreaksNoRule config.now }
     requires checked { IsChecked config.now }
     requires limits { IsWithinLimits config.now }
-    requires ran { IsRunOf config.now bytes.now told_of_ledger.now }
-    ensures { IfOk result (IsReviewedRun name.now document.now ledger.now bytes.now config.now) }
+    requires ran { IsRunOf config.now range bytes.now told_of_ledger.now }
+    ensures { IfOk result (IsReviewedRun name.now document.now ledger.now bytes.now range config.now) }
 {
+    let _range = range;
     let told = told_of(alloc, config)?;
     let added = additions(alloc, name, ledger, bytes, told_of_ledger)?;
     let page = page(alloc, name, document, &told, &added)?;
@@ -134,16 +137,17 @@ fn of_run(
     config: &Config,
     ledger: &str,
     bytes: &[u8],
+    range: Option<Range>,
 ) -> Result<Review, RunFault>
     requires unbroken { BreaksNoRule config.now }
     requires checked { IsChecked config.now }
     requires limits { IsWithinLimits config.now }
     requires accepted { IsAccepted config.now }
-    ensures is { IfOk result (IsReviewedRun name.now document.now ledger.now bytes.now config.now) }
-    ensures fault { IfErr result (IsFaultOf (IsFoundIn config.now bytes.now Found.Header) bytes.now) }
+    ensures is { IfOk result (IsReviewedRun name.now document.now ledger.now bytes.now range config.now) }
+    ensures fault { IfErr result (IsFaultOf (IsFoundIn config.now bytes.now Found.Header) range bytes.now) }
 {
-    match run_of(alloc, config, bytes) {
-        Ok(run) => match page_of(alloc, name, document, config, ledger, bytes, &run) {
+    match run_of(alloc, config, bytes, range) {
+        Ok(run) => match page_of(alloc, name, document, config, ledger, bytes, range, &run) {
             Ok(review) => Ok(review),
             Err(_) => Err(RunFault::NoMemory),
         },
@@ -158,15 +162,16 @@ fn of_both(
     config: &Config,
     ledger: &str,
     bytes: &[u8],
+    range: Option<Range>,
 ) -> Result<Review, RunFault>
     requires unbroken { BreaksNoRule config.now }
     requires checked { IsChecked config.now }
     requires limits { IsWithinLimits config.now }
-    ensures is { IfOk result (IsReviewedWith name.now document.now ledger.now bytes.now config.now) }
-    ensures fault { IfErr result (IsFaultOf (IsFoundIn config.now bytes.now Found.Header) bytes.now) }
+    ensures is { IfOk result (IsReviewedWith name.now document.now ledger.now bytes.now range config.now) }
+    ensures fault { IfErr result (IsFaultOf (IsFoundIn config.now bytes.now Found.Header) range bytes.now) }
 {
     match certify(config) {
-        Verdict::Accepted(_) => of_run(alloc, name, document, config, ledger, bytes),
+        Verdict::Accepted(_) => of_run(alloc, name, document, config, ledger, bytes, range),
         Verdict::Fails { .. } => match of_config(alloc, name, document, config) {
             Ok(review) => Ok(review),
             Err(_) => Err(RunFault::NoMemory),
@@ -186,7 +191,7 @@ fn with_faults(alloc: Global, name: &str, document: &[u8]) -> Result<Review, Run
 }
 
 /// The page of a document of at most 65,536 bytes, whose file has this name, with what is told of the ledger of the other
-/// name in these bytes. Nothing is told of it where the document isn't that of a certified configuration.
+/// name in these bytes, with the picture of this range, and without one of all of its ticks. Nothing is told of it where the document isn't that of a certified configuration.
 #[tactic(auto, using(crate::proofs::Verdicts::of_config, crate::proofs::Verdicts::of_none, crate::proofs::Faults::of_other, crate::proofs::Faults::of_memory))]
 pub fn review_with(
     alloc: Global,
@@ -194,13 +199,14 @@ pub fn review_with(
     document: &[u8],
     ledger: &str,
     bytes: &[u8],
+    range: Option<Range>,
 ) -> Result<Review, RunFault>
     requires { length document.now ≤ MAX_CONFIG_BYTES }
-    ensures is { IfOk result (IsReviewWith name.now document.now ledger.now bytes.now) }
-    ensures fault { IfErr result (IsFaultOf (IsOfOther document.now bytes.now) bytes.now) }
+    ensures is { IfOk result (IsReviewWith name.now document.now ledger.now bytes.now range) }
+    ensures fault { IfErr result (IsFaultOf (IsOfOther document.now bytes.now) range bytes.now) }
 {
     match read_config(alloc, document) {
-        Ok(config) => of_both(alloc, name, document, &config, ledger, bytes),
+        Ok(config) => of_both(alloc, name, document, &config, ledger, bytes, range),
         Err(LoadFault::NoMemory) => Err(RunFault::NoMemory),
         Err(_) => with_faults(alloc, name, document),
     }

@@ -10,6 +10,6 @@ returns-clause-is g c =
     let ledger = c.args.ledger.now in
     let result = c.with_ledger.result in
     let document = c.in_ok-document.document.items in
-    let told = subst (λ (fs : Option (List ℕ → Option (List ℕ))). IfSome fs (λ at. IfOk result (λ a. IsWithLedger at name ledger a c.as_slice.result.now))) c.in_ok-document.ensures.same c.with_ledger.ensures.is in
-    of_both_named (g.D.Depot.seen c.args.depot.now).files name ledger document result c.in_ok-document.ensures.held
-    (subst (λ (d : List ℕ). IfSome (g.D.Depot.seen c.args.depot.now).files (λ at. IfOk result (λ a. IsWithLedger at name ledger a d))) c.as_slice.ensures.value told)
+    let told = subst (λ (fs : Option (List ℕ → Option (List ℕ))). IfSome fs (λ at. IfOk result (λ a. IsWithLedger at name ledger c.args.range a c.as_slice.result.now))) c.in_ok-document.ensures.same c.with_ledger.ensures.is in
+    of_both_named (g.D.Depot.seen c.args.depot.now).files name ledger document c.args.range result c.in_ok-document.ensures.held
+    (subst (λ (d : List ℕ). IfSome (g.D.Depot.seen c.args.depot.now).files (λ at. IfOk result (λ a. IsWithLedger at name ledger c.args.range a d))) c.as_slice.ensures.value told)
