@@ -9,8 +9,8 @@ ghost use Rattle.dk_mutex.specs.Table.{hold_left, holder_at};
 ghost use Rattle.dk_mutex.specs.Front.{IsFirstHold, IsFrontOf, KeepsFront};
 
 use crate::row::{
-    Holder, Lockable, ceiling_of, is_any_held_at, is_any_other_at, joined_levels, joined_ticks,
-    left_of,
+    Holder, Lockable, ceiling_of, is_any_held_at, is_any_other_at, is_same, joined_levels,
+    joined_ticks, left_of,
 };
 use crate::rows::Rows;
 use dk_trace::ThreadId;
@@ -59,8 +59,8 @@ impl Front {
         ensures own { result ≡ true → self.now.holder ≡ Some id }
         ensures other { (x : ThreadId) → result ≡ false → self.now.holder ≡ Some x → is_same id x ≡ false }
     {
-        match self.holder {
-            Some(holder) => id.is_same(holder),
+        match &self.holder {
+            Some(holder) => is_same(id, holder),
             None => false,
         }
     }

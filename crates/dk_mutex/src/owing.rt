@@ -3,17 +3,17 @@ ghost use Rattle.std.specs.Prelude.{◌≡◌, map};
 ghost use Rattle.std.specs.List.{list_any, position_from};
 ghost use Rattle.dk_mutex.specs.Rows.{is_within_owed, left_up_to, owed_by, taken};
 
-use crate::row::{Lockable, greater, is_within, left_under, take_all};
+use crate::row::{Lockable, greater, is_same, is_within, left_under, take_all};
 use arrayvec::ArrayVec;
 use dk_config::MAX_MUTEXES;
 use dk_trace::ThreadId;
 
 /// So many of the ticks as are of the thread.
 #[inline(always)]
-pub fn owed_by(id: ThreadId, debtor: ThreadId, owed: u32) -> u32
-    ensures { result ≡ owed_by id debtor owed }
+pub fn owed_by(id: ThreadId, debtor: &ThreadId, owed: u32) -> u32
+    ensures { result ≡ owed_by id debtor.now owed }
 {
-    if id.is_same(debtor) { owed } else { 0 }
+    if is_same(id, debtor) { owed } else { 0 }
 }
 
 /// Takes what is owed from the rows.

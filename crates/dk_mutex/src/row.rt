@@ -1,6 +1,7 @@
 ghost use Rattle.std.specs.Prelude.{◌≡◌, ◌<◌, if◌then◌else◌, length, map, max};
 ghost use Rattle.std.specs.List.{list_any};
 ghost use Rattle.dk_config.specs.Windows.{ceiling};
+ghost use Rattle.dk_trace.specs.Entries.{is_same};
 ghost use Rattle.dk_mutex.specs.Rows.{ceiling_of, freed, is_by, is_by_process, is_held_at, is_holder, is_other_at, is_within_owed, joined, left_of, left_under, lists_user, row_of, taken, users_of};
 
 use dk_config::{Config, MAX_PROCESSES};
@@ -65,12 +66,20 @@ pub fn lists_user(row: &Lockable, process: u8) -> bool
     }
 }
 
+/// Whether the holder is the thread. Its numbers are read where they lie: a copy takes more instructions.
+#[inline(always)]
+pub fn is_same(id: ThreadId, holder: &ThreadId) -> bool
+    ensures { result ≡ is_same id holder.now }
+{
+    id.process == holder.process && id.serial == holder.serial
+}
+
 /// Whether the thread holds the mutex.
 pub fn is_by(row: &Lockable, id: ThreadId) -> bool
     ensures { result ≡ is_by id row.now }
 {
-    match row.holder {
-        Some(holder) => id.is_same(holder.thread),
+    match &row.holder {
+        Some(holder) => is_same(id, &holder.thread),
         None => false,
     }
 }
@@ -134,8 +143,8 @@ pub fn is_within(row: &Lockable, id: ThreadId, most: u32, owed: u32) -> bool
 pub fn left_of(row: &Lockable, id: ThreadId) -> Option<u32>
     ensures { result ≡ left_of id row.now }
 {
-    match row.holder {
-        Some(holder) if id.is_same(holder.thread) => Some(holder.left),
+    match &row.holder {
+        Some(holder) if is_same(id, &holder.thread) => Some(holder.left),
         _ => None,
     }
 }

@@ -8,7 +8,7 @@ ghost use Rattle.dk_mutex.specs.Front.{IsFrontOf, IsRow};
 
 use crate::front::{Front, holder_among, least_ceiling, least_left};
 use crate::owing::{first_within, is_any_within, left_up_to, owed_by, pay};
-use crate::row::{Holder, Lockable, free_all, is_any_of_process, is_within, left_of};
+use crate::row::{Holder, Lockable, free_all, is_any_of_process, is_same, is_within, left_of};
 use arrayvec::ArrayVec;
 use dk_config::MAX_MUTEXES;
 use dk_trace::ThreadId;
@@ -91,7 +91,7 @@ impl Rows {
         ensures { self.new ≡ given_to (Some holder) mutex self.old }
     {
         let mut left = holder.left;
-        if holder.thread.is_same(self.debtor) && self.owed <= u32::MAX - holder.left {
+        if is_same(holder.thread, &self.debtor) && self.owed <= u32::MAX - holder.left {
             left = holder.left + self.owed;
         } else {
             pay(self.rows.as_mut_slice(), self.debtor, &mut self.owed);
@@ -117,7 +117,7 @@ impl Rows {
     pub fn spend(&mut self, id: ThreadId)
         ensures { self.new ≡ map (spent id) self.old }
     {
-        if id.is_same(self.debtor) && self.owed < u32::MAX {
+        if is_same(id, &self.debtor) && self.owed < u32::MAX {
             self.owed += 1;
         } else {
             pay(self.rows.as_mut_slice(), self.debtor, &mut self.owed);
@@ -150,7 +150,7 @@ impl Rows {
     {
         match self.rows.get(mutex as usize) {
             Some(row) => match left_of(row, id) {
-                Some(left) => Some(left.saturating_sub(owed_by(id, self.debtor, self.owed))),
+                Some(left) => Some(left.saturating_sub(owed_by(id, &self.debtor, self.owed))),
                 None => None,
             },
             None => None,
@@ -161,7 +161,7 @@ impl Rows {
     pub fn hold_left(&self, id: ThreadId) -> u32
         ensures { result ≡ hold_left id self.now }
     {
-        least_left(self.rows.as_slice(), id).saturating_sub(owed_by(id, self.debtor, self.owed))
+        least_left(self.rows.as_slice(), id).saturating_sub(owed_by(id, &self.debtor, self.owed))
     }
 
     /// The least ceiling of the mutexes that the thread holds. None where it holds nothing.
@@ -190,7 +190,7 @@ impl Rows {
     pub fn first_within(&self, id: ThreadId, most: u32) -> Option<u8>
         ensures { result ≡ position_from (is_within id most) 0 self.now }
     {
-        first_within(&self.rows, id, most, owed_by(id, self.debtor, self.owed))
+        first_within(&self.rows, id, most, owed_by(id, &self.debtor, self.owed))
     }
 
     /// Whether the thread holds the mutex for at most so many ticks more.
@@ -199,7 +199,7 @@ impl Rows {
         ensures { result ≡ at_row (is_within id most) self.now mutex }
     {
         match self.rows.get(mutex as usize) {
-            Some(row) => is_within(row, id, most, owed_by(id, self.debtor, self.owed)),
+            Some(row) => is_within(row, id, most, owed_by(id, &self.debtor, self.owed)),
             None => false,
         }
     }
@@ -212,7 +212,7 @@ impl Rows {
             self.rows.as_slice(),
             id,
             most,
-            owed_by(id, self.debtor, self.owed),
+            owed_by(id, &self.debtor, self.owed),
         )
     }
 
@@ -222,7 +222,7 @@ impl Rows {
     {
         left_up_to(self.rows.as_slice(), id, level).saturating_sub(owed_by(
             id,
-            self.debtor,
+            &self.debtor,
             self.owed,
         ))
     }

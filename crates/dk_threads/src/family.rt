@@ -122,7 +122,7 @@ impl Family {
     pub fn find(&self, id: ThreadId) -> Option<ThreadRow>
         ensures { result ≡ find (is_row_of id) (self.now.main ∷ self.now.children) }
     {
-        if id.is_same(self.main.id) {
+        if id.process == self.main.id.process && id.serial == self.main.id.serial {
             Some(self.main)
         } else {
             self.children.find(id)
