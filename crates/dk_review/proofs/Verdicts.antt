@@ -1,12 +1,11 @@
 -- What a verdict, and what a reading, says of a page.
 use Rattle.std.proofs.Common.{◌≡◌, ℕ, List, subst, sym}
-use Rattle.std.specs.Prelude.{IfOk, Option, Result, Ok, Err}
+use Rattle.std.specs.Prelude.{IfOk, Result, Ok, Err}
 use Rattle.dk_certify.specs.declared.certifying.Verdict.{Verdict}
 use Rattle.dk_config.specs.Configuration.{Configuration}
 use Rattle.dk_loader.specs.declared.fault.LoadFault.{LoadFault}
 use Rattle.dk_page.specs.declared.told.Certification.{Certification}
 use Rattle.dk_review.specs.Reviews.{IsCertification, IsRefused, IsReviewOf, IsReviewedBy}
-use Rattle.dk_review.specs.declared.drawing.Range.{Range}
 use Rattle.dk_review.specs.declared.reviewing.Review.{Review}
 
 pub of_config : {E : Type 0} (name document : List ℕ) (Holds : Configuration → Review → Type 0) (read : Result Configuration LoadFault)
@@ -24,8 +23,7 @@ pub same_verdict : {E : Type 0} (c : Configuration) (v w : Verdict) (r : Result 
     → v ≡ w → IfOk r (IsCertification c w) → IfOk r (IsCertification c v)
 same_verdict c v w r is told = subst (λ x. IfOk r (IsCertification c x)) (sym is) told
 
-pub with_run : {E : Type 0} (name document ledger bytes : List ℕ) (range : Option Range) (c : Configuration) (v w : Verdict)
-    (r : Result Review E) → v ≡ w → IfOk r (IsReviewedBy name document ledger bytes range c w)
-    → IfOk r (IsReviewedBy name document ledger bytes range c v)
-with_run name document ledger bytes range c v w r is told =
-    subst (λ x. IfOk r (IsReviewedBy name document ledger bytes range c x)) (sym is) told
+pub by_verdict : {E : Type 0} (name document : List ℕ) (Certified : Review → Type 0) (c : Configuration) (v w : Verdict)
+    (r : Result Review E) → v ≡ w → IfOk r (IsReviewedBy name document Certified c w) → IfOk r (IsReviewedBy name document Certified c v)
+by_verdict name document Certified c v w r is told =
+    subst (λ x. IfOk r (IsReviewedBy name document Certified c x)) (sym is) told

@@ -1,5 +1,5 @@
 -- What is told of a document of needs.
-use Rattle.std.specs.Prelude.{ℕ, ◌≡◌, Bool, true, false, List, codes, Result, Ok, Err}
+use Rattle.std.specs.Prelude.{ℕ, ◌≡◌, Bool, true, false, List, [], codes, Option, Some, None, Result, Ok, Err}
 use Rattle.std.specs.List.{list_any}
 use Rattle.dk_config.specs.Configuration.{Configuration}
 use Rattle.dk_document_report.specs.Telling.{IsNotTomlText}
@@ -20,8 +20,10 @@ use Rattle.dk_needs_text.specs.Csv.{needs_csv}
 use Rattle.dk_needs_text.specs.Names.{process_names}
 use Rattle.dk_needs_text.specs.Text.{needs_text}
 use Rattle.dk_needs_text.specs.Unknown.{unknown_page}
+use Rattle.dk_page.specs.Needs.{IsAddedByNeeds}
 use Rattle.dk_page.specs.declared.needing.Standing.{Standing}
 use Rattle.dk_page.specs.declared.needing.Wants.{Wants}
+use Rattle.dk_page.specs.declared.told.Additions.{Additions}
 
 abbrev pub standing_of : Bool → Standing
 standing_of true = Standing.Met
@@ -85,3 +87,22 @@ IsOfWanted c bytes (Err error.NoMemory) w = ⊥
 -- what the needs in these bytes come to, where neither the programs nor a ledger are looked at
 abbrev pub AreWants : Configuration → List ℕ → Wants → Type 0
 AreWants c bytes w = IsOfWanted c bytes (reading bytes) w
+
+-- a page without something more
+pub record AddsNothing (a : Additions) : Type 0 where
+  pub tile : a.tile.items ≡ []
+  pub file : a.file.items ≡ []
+  pub sections : a.sections.items ≡ []
+  pub outputs : a.outputs.items ≡ []
+
+-- what the needs of the one name in these bytes add to the page of the file of the other, and how they stand
+pub record AreNeeded (name : List ℕ) (c : Configuration) (needs held : List ℕ) (s : Standing) (a : Additions) : Type 0 where
+  pub wants : Wants
+  pub are : AreWants c held wants
+  pub adds : IsAddedByNeeds name needs held wants a
+  pub stand : s ≡ wants.standing
+
+-- that, or nothing where there are none
+abbrev pub AddsNeeds : List ℕ → Configuration → Option (List ℕ) → List ℕ → Standing → Additions → Type 0
+AddsNeeds name c (Some needs) held s a = AreNeeded name c needs held s a
+AddsNeeds name c None held s a = AddsNothing a × (s ≡ Standing.Met)

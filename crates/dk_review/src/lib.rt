@@ -3,6 +3,7 @@
 
 mod drawing;
 mod fault;
+mod needing;
 mod reviewing;
 mod running;
 mod telling;

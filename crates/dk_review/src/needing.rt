@@ -1,12 +1,11 @@
 //! What is told of a document of needs.
-ghost use Rattle.std.specs.Prelude.{◌≡◌, ◌≤◌, All, Err, IfOk, length};
-ghost use Rattle.std.specs.List.{list_any};
+ghost use Rattle.std.specs.Prelude.{◌≡◌, ◌≤◌, All, Err, IfOk, length, option_map};
 ghost use Rattle.dk_config.specs.Checked.{BreaksNoRule, IsChecked, IsWithinLimits};
 ghost use Rattle.dk_config.specs.declared.TheConstants.{MAX_CONFIG_BYTES};
 ghost use Rattle.dk_needs.specs.Fit.{IsFit};
 ghost use Rattle.dk_needs.specs.Reading.{reading};
 ghost use Rattle.dk_needs.specs.declared.fault.NeedsError.{NeedsError as Why};
-ghost use Rattle.dk_review.specs.Needs.{AreRowsTold, AreWants, IsDecided, IsNoDocument, IsNotDecided, IsRefusedFor, IsTold, asks_programs, is_for_ever, standing_of};
+ghost use Rattle.dk_review.specs.Needs.{AddsNeeds, AreNeeded, AreRowsTold, AreWants, IsDecided, IsNoDocument, IsNotDecided, IsRefusedFor, IsTold, asks_programs, is_for_ever, standing_of};
 
 use crate::telling::bytes_of;
 use dk_config::{Config, NoMemory};
@@ -15,7 +14,7 @@ use dk_needs::{Faults, Need, Needs, NeedsError, What, read_needs};
 use dk_needs_check::{Checking, Row, are_met, check_needs};
 use dk_needs_report::{needs_faults_page, needs_not_toml_page};
 use dk_needs_text::{needs_csv, needs_text, process_names, unknown_page};
-use dk_page::{Standing, Wants};
+use dk_page::{Additions, Standing, Wants, needs_additions};
 use std::alloc::Global;
 
 fn standing_of(met: bool) -> Standing
@@ -42,12 +41,7 @@ fn asks_programs(needs: &[Need]) -> bool
 }
 
 /// What is told of needs that are decided by these rows.
-fn of_rows(
-    alloc: Global,
-    config: &Config,
-    needs: &Needs,
-    rows: &[Row],
-) -> Result<Wants, NoMemory>
+fn of_rows(alloc: Global, config: &Config, needs: &Needs, rows: &[Row]) -> Result<Wants, NoMemory>
     requires limits { IsWithinLimits config.now }
     requires fit { All IsFit needs.now.rows }
     ensures { IfOk result (AreRowsTold config.now needs.now rows.now) }
@@ -143,5 +137,54 @@ pub(crate) fn wants_of(alloc: Global, config: &Config, bytes: &[u8]) -> Result<W
         Err(NeedsError::NotToml) => of_no_document(alloc, bytes),
         Err(NeedsError::Refused(faults)) => of_faults(alloc, bytes, &faults),
         Err(NeedsError::NoMemory) => Err(NoMemory),
+    }
+}
+
+/// What needs add to a page, and how they stand.
+#[derive(Drop)]
+pub(crate) struct Needed {
+    pub added: Additions,
+    pub standing: Standing,
+}
+
+fn with_needs(
+    alloc: Global,
+    config: &Config,
+    name: &str,
+    needs: &str,
+    held: &[u8],
+) -> Result<Needed, NoMemory>
+    requires unbroken { BreaksNoRule config.now }
+    requires checked { IsChecked config.now }
+    requires limits { IsWithinLimits config.now }
+    requires few { length held.now ≤ MAX_CONFIG_BYTES }
+    ensures { IfOk result (λ n. AreNeeded name.now config.now needs.now held.now n.standing n.added) }
+{
+    let wants = wants_of(alloc, config, held)?;
+    let added = needs_additions(alloc, name, needs, held, &wants)?;
+    let standing = wants.standing;
+    Ok(Needed { added, standing })
+}
+
+/// What the needs in the file of this name add, which holds these bytes; where there is none, nothing.
+pub(crate) fn needed_of(
+    alloc: Global,
+    config: &Config,
+    name: &str,
+    needs: Option<&str>,
+    held: &[u8],
+) -> Result<Needed, NoMemory>
+    requires unbroken { BreaksNoRule config.now }
+    requires checked { IsChecked config.now }
+    requires limits { IsWithinLimits config.now }
+    requires few { length held.now ≤ MAX_CONFIG_BYTES }
+    ensures { IfOk result (λ n. AddsNeeds name.now config.now (option_map (λ w. w.now) needs.entry) held.now n.standing n.added) }
+{
+    match needs {
+        Some(needs) => with_needs(alloc, config, name, needs, held),
+        None => Ok(Needed {
+            added: Additions::none(alloc),
+            standing: Standing::Met,
+        }),
     }
 }
