@@ -1,5 +1,5 @@
 //! What the commands tell of a ledger.
-ghost use Rattle.std.specs.Prelude.{ℕ, ◌≡◌, IfErr, IfOk, IsErrOf, Option, false, string_bytes};
+ghost use Rattle.std.specs.Prelude.{ℕ, ◌≡◌, IfErr, IfOk, IsErrOf, false, string_bytes};
 ghost use Rattle.dk_config.specs.Checked.{IsAccepted, IsChecked, IsWithinLimits};
 ghost use Rattle.dk_audit.specs.Lines.{IsFoundIn};
 ghost use Rattle.dk_audit.specs.declared.finding.Finding.{Finding as Found};
@@ -7,8 +7,6 @@ ghost use Rattle.dk_ledger.specs.Heading.{IsPrintable};
 ghost use Rattle.dk_ledger.specs.declared.ledger.LedgerFault.{LedgerFault as Fault};
 ghost use Rattle.dk_ledger.specs.Readable.{IsNoText, IsWrongLine};
 ghost use Rattle.dk_window_table.specs.Table.{kept_csv};
-ghost use Rattle.dk_review.specs.declared.drawing.Range.{Range as Ticks};
-ghost use Rattle.dk_review.specs.declared.fault.RunFault.{RunFault as Why};
 ghost use Rattle.dk_review.specs.Runs.{AreTotalsOf, AreWindowsOf, IsFaultOf, IsOfLedger, IsRunOf, IsToldBy, audit_text, has_passed, is_other, tick_text};
 
 use crate::drawing::{Range, drawing_of};
@@ -81,10 +79,11 @@ fn windows_of(alloc: Global, bytes: &[u8]) -> Result<Vec<u8>, LedgerFault>
     Ok(table)
 }
 
-fn windows_in(alloc: Global, bytes: &[u8]) -> Result<Vec<u8>, RunFault>
+fn windows_in(alloc: Global, bytes: &[u8], range: Option<Range>) -> Result<Vec<u8>, RunFault>
     ensures told { IfOk result (λ v. IsOfLedger (AreWindowsOf v.items) bytes.now) }
-    ensures fault { (range : Option Ticks) → IfErr result (IsFaultOf ⊥ range bytes.now) }
+    ensures fault { IfErr result (IsFaultOf ⊥ range bytes.now) }
 {
+    let _range = range;
     match windows_of(alloc, bytes) {
         Ok(table) => Ok(table),
         Err(LedgerFault::Line(line)) => Err(RunFault::Line(line)),
@@ -92,24 +91,15 @@ fn windows_in(alloc: Global, bytes: &[u8]) -> Result<Vec<u8>, RunFault>
     }
 }
 
-fn totals_in(alloc: Global, bytes: &[u8]) -> Result<ReportTexts, RunFault>
+fn totals_in(alloc: Global, bytes: &[u8], range: Option<Range>) -> Result<ReportTexts, RunFault>
     ensures told { IfOk result (λ r. IsOfLedger (AreTotalsOf r.report.items r.totals.items) bytes.now) }
-    ensures fault { (range : Option Ticks) → IfErr result (IsFaultOf ⊥ range bytes.now) }
+    ensures fault { IfErr result (IsFaultOf ⊥ range bytes.now) }
 {
+    let _range = range;
     match report_texts(alloc, bytes) {
         Ok(texts) => Ok(texts),
         Err(LedgerFault::Line(line)) => Err(RunFault::Line(line)),
         Err(LedgerFault::NoMemory) => Err(RunFault::NoMemory),
-    }
-}
-
-fn finding_bytes(alloc: Global, finding: Finding) -> Result<Vec<u8>, RunFault>
-    ensures told { IfOk result (λ v. v.items ≡ audit_text finding) }
-    ensures memory { IfErr result (λ e. e ≡ Why.NoMemory) }
-{
-    match audit_bytes_of(alloc, finding) {
-        Ok(bytes) => Ok(bytes),
-        Err(_) => Err(RunFault::NoMemory),
     }
 }
 
@@ -123,18 +113,20 @@ fn told_by(
     ensures told { IfOk result (IsToldBy finding range bytes.now) }
     ensures fault { IfErr result (IsFaultOf ⊥ range bytes.now) }
 {
-    let audit = finding_bytes(alloc, finding)?;
+    let Ok(audit) = audit_bytes_of(alloc, finding) else {
+        return Err(RunFault::NoMemory);
+    };
     let drawing = drawing_of(alloc, bytes, range)?;
-    let windows = windows_in(alloc, bytes)?;
-    let ReportTexts { report, totals } = totals_in(alloc, bytes)?;
+    let windows = windows_in(alloc, bytes, range)?;
+    let texts = totals_in(alloc, bytes, range)?;
     let passed = has_passed(finding);
     Ok(Run {
         audit,
         passed,
         drawing,
         windows,
-        report,
-        totals,
+        report: texts.report,
+        totals: texts.totals,
     })
 }
 
