@@ -125,9 +125,8 @@ fn spend_holds<L: Ledger>(
     }
 }
 
-/// The same where somebody holds a mutex. It stands apart, so that it takes no registers from the ticks in which nobody
-/// does.
-#[inline(never)]
+/// The same where somebody holds a mutex. Mostly it is the thread, and runs first of the holders: then no row is asked.
+#[inline(always)]
 fn spend_held<L: Ledger>(
     mutexes: &mut Mutexes,
     demand: &mut Demand,
