@@ -26,13 +26,22 @@ abbrev pub done_words : ℕ → List ℕ
 done_words n = codes "done by " ++ decimal n
 
 -- where tick t begins, below the line of the window
-abbrev pub promise_mark : Heading → Frame → Span → Share → ℕ → List ℕ → List ℕ → List ℕ
-promise_mark h f s d t outline words =
-    mark_line (codes "e") (place_of s t) (top_of f d.row + 14) outline (titled t (thread_text h (main_of d.process)) words)
+abbrev pub promise_mark : Frame → Span → Share → ℕ → List ℕ → List ℕ → List ℕ
+promise_mark f s d t outline title = mark_line (codes "e") (place_of s t) (top_of f d.row + 14) outline title
+
+abbrev pub promise_title : Heading → Share → ℕ → List ℕ → List ℕ
+promise_title h d t words = titled t (thread_text h (main_of d.process)) words
+
+abbrev pub begins_mark : Heading → Frame → Span → Share → Bound → List ℕ
+begins_mark h f s d b = promise_mark f s d (d.first + b.begins) begins_outline
+    (promise_title h d (d.first + b.begins) (begins_words b.begins))
+
+abbrev pub done_mark : Heading → Frame → Span → Share → Bound → List ℕ
+done_mark h f s d b = promise_mark f s d (d.first + b.done) done_outline
+    (promise_title h d (d.first + b.done) (done_words b.done))
 
 abbrev pub bound_marks : Heading → Frame → Span → Share → Bound → List ℕ
-bound_marks h f s d b = promise_mark h f s d (d.first + b.begins) begins_outline (begins_words b.begins)
-    ++ promise_mark h f s d (d.first + b.done) done_outline (done_words b.done)
+bound_marks h f s d b = begins_mark h f s d b ++ done_mark h f s d b
 
 abbrev pub marks_of_bound : Heading → Frame → Span → Share → Option Bound → List ℕ
 marks_of_bound h f s d None = []

@@ -12,6 +12,7 @@ use Rattle.dk_picture.specs.declared.frame.Frame.{Frame}
 use Rattle.dk_picture.specs.declared.rows.Row.TheVariants as row
 use Rattle.dk_picture.specs.declared.shares.Share.{Share}
 use Rattle.dk_picture.specs.declared.span.Span.{Span}
+use Rattle.dk_picture.specs.declared.waits.Wait.{Wait}
 use Rattle.dk_picture.specs.Elements.{titled_rect}
 use Rattle.dk_picture.specs.Frames.{top_of}
 use Rattle.dk_picture.specs.HoldBars.{hold_class}
@@ -30,16 +31,13 @@ thread_level h ms x = option_map_or (λ t. t.level) (terms_of h ms (row.Thread x
 abbrev pub holds_at : ThreadId → ℕ → Hold → Bool
 holds_at x t d = is_same x d.thread && (nat_le d.start t && nat_lt t d.end)
 
--- whether the thread, whose tick it is, comes before a main of level j by a hold alone
-abbrev pub is_in_front : Heading → Scene → ℕ → ℕ → ThreadId → Bool
-is_in_front h c j t x = nat_lt j (thread_level h c.makings x) && list_any (holds_at x t) c.holds
+-- whether the thread comes before a main of level j by a hold alone
+abbrev pub is_in_front : Heading → Scene → ℕ → Wait → Bool
+is_in_front h c j w = nat_lt j (thread_level h c.makings w.holder) && list_any (holds_at w.holder w.start) c.holds
 
--- the part of a group in the window before the main is done
-abbrev pub wait_first : Share → LedgerLine → ℕ
-wait_first d g = max g.start d.first
-
-abbrev pub wait_end : Share → LedgerLine → ℕ
-wait_end d g = min (g.start + g.count) d.done
+-- the part of a group in the window before the main is done, and whose ticks they are
+abbrev pub wait_in : Share → LedgerLine → ThreadId → Wait
+wait_in d g x = record { start = max g.start d.first; end = min (g.start + g.count) d.done; holder = x }
 
 -- the first tick, the ticks, the main and the holder
 unfoldable pub wait_words : ℕ → ℕ → List ℕ → List ℕ → List ℕ
@@ -47,22 +45,21 @@ wait_words start count main holder = decimal start ++ (codes " " ++ (decimal cou
     ++ (main ++ (codes " waits for " ++ holder)))))
 
 -- on the line of the window, in the colour of holds, and never so narrow that it isn't seen
-abbrev pub wait_rect : Heading → Frame → Span → Share → ℕ → ℕ → ThreadId → List ℕ
-wait_rect h f s d start end x = titled_rect hold_class
-    (record { x = place_of s start; y = top_of f d.row + 8; width = max (place_of s end - place_of s start) 1; height = 4 })
-    (wait_words start (end - start) (thread_text h (main_of d.process)) (thread_text h x))
+abbrev pub wait_rect : Heading → Frame → Span → Share → Wait → List ℕ
+wait_rect h f s d w = titled_rect hold_class
+    (record { x = place_of s w.start; y = top_of f d.row + 8; width = max (place_of s w.end - place_of s w.start) 1; height = 4 })
+    (wait_words w.start (w.end - w.start) (thread_text h (main_of d.process)) (thread_text h w.holder))
 
-abbrev pub wait_of : Heading → Frame → Span → Scene → Share → LedgerLine → ThreadId → List ℕ
-wait_of h f s c d g x = if is_in_front h c (level_of h d.process) (wait_first d g) x
-    then wait_rect h f s d (wait_first d g) (wait_end d g) x else []
+abbrev pub wait_of : Heading → Frame → Span → Scene → Share → Wait → List ℕ
+wait_of h f s c d w =
+    if nat_lt w.start w.end && is_in_front h c (level_of h d.process) w then wait_rect h f s d w else []
 
 abbrev pub owner_wait : Heading → Frame → Span → Scene → Share → LedgerLine → Option ThreadId → List ℕ
 owner_wait h f s c d g None = []
-owner_wait h f s c d g (Some x) = wait_of h f s c d g x
+owner_wait h f s c d g (Some x) = wait_of h f s c d (wait_in d g x)
 
 abbrev pub wait_text : Heading → Frame → Span → Scene → Share → LedgerLine → List ℕ
-wait_text h f s c d g =
-    if nat_lt (wait_first d g) (wait_end d g) then owner_wait h f s c d g (thread_of g.label) else []
+wait_text h f s c d g = owner_wait h f s c d g (thread_of g.label)
 
 -- of all groups
 abbrev pub waits_text : Heading → Frame → Span → Scene → Share → List ℕ

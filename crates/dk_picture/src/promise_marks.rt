@@ -1,6 +1,6 @@
 //! The marks of what a configuration promises of a main's window.
 ghost use Rattle.std.specs.Prelude.{◌≡◌, ◌≤◌, ◌+◌, ◌^◌, ◌++◌, IfOk, slice_get, string_bytes};
-ghost use Rattle.dk_picture.specs.PromiseMarks.{begins_words, bound_marks, done_words, key_text, marks_of_bound, promise_key, promise_mark, promise_marks};
+ghost use Rattle.dk_picture.specs.PromiseMarks.{begins_mark, begins_words, bound_marks, done_mark, done_words, key_text, promise_mark, promise_marks, promise_title};
 
 use crate::drawing::Drawing;
 use crate::elements::push_line;
@@ -33,24 +33,84 @@ fn done_words(alloc: Global, ticks: u32) -> Result<String, AllocError>
 /// A mark where the tick begins.
 fn promise_mark(
     alloc: Global,
-    header: &Header,
     frame: Frame,
     span: Span,
     share: Share,
     tick: u64,
     outline: &str,
-    words: &str,
+    title: &str,
 ) -> Result<String, AllocError>
-    ensures { IfOk result (λ s. string_bytes s
-        ≡ promise_mark header.now frame span share tick outline.now words.now) }
+    ensures { IfOk result (λ s. string_bytes s ≡ promise_mark frame span share tick outline.now title.now) }
 {
-    let main = thread_words(alloc, header, main_of(share.process))?;
-    let title = titled(alloc, tick, main.as_str(), words)?;
     let y = frame.top(share.row) + 14;
-    mark_line(alloc, "e", span.place(tick), y, outline, title.as_str())
+    mark_line(alloc, "e", span.place(tick), y, outline, title)
 }
 
-/// By when the main begins in the window, and by when it is done.
+fn promise_title(
+    alloc: Global,
+    header: &Header,
+    share: Share,
+    tick: u64,
+    words: &str,
+) -> Result<String, AllocError>
+    ensures { IfOk result (λ s. string_bytes s ≡ promise_title header.now share tick words.now) }
+{
+    let main = thread_words(alloc, header, main_of(share.process))?;
+    titled(alloc, tick, main.as_str(), words)
+}
+
+/// By when the main begins in the window.
+fn begins_mark(
+    alloc: Global,
+    header: &Header,
+    frame: Frame,
+    span: Span,
+    share: Share,
+    bound: Bound,
+) -> Result<String, AllocError>
+    requires { share.first + 2 ^ 32 ≤ 2 ^ 64 }
+    ensures { IfOk result (λ s. string_bytes s ≡ begins_mark header.now frame span share bound) }
+{
+    let words = begins_words(alloc, bound.begins)?;
+    let tick = share.first + bound.begins as u64;
+    let title = promise_title(alloc, header, share, tick, words.as_str())?;
+    promise_mark(
+        alloc,
+        frame,
+        span,
+        share,
+        tick,
+        "l5 3l-5 3z",
+        title.as_str(),
+    )
+}
+
+/// By when it is done.
+fn done_mark(
+    alloc: Global,
+    header: &Header,
+    frame: Frame,
+    span: Span,
+    share: Share,
+    bound: Bound,
+) -> Result<String, AllocError>
+    requires { share.first + 2 ^ 32 ≤ 2 ^ 64 }
+    ensures { IfOk result (λ s. string_bytes s ≡ done_mark header.now frame span share bound) }
+{
+    let words = done_words(alloc, bound.done)?;
+    let tick = share.first + bound.done as u64;
+    let title = promise_title(alloc, header, share, tick, words.as_str())?;
+    promise_mark(
+        alloc,
+        frame,
+        span,
+        share,
+        tick,
+        "l-5 3l5 3z",
+        title.as_str(),
+    )
+}
+
 fn bound_marks(
     alloc: Global,
     header: &Header,
@@ -62,31 +122,11 @@ fn bound_marks(
     requires { share.first + 2 ^ 32 ≤ 2 ^ 64 }
     ensures { IfOk result (λ s. string_bytes s ≡ bound_marks header.now frame span share bound) }
 {
-    let begins = begins_words(alloc, bound.begins)?;
-    let tick = share.first + bound.begins as u64;
-    let mut text = promise_mark(
-        alloc,
-        header,
-        frame,
-        span,
-        share,
-        tick,
-        "l5 3l-5 3z",
-        begins.as_str(),
+    let mut text = begins_mark(alloc, header, frame, span, share, bound)?;
+    push_line(
+        &mut text,
+        done_mark(alloc, header, frame, span, share, bound)?,
     )?;
-    let done = done_words(alloc, bound.done)?;
-    let tick = share.first + bound.done as u64;
-    let mark = promise_mark(
-        alloc,
-        header,
-        frame,
-        span,
-        share,
-        tick,
-        "l-5 3l5 3z",
-        done.as_str(),
-    )?;
-    push_line(&mut text, mark)?;
     Ok(text)
 }
 

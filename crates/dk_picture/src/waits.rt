@@ -1,7 +1,7 @@
 //! Who kept a main waiting in a window: a thread of a slower level that held a mutex meanwhile.
-ghost use Rattle.std.specs.Prelude.{◌≡◌, ◌<◌, ◌^◌, ◌++◌, IfOk, OnOk, string_bytes};
+ghost use Rattle.std.specs.Prelude.{◌≡◌, ◌++◌, IfOk, OnOk, string_bytes};
 ghost use Rattle.std.specs.List.{list_any};
-ghost use Rattle.dk_picture.specs.Waits.{holds_at, is_in_front, owner_wait, thread_level, wait_end, wait_first, wait_of, wait_rect, wait_text, wait_words, waits_text};
+ghost use Rattle.dk_picture.specs.Waits.{holds_at, is_in_front, thread_level, wait_in, wait_of, wait_rect, wait_text, wait_words, waits_text};
 
 use crate::drawing::Drawing;
 use crate::elements::{Place, push_line, titled_rect};
@@ -16,6 +16,14 @@ use dk_hold_spans::Hold;
 use dk_ledger::{Header, LedgerLine};
 use dk_trace::ThreadId;
 use std::alloc::{AllocError, Global};
+
+/// The ticks from `start` up to before `end`, in which the thread has the processor.
+#[derive(Clone, Copy)]
+pub(crate) struct Wait {
+    pub(crate) start: u64,
+    pub(crate) end: u64,
+    pub(crate) holder: ThreadId,
+}
 
 /// The level of the thread's windows.
 fn thread_level(header: &Header, makings: &[LedgerLine], thread: ThreadId) -> u8
@@ -44,26 +52,23 @@ fn is_holder(holds: &[Hold], thread: ThreadId, tick: u64) -> bool
     false
 }
 
-/// Whether the thread, whose tick it is, comes before a main of this level by a hold alone.
-fn is_in_front(header: &Header, drawing: &Drawing, level: u8, tick: u64, thread: ThreadId) -> bool
-    ensures { result ≡ is_in_front header.now drawing.now level tick thread }
+/// Whether the thread comes before a main of this level by a hold alone.
+fn is_in_front(header: &Header, drawing: &Drawing, level: u8, wait: Wait) -> bool
+    ensures { result ≡ is_in_front header.now drawing.now level wait }
 {
-    level < thread_level(header, drawing.makings(), thread)
-        && is_holder(drawing.holds(), thread, tick)
+    level < thread_level(header, drawing.makings(), wait.holder)
+        && is_holder(drawing.holds(), wait.holder, wait.start)
 }
 
-/// Where the group's part begins that lies in the window before the main is done.
-fn wait_first(share: Share, group: &LedgerLine) -> u64
-    ensures { result ≡ wait_first share group.now }
+/// The part of a group in the window before the main is done, and whose ticks they are.
+fn wait_in(share: Share, group: &LedgerLine, owner: ThreadId) -> Wait
+    ensures { result ≡ wait_in share group.now owner }
 {
-    (group.start as u64).max(share.first)
-}
-
-/// Where it ends.
-fn wait_end(share: Share, group: &LedgerLine) -> u64
-    ensures { result ≡ wait_end share group.now }
-{
-    (group.start as u64 + group.count as u64).min(share.done)
+    Wait {
+        start: (group.start as u64).max(share.first),
+        end: (group.start as u64 + group.count as u64).min(share.done),
+        holder: owner,
+    }
 }
 
 #[tactic(auto, unfolding(crate::specs::Waits::wait_words))]
@@ -79,28 +84,25 @@ fn wait_words(
     format!(in alloc; "{start} {count} {main} waits for {holder}")
 }
 
-/// From tick `start` up to before tick `end` the main waits for the holder.
 fn wait_rect(
     alloc: Global,
     header: &Header,
     frame: Frame,
     span: Span,
     share: Share,
-    start: u64,
-    end: u64,
-    holder: ThreadId,
+    wait: Wait,
 ) -> Result<String, AllocError>
-    ensures { IfOk result (λ s. string_bytes s ≡ wait_rect header.now frame span share start end holder) }
+    ensures { IfOk result (λ s. string_bytes s ≡ wait_rect header.now frame span share wait) }
 {
     let main = thread_words(alloc, header, main_of(share.process))?;
-    let other = thread_words(alloc, header, holder)?;
-    let count = end.saturating_sub(start);
-    let words = wait_words(alloc, start, count, main.as_str(), other.as_str())?;
-    let x = span.place(start);
+    let holder = thread_words(alloc, header, wait.holder)?;
+    let count = wait.end.saturating_sub(wait.start);
+    let words = wait_words(alloc, wait.start, count, main.as_str(), holder.as_str())?;
+    let x = span.place(wait.start);
     let place = Place {
         x,
         y: frame.top(share.row) + 8,
-        width: span.place(end).saturating_sub(x).max(1),
+        width: span.place(wait.end).saturating_sub(x).max(1),
         height: 4,
     };
     titled_rect(alloc, "h", place, words.as_str())
@@ -113,19 +115,16 @@ fn wait_of(
     span: Span,
     drawing: &Drawing,
     share: Share,
-    group: &LedgerLine,
-    owner: ThreadId,
+    wait: Wait,
 ) -> Result<String, AllocError>
-    ensures { IfOk result (λ s. string_bytes s
-        ≡ wait_of header.now frame span drawing.now share group.now owner) }
+    ensures { IfOk result (λ s. string_bytes s ≡ wait_of header.now frame span drawing.now share wait) }
 {
-    let start = wait_first(share, group);
     let level = level_of(header, share.process);
-    if !is_in_front(header, drawing, level, start, owner) {
-        return Ok(String::new(alloc));
+    if wait.start < wait.end && is_in_front(header, drawing, level, wait) {
+        wait_rect(alloc, header, frame, span, share, wait)
+    } else {
+        Ok(String::new(alloc))
     }
-    let end = wait_end(share, group);
-    wait_rect(alloc, header, frame, span, share, start, end, owner)
 }
 
 /// What stands where the group kept the main waiting.
@@ -140,11 +139,11 @@ fn wait_text(
 ) -> Result<String, AllocError>
     ensures { IfOk result (λ s. string_bytes s ≡ wait_text header.now frame span drawing.now share group.now) }
 {
-    if wait_first(share, group) >= wait_end(share, group) {
-        return Ok(String::new(alloc));
-    }
     match group.label.thread() {
-        Some(owner) => wait_of(alloc, header, frame, span, drawing, share, group, owner),
+        Some(owner) => {
+            let wait = wait_in(share, group, owner);
+            wait_of(alloc, header, frame, span, drawing, share, wait)
+        }
         None => Ok(String::new(alloc)),
     }
 }
