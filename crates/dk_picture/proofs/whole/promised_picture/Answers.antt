@@ -23,8 +23,8 @@ returns-in-Ok-clause-drawn c =
     (c.in-Ok.ensures.groups j shown.readable (c.new-reader.ensures.nothing j shown.text)) c.new-reader.ensures.from c.new-reader.ensures.to (is j shown) c.in-Ok.ensures.few)
     c.of_groups.ensures.drawn
 
-pub returns-clause-too_many : goal.returns-clause-too_many
-returns-clause-too_many c = λ t is j shown.
+pub returns-in-Err-clause-too_many : goal.returns-in-Err-clause-too_many
+returns-in-Err-clause-too_many c = λ t is j shown.
     let same : c.in-Err.fault ≡ TooMany t = cc in
     subst (λ n. IsTooMany (groups n c.args.to j.entries) t) c.new-reader.ensures.from
     (subst (λ n. IsTooMany (groups c.new-reader.result.from n j.entries) t) c.new-reader.ensures.to

@@ -14,10 +14,10 @@ returns-in-Ok-clause-plans c =
     let all = c.in-Ok.ensures.ok in
     let read = all.1 in
     let j : Journal = record { heading = c.in-Ok.survey.header; entries = all.0 } in
-    let drawn = c.within.ensures.plans j (record { readable = read.readable; text = read.text; heading = refl; count = sym all.2 }) in
+    let plans = c.within.ensures.plans j (record { readable = read.readable; text = read.text; heading = refl; count = sym all.2 }) in
     plans_wider (IsPicture nothing_promised c.args.range j) (IsOfPicture c.args.range c.args.bytes.now)
     (λ t s drawn. inr (record { ledger = j; readable = read.readable; bytes_are = read.text; drawn = drawn }))
-    c.within.result (subst (λ (x : Promised). Plans (IsPicture x c.args.range j) c.within.result) c.none-promise.ensures drawn)
+    c.within.result (subst (λ (x : Promised). Plans (IsPicture x c.args.range j) c.within.result) c.none-promise.ensures plans)
 
 pub returns-in-Err-Line-clause-plans : goal.returns-in-Err-Line-clause-plans
 returns-in-Err-Line-clause-plans c = λ told.
