@@ -1,4 +1,4 @@
-use Rattle.dk_picture.proofs.Names.{ℕ, List, ◌≡◌, ◌∙◌, ◌+◌, ◌<◌, ◌∷◌, [], ap, arith, length, length-append, subst, sym, Bound, HasBound}
+use Rattle.dk_picture.proofs.Names.{ℕ, List, ◌∙◌, ◌+◌, ◌<◌, ◌∷◌, [], ap, arith, length, length-append, subst, sym, Bound, HasBound}
 use Rattle.dk_picture.proofs.Promised.{one_more}
 use Rattle.dk_picture.proofs.promise.bounds_of.Goals as goal
 
