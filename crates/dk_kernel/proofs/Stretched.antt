@@ -1,5 +1,5 @@
 -- A kernel's fields after a stretch of ticks.
-use Rattle.dk_kernel.proofs.Names.{ℕ, zero, suc, ◌≡◌, ◌-◌, ◌<◌, ◌∷◌, List, Option, Some, None, refl, ap, ◌∙◌, sym, subst, arith, replicate, option_map_or, Configuration, ThreadId, Choice, Entry, chosen, State, RefusalLeaves, RefusalsLeave, World, body_step, executes, quiet_step, step, world, Past, choice_at, later, Dispatched, slots, Goes, AreImages, IsRunning, run_of, Running, trace_of, world_of, before_last}
+use Rattle.dk_kernel.proofs.Names.{ℕ, zero, suc, ◌≡◌, ◌-◌, ◌<◌, ◌∷◌, List, None, refl, ap, ◌∙◌, sym, subst, arith, replicate, Choice, Entry, chosen, State, World, executes, quiet_step, step, world, Past, choice_at, later, Dispatched, slots, Goes, AreImages, IsRunning, run_of}
 use Rattle.dk_kernel.proofs.Called.{same-rows}
 use Rattle.dk_kernel.proofs.Worlds.{keeps-images, step-quiet}
 
@@ -33,23 +33,3 @@ rest-running d d' states choice n running none goes next rows =
 pub replicate-some : (n : ℕ) (e : Entry) → (n ≡ 0 → ⊥) → replicate n e ≡ e ∷ replicate (n - 1) e
 replicate-some zero e none = absurd (none refl)
 replicate-some (suc n) e none = (let one : n ≡ suc n - 1 = omega arith in ap (λ m. e ∷ replicate m e) one)
-
--- a step adds one entry to the past
-step-adds : (c : Configuration) (w : World) → (e : Entry) × ((step c w).past ≡ e ∷ w.past)
-step-adds c w = go (executes (chosen c w.past))
-  where
-    go : (o : Option ThreadId) → (e : Entry) × ((option_map_or (body_step c (chosen c w.past) w) o (quiet_step (chosen c w.past) w)).past ≡ e ∷ w.past)
-    go None = (_, refl)
-    go (Some x) = (_, refl)
-
--- what the last tick of a stretch leaves where its call is refused
-pub refused-last : RefusalsLeave → (k : Running) (e : Entry) (rest : List Entry) → 0 < k.ticks → trace_of k ≡ e ∷ rest
-    → RefusalLeaves k.config (world_of (before_last k)) (world_of k) e
-refused-last law k e rest some newest =
-    let w = world_of (before_last k) in
-    let last : suc (k.ticks - 1) ≡ k.ticks = omega (arith, some) in
-    let is : step k.config w ≡ world_of k = ap (world k.config k.programs) last in
-    let added = step-adds k.config w in
-    let both : added.0 ∷ w.past ≡ e ∷ rest = sym added.1 ∙ ap (λ (v : World). v.past) is ∙ newest in
-    let same : added.0 ≡ e = cc in
-    subst (λ (v : World). RefusalLeaves k.config w v e) is (law k.config w e (added.1 ∙ ap (λ z. z ∷ w.past) same))

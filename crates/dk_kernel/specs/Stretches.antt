@@ -5,7 +5,6 @@ use Rattle.dk_trace.specs.declared.Label.{Label}
 use Rattle.dk_trace.specs.declared.Entry.{Entry}
 use Rattle.dk_trace.specs.Entries.{quiet}
 use Rattle.dk_kernel.specs.declared.stretch.Stretch.{Stretch}
-use Rattle.dk_kernel.specs.Running.{Running}
 
 -- its last entry, which alone may have an event
 abbrev pub last_of : Stretch → Entry
@@ -18,10 +17,6 @@ entries_of s = last_of s ∷ replicate (s.count - 1) (quiet s.label)
 -- the entries with so many more, all of the label of this one, which is the newest and alone may have an event
 abbrev pub gone_on : ℕ → Entry → List Entry → List Entry
 gone_on n e past = (e ∷ replicate (n - 1) (quiet e.label)) ++ past
-
--- before the last tick
-abbrev pub before_last : Running → Running
-before_last k = record k { ticks = k.ticks - 1 }
 
 -- somebody is at a kernel call in a tick with this label
 abbrev pub calls : Label → Bool

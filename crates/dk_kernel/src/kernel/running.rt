@@ -25,8 +25,8 @@ fn known_law()
     threads_law();
 }
 
-/// Goes on for so many ticks: some at once where the kernel can, or else one. `stretch` would do the same, but then the entry
-/// of a single tick is copied; handed on from here it is read where the kernel keeps it.
+/// Goes on for so many ticks: some at once where the kernel can, or else one. The entry of a single tick is handed on from
+/// here: so it is read where the kernel keeps it, and not copied.
 #[inline(always)]
 fn go_on<R: Recorder, L: Ledger>(
     kernel: &mut Kernel,

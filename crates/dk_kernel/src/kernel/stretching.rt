@@ -1,76 +1,23 @@
 //! Some ticks of a kernel in one go.
 use super::Kernel;
 use crate::stretch::Stretch;
-use dk_alone::own_time_law;
 use dk_config::MAX_TICKS;
 use dk_steps::Steps;
 use dk_trace::{Label, Work};
-use dk_world::refusal_law;
 use std::sync::ledger::Ledger;
 
 impl Kernel {
-    ghost use Rattle.std.specs.Prelude.{◌≡◌, ◌+◌, ◌*◌, ◌≤◌, ◌++◌, IfSome, MatchOption, None, length, replicate};
+    ghost use Rattle.std.specs.Prelude.{◌≡◌, ◌+◌, ◌≤◌, ◌++◌, IfSome, MatchOption, None, replicate};
     ghost use Rattle.dk_config.specs.Checked.{IsAccepted, IsChecked};
     ghost use Rattle.dk_trace.specs.declared.Label.{Label};
     ghost use Rattle.dk_trace.specs.Entries.{quiet};
-    ghost use Rattle.dk_recount.specs.Counts.{moved};
-    ghost use Rattle.dk_world.specs.Refused.{RefusalLeaves};
-    ghost use Rattle.dk_kernel.specs.Running.{trace_of, world_of};
-    ghost use Rattle.dk_kernel.specs.Stretches.{IsComputed, before_last, entries_of, last_of};
-    ghost use Rattle.dk_kernel.specs.Laws.{HasOwnTime, KeepsLaws};
+    ghost use Rattle.dk_kernel.specs.Running.{trace_of};
+    ghost use Rattle.dk_kernel.specs.Stretches.{IsComputed, entries_of};
 
-    /// Does some ticks, at least one and at most so many, that all have one label and of which the last alone
-    /// may have an event. They are as so many calls of `tick`, and need no memory.
-    ///
-    /// After them at most 4,000,000,000 ticks were done.
-    #[inline(always)]
-    pub fn stretch<L: Ledger>(&mut self, most: u32, steps: &mut Steps<L>) -> Stretch
-        requires some { 1 ≤ most }
-        requires room { self.old.ticks + most ≤ MAX_TICKS }
-        ensures some { 1 ≤ result.count }
-        ensures few { result.count ≤ most }
-        ensures next { self.new ≡ record self.old { ticks = self.old.ticks + result.count } }
-        ensures entries { trace_of self.new ≡ entries_of result ++ trace_of self.old }
-        ensures refused { RefusalLeaves self.new.config (world_of (before_last self.new)) (world_of self.new)
-            (last_of result) }
-        ensures laws { KeepsLaws self.new.config (trace_of self.new) }
-        ensures alone { HasOwnTime self.new }
-        ensures steps { steps.new ≤ steps.old + 16 * (length self.new.config.levels + 1)
-            * (moved self.new.config (trace_of self.new) + 1) }
-    {
-        refusal_law();
-        own_time_law();
-        let stretch = self.go(most, steps);
-        self.keeps_laws();
-        stretch
-    }
-
-    /// Does them: all at once where it can, or else one.
-    #[inline(always)]
-    fn go<L: Ledger>(&mut self, most: u32, steps: &mut Steps<L>) -> Stretch
-        requires some { 1 ≤ most }
-        requires room { self.old.ticks + most ≤ MAX_TICKS }
-        ensures some { 1 ≤ result.count }
-        ensures few { result.count ≤ most }
-        ensures next { self.new ≡ record self.old { ticks = self.old.ticks + result.count } }
-        ensures entries { trace_of self.new ≡ entries_of result ++ trace_of self.old }
-        ensures steps { steps.new ≤ steps.old + 16 * (length self.new.config.levels + 1)
-            * (moved self.new.config (trace_of self.new) + 1) }
-    {
-        if let Some(stretch) = self.at_once(most, steps) {
-            return stretch;
-        }
-        let entry = self.tick(steps);
-        Stretch {
-            label: entry.label,
-            count: 1,
-            event: entry.event,
-        }
-    }
-
-    /// Does some ticks all at once, as `stretch` does, where what the newest tick was makes that likely: a thread that
-    /// computes goes on or begins, and ticks of slack and of nobody come together. None where it can't, or it is only
-    /// not known, and then nothing has changed: the next one is a `tick`.
+    /// Does some ticks all at once, at most so many, where what the newest tick was makes that likely: a thread that
+    /// computes goes on or begins, and ticks of slack and of nobody come together. They all have one label and no event,
+    /// and are as so many calls of `tick`. None where it can't, or it is only not known, and then nothing has changed:
+    /// the next one is a `tick`.
     #[inline(always)]
     pub fn at_once<L: Ledger>(&mut self, most: u32, steps: &mut Steps<L>) -> Option<Stretch>
         requires { self.old.ticks + most ≤ MAX_TICKS }
