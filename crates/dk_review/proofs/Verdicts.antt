@@ -23,7 +23,7 @@ pub same_verdict : {E : Type 0} (c : Configuration) (v w : Verdict) (r : Result 
     → v ≡ w → IfOk r (IsCertification c w) → IfOk r (IsCertification c v)
 same_verdict c v w r is told = subst (λ x. IfOk r (IsCertification c x)) (sym is) told
 
-pub by_verdict : {E : Type 0} (name document : List ℕ) (Certified : Review → Type 0) (c : Configuration) (v w : Verdict)
-    (r : Result Review E) → v ≡ w → IfOk r (IsReviewedBy name document Certified c w) → IfOk r (IsReviewedBy name document Certified c v)
-by_verdict name document Certified c v w r is told =
-    subst (λ x. IfOk r (IsReviewedBy name document Certified c x)) (sym is) told
+pub by_verdict : {E : Type 0} (name document : List ℕ) (Holds : Review → Type 0) (c : Configuration) (v w : Verdict)
+    (r : Result Review E) → v ≡ w → IfOk r (IsReviewedBy name document Holds c w) → IfOk r (IsReviewedBy name document Holds c v)
+by_verdict name document Holds c v w r is told =
+    subst (λ x. IfOk r (IsReviewedBy name document Holds c x)) (sym is) told

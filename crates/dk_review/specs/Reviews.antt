@@ -102,8 +102,8 @@ pub record IsReviewedRun (name document : List ℕ) (needs : Option (List ℕ)) 
 
 -- the one of a certified configuration, and the other of one that isn't
 abbrev pub IsReviewedBy : List ℕ → List ℕ → (Review → Type 0) → Configuration → Verdict → Review → Type 0
-IsReviewedBy name document Certified c (verdict.Accepted rows) r = Certified r
-IsReviewedBy name document Certified c (verdict.Fails level needs window) r = IsUncertified name document c r
+IsReviewedBy name document Holds c (verdict.Accepted rows) r = Holds r
+IsReviewedBy name document Holds c (verdict.Fails level needs window) r = IsUncertified name document c r
 
 abbrev pub IsReviewedAlone : List ℕ → List ℕ → Option (List ℕ) → List ℕ → Configuration → Review → Type 0
 IsReviewedAlone name document needs held c r =
