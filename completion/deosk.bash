@@ -55,6 +55,10 @@ _deosk_arguments() {
 }
 
 _deosk_show_arguments() {
+    if [ "${COMP_WORDS[COMP_CWORD - 1]}" = --needs ]; then
+        _deosk_files .toml
+        return
+    fi
     case ${COMP_WORDS[first]}:$((COMP_CWORD - first)):$word in
     windows:*:-* | windows:2:*) COMPREPLY=($(compgen -W '--strict --sparing --all --csv' -- "$word")) ;;
     impact:*:-*) COMPREPLY=($(compgen -W --csv -- "$word")) ;;
@@ -63,6 +67,9 @@ _deosk_show_arguments() {
         COMPREPLY=($(compgen -W --csv -- "$word")) ;;
     impact:[3-9]:* | impact:[1-3][0-9]:*) _deosk_processes "${COMP_WORDS[first + 2]}" ;;
     chain:*:-*) COMPREPLY=($(compgen -W --ledger -- "$word")) ;;
+    page:*:-*) COMPREPLY=($(compgen -W --needs -- "$word")) ;;
+    svg:*:-*) COMPREPLY=($(compgen -W --config -- "$word")) ;;
+    svg:[2-9]:*) [ "${COMP_WORDS[COMP_CWORD - 1]}" != --config ] || _deosk_files .toml ;;
     chain:[2-9]:* | chain:[1-3][0-9]:*) _deosk_processes "${COMP_WORDS[first + 1]}" ;;
     svg:1:* | pictures:1:* | trace:1:* | vcd:1:* | csv:1:* | windows:1:* | holds:1:* | page:2:* | check:3:*) _deosk_files .txt ;;
     replay:1:*) _deosk_files .profile .csv ;;

@@ -353,10 +353,10 @@ goes_to_file() {
 # names_file COMMAND PLACE BEFORE: whether a word of the command is the name of a file, by its place among the words
 # that are no flags, from 1, and by the word before it
 names_file() {
-    [ "$3" != --ledger ] || return 0
+    case $3 in --ledger | --config | --needs) return 0 ;; esac
     case $1/$2 in
     gen/* | harmonise/*) return 1 ;;
-    */1 | audit/2 | impact/2 | check/[23] | holds/2 | replay/3) ;;
+    */1 | audit/2 | page/2 | impact/2 | check/[23] | holds/2 | replay/3) ;;
     *) return 1 ;;
     esac
 }
@@ -369,7 +369,7 @@ files_of() {
         case $word in
         -*) ;;
         *)
-            [ "$before" = --ledger ] || place=$((place + 1))
+            case $before in --ledger | --config | --needs) ;; *) place=$((place + 1)) ;; esac
             if names_file "$command" $place "$before"; then
                 named="$named${named:+, }$word"
                 { [ -r "$word" ] && [ ! -d "$word" ]; } || missing="$missing${missing:+, }$word"

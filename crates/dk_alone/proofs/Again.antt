@@ -1,13 +1,12 @@
 -- A process by itself that stands as it stood before goes on as it did.
-use Rattle.dk_alone.proofs.Names.{ℕ, zero, suc, ◌≡◌, ◌+◌, ◌-◌, ◌*◌, ◌%◌, ◌<◌, ◌≤◌, inl, inr, Bool, false, cond, List, [], ◌∷◌, ◌++◌, length, refl, sym, ap, ◌∙◌, subst, arith, slice_index_or, take, is_some, take-append-le, add-mod-mod, mul-mod_left, Configuration, IsChecked, IsAccepted, period, main_level, budget, Phase, Choice, Entry, Has, Thread, family, threads, Hold, held_by, is_holding, mod-next, main_id, main_row, main_stop, flat-has, main-has, the_job, ChoosesWithCause, EndsSpent, BeginsFree, Always, RunsAreAudited, World, step_of, world, trace, length-trace, alone, choice_alone, entries_of, KeepsToItself, WindowBegins, main_is_stopped, ProcessStandsAlike}
+use Rattle.dk_alone.proofs.Names.{ℕ, zero, suc, ◌≡◌, ◌+◌, ◌-◌, ◌*◌, ◌%◌, ◌<◌, ◌≤◌, inl, inr, Bool, false, cond, List, [], ◌∷◌, ◌++◌, length, refl, sym, ap, ◌∙◌, subst, arith, slice_index_or, take, is_some, take-append-le, add-mod-mod, mul-mod_left, Configuration, IsChecked, IsAccepted, period, main_level, budget, Phase, Choice, Entry, Has, Thread, family, threads, Hold, held_by, is_holding, mod-next, main_id, main_row, main_stop, flat-has, main-has, the_job, ChoosesWithCause, EndsSpent, BeginsFree, Always, RunsAreAudited, World, step_of, world, trace, length-trace, alone, choice_alone, entries_of, KeepsToItself, WindowBegins, main_is_stopped, ProcessStandsAlike, nat_tests}
 use Rattle.dk_alone.proofs.Own.{Own, own, unlisted, after, fresh, Plain, plain-later, booked-after, own-within, own-begins}
 use Rattle.dk_alone.proofs.Same.{row-at}
 use Rattle.dk_alone.proofs.MainTicks.{SameMain, Twins, twins}
 use Rattle.dk_alone.proofs.Ties.{Tie, ties, tie-plain, alone-long}
 
 pub holds-none : (hs : List Hold) → is_holding hs ≡ false → hs ≡ []
-holds-none [] h = refl
-holds-none (x ∷ hs) h = absurd (cc)
+holds-none hs h = grind (arith, nat_tests)
 
 -- a tick has one entry more
 pub entry-by : (c : Configuration) (w : World) (choice : Choice) → (e : Entry) × ((step_of c w choice).past ≡ e ∷ w.past)
@@ -122,12 +121,7 @@ module _ (c : Configuration) (programs : List (List ℕ)) (p : ℕ) (checked : I
 
   own-on : (n : ℕ) (e : Entry) → (v (suc n)).past ≡ e ∷ (v n).past → suc n % P ≡ suc (n % P)
       → unlisted (own c p (v (suc n)).past) ≡ unlisted (after p e (unlisted (own c p (v n).past)))
-  own-on n e is on =
-      let past = (v n).past in
-      let within : suc (length past) % P ≡ suc (length past % P) = subst (λ k. suc k % P ≡ suc (k % P)) (sym (alone-long c p program n)) on in
-      ap (λ es. unlisted (own c p es)) is
-      ∙ ap unlisted (own-within c p positive e past within)
-      ∙ ap unlisted (booked-after c p positive e past (plain-next n e is))
+  own-on n e is on = grind (arith, nat_tests, alone-long, unlisted, own, own-within, positive, booked-after, plain-next)
 
   place : (d A : ℕ) → WindowBegins c p A → (on d A) % P ≡ d % P
   place d A begins = ap (λ k. k % P) (on-is d A) ∙ sym (add-mod-mod d A P) ∙ ap (λ k. (d + k) % P) begins ∙ ap (λ k. k % P) (omega arith)

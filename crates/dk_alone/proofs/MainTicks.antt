@@ -1,5 +1,5 @@
 -- A tick of a process by itself, in two worlds that are the same for its main.
-use Rattle.dk_alone.proofs.Names.{ℕ, ◌≡◌, ◌/◌, ◌<◌, inl, inr, Bool, true, false, cond, eqb, List, ◌∷◌, length, Option, Some, None, refl, sym, ap, ◌∙◌, subst, arith, cases_lt, Configuration, FaultKind, Phase, Choice, Label, Event, Entry, phase, rem, held_by, label_of, main_id, Context, Tick, body_tick, Effect, Child, effect, Image, World, Turn, quiet_entry, thread_at, thread_turn, breaks_hold, image_after, with_child, with_reply, update, work_done, tick_in, step_of, update-same, choice_alone, step_alone, entries_of, ReadsNoTick}
+use Rattle.dk_alone.proofs.Names.{ℕ, ◌≡◌, ◌/◌, ◌<◌, inl, inr, Bool, true, false, cond, List, ◌∷◌, length, Option, Some, refl, sym, ap, ◌∙◌, subst, arith, cases_lt, Configuration, FaultKind, Phase, Choice, Label, Event, Entry, phase, rem, held_by, label_of, main_id, Context, Tick, body_tick, Effect, Child, effect, Image, World, Turn, quiet_entry, thread_at, thread_turn, breaks_hold, image_after, with_child, with_reply, update, work_done, tick_in, step_of, update-same, choice_alone, step_alone, entries_of, ReadsNoTick, nat_tests}
 use Rattle.dk_alone.proofs.Own.{own, unlisted, Plain}
 use Rattle.dk_alone.proofs.Same.{turn-same}
 use Rattle.dk_alone.proofs.Steps.{no-tick, turn-code, alone-works, alone-rests}
@@ -11,8 +11,7 @@ pub record SameMain (i j : Image) : Type 0 where
   pub context : i.contexts 0 ≡ j.contexts 0
 
 child-main : (o : Option Child) (f g : ℕ → Context) → f 0 ≡ g 0 → with_child f o 0 ≡ with_child g o 0
-child-main None f g same = same
-child-main (Some child) f g same = ap (λ k. cond (eqb 0 child.serial) child.context k) same
+child-main o f g same = grind (arith, nat_tests)
 
 -- the turn of a main that breaks its hold, or doesn't
 abbrev pick : Bool → Label → Image → Tick → Effect → Turn

@@ -11,25 +11,13 @@ call-work : (work : Work) (event : Event) → is_fault event ≡ false → MayHa
 call-work Work.Call event plain may = refl
 call-work Work.In event plain may = absurd may
 call-work Work.Run (Event.Fault kind) plain may = absurd (cc)
-call-work Work.Run Event.Wait plain may = absurd may
-call-work Work.Run Event.Exit plain may = absurd may
-call-work Work.Run (Event.Create serial level quota) plain may = absurd may
-call-work Work.Run (Event.Delete serial) plain may = absurd may
-call-work Work.Run (Event.Lock m) plain may = absurd may
-call-work Work.Run (Event.Unlock m) plain may = absurd may
-call-work Work.Run (Event.Slack amount) plain may = absurd may
-call-work Work.Run (Event.Put value) plain may = absurd may
-call-work Work.Run (Event.Refused refusal) plain may = absurd may
+call-work Work.Run event plain may = absurd may
 
 -- only a thread's tick has an event
 pub no-event : (label : Label) (event : Event) → thread_of label ≡ None → MayHave (work_of label) (Some event) → ⊥
 no-event (Label.Kernel i) event none may = absurd may
 no-event Label.Idle event none may = absurd may
-no-event (Label.In x) event none may = absurd (cc)
-no-event (Label.Run x) event none may = absurd (cc)
-no-event (Label.Call x) event none may = absurd (cc)
-no-event (Label.Out x) event none may = absurd (cc)
-no-event (Label.Slack x source work) event none may = absurd (cc)
+no-event label event none may = absurd (cc)
 
 -- and has the label of a call
 never-calls : (choice : Choice) → work_of (label_of choice Work.Run) ≡ Work.Call → ⊥
@@ -54,27 +42,6 @@ row-meets (Some r) row test is none = none
 row-refuses : (o : Option Thread) (test : Thread → Option Refusal) (why : Refusal) → option_map_or test o None ≡ Some why → MatchOption o ⊥ (λ r. test r ≡ None) → ⊥
 row-refuses None test why some met = met
 row-refuses (Some r) test why some met = absurd (cc)
-
--- an event of which the rules ask nothing more: an exit, a fault, a put, a refusal
-abbrev pub is_free : Event → Bool
-is_free Event.Exit = true
-is_free (Event.Fault kind) = true
-is_free (Event.Put value) = true
-is_free (Event.Refused refusal) = true
-is_free _ = false
-
-free-meets : (c : Configuration) (label : Label) (past : List Entry) (x : ThreadId) (row : Thread) (event : Event) → is_free event ≡ true
-    → HasNextSerial c past x event × (done_refusal c (length past) (quiet label ∷ past) row event ≡ None)
-free-meets c label past x row Event.Exit free = (tt, refl)
-free-meets c label past x row (Event.Fault kind) free = (tt, refl)
-free-meets c label past x row (Event.Put value) free = (tt, refl)
-free-meets c label past x row (Event.Refused refusal) free = (tt, refl)
-free-meets c label past x row Event.Wait free = absurd (cc)
-free-meets c label past x row (Event.Create serial level quota) free = absurd (cc)
-free-meets c label past x row (Event.Delete serial) free = absurd (cc)
-free-meets c label past x row (Event.Lock m) free = absurd (cc)
-free-meets c label past x row (Event.Unlock m) free = absurd (cc)
-free-meets c label past x row (Event.Slack amount) free = absurd (cc)
 
 -- the event of the open tick's entry, of its thread
 module _ (x : ThreadId) (event : Event) (e : Entry) (p : Past) (is : IsEventOpen x event e p) where
@@ -101,14 +68,19 @@ module _ (x : ThreadId) (event : Event) (e : Entry) (p : Past) (is : IsEventOpen
   known : Always ChoosesKnown → IsKnown p.config p.entries x
   known chooses = known-row chooses p.config p.entries e.label x is.open_tick.ruled is.open_tick.chose is.own
 
-  free-follows : Always ChoosesKnown → is_free event ≡ true → Follows p.config p.entries e
+  -- the rules ask nothing more of it: an exit, a fault, a put, a refusal
+  abbrev pub IsFree : Type 0
+  IsFree =
+      (row : Thread) → HasNextSerial p.config p.entries x event × (done_refusal p.config (length p.entries) (quiet e.label ∷ p.entries) row event ≡ None)
+
+  free-follows : Always ChoosesKnown → IsFree → Follows p.config p.entries e
   free-follows chooses free =
       let row = known chooses in
-      let meets = free-meets p.config e.label p.entries x row.row event free in
+      let meets = free row.row in
       follows-by (meets.0, subst (λ o. MatchOption o ⊥ (λ r. done_refusal p.config (length p.entries) (quiet e.label ∷ p.entries) r event ≡ None)) (sym row.found) meets.1)
 
   -- the tables aren't told of it
-  pub untold-booked : Always ChoosesKnown → is_free event ≡ true → IsUntold (Some event) → Books e p p
+  pub untold-booked : Always ChoosesKnown → IsFree → IsUntold (Some event) → Books e p p
   untold-booked chooses free untold = record {
     whole = record { follows = free-follows chooses free; told = inr (is.open_tick.charged, subst IsUntold (sym is.ends) untold) };
     config = refl;
@@ -116,7 +88,7 @@ module _ (x : ThreadId) (event : Event) (e : Entry) (p : Past) (is : IsEventOpen
   }
 
   -- an exit or a fault stops the thread
-  pub ending : Always ChoosesKnown → is_free event ≡ true → is_end event ≡ true → IsEnding x e p
+  pub ending : Always ChoosesKnown → IsFree → is_end event ≡ true → IsEnding x e p
   ending chooses free end = record {
     charged = is.open_tick.charged;
     follows = free-follows chooses free;
@@ -128,7 +100,7 @@ module _ (x : ThreadId) (event : Event) (e : Entry) (p : Past) (is : IsEventOpen
   booked new next follows =
       subst (Books e p) (sym next) (record { whole = record { follows = follows; told = inl refl }; config = refl; entries = refl })
 
-  pub end-booked : Always ChoosesKnown → is_free event ≡ true → (new : Past) → new ≡ with_entry e p → Books e p new
+  pub end-booked : Always ChoosesKnown → IsFree → (new : Past) → new ≡ with_entry e p → Books e p new
   end-booked chooses free new next = booked new next (free-follows chooses free)
 
   -- A call.

@@ -4,7 +4,7 @@ pub use Rattle.dk_budget.specs.Book.{Book, book_of, lender_of, period_in}
 pub use Rattle.dk_budget.specs.Calls.{all_given_back, changed_at, changed_row, given_back, lend_reasons, lend_refusal, lent_to, new_loan, stopped_child, stopped_process, with_loans}
 pub use Rattle.dk_budget.specs.Loans.{after_stop, is_before, is_ended_at, is_in_force, lent, lent_at, not_ended_at, stopped, stopped_one}
 pub use Rattle.dk_budget.specs.Recount.{HasSlowerChildren, IsChildOf, IsFamilyOf, MakesChild, StopsOnly, counted_lender, counted_loan, counted_stop, recount}
-pub use Rattle.dk_budget.specs.Shares.{child_future, child_share, future_shares, main_future, main_share, of_lender, present_child_share, present_main_share, quota_at, spare_of, sum_over, sum_starts, windows_left}
+pub use Rattle.dk_budget.specs.Shares.{child_future, child_share, future_shares, main_future, main_share, of_lender, present_child_share, present_main_share, quota_at, sum_over, sum_starts, windows_left}
 pub use Rattle.dk_budget.specs.Sound.{ArePeriods, IsSound, IsSoundLender}
 pub use Rattle.dk_budget.specs.declared.lender.Lender.{Lender}
 pub use Rattle.dk_budget.specs.declared.loan.Loan.{Loan}

@@ -1,5 +1,5 @@
 -- What the recount of a past says: why a call is refused, and what a tick changes.
-use Rattle.dk_budget.proofs.Names.{◌≡◌, ◌∙◌, ◌<◌, ◌+◌, ◌-◌, ◌*◌, ◌/◌, ℕ, Bool, true, List, [], ◌∷◌, length, map, Option, Some, None, ap, sym, arith, refl, slice_get, nat_lt, nat_le, ◌&&◌, not, filter, sum_by, if◌then◌else◌, option_map_or, range_with_len, nat_tests, slice_get-get_or, length-map, length-map-range_with_len, get_or-map-range_with_len, sum_by-cons, Configuration, period, main_level, max_level, slots, budget, periods_of, Entry, Refusal, Thread, is_main, is_void, is_ended_by, first_refusal, standing_children, create_refusal, least_share, Loan, Lender, lent, not_ended_at, period_in, spare_of, lend_reasons, lend_refusal, given_back, all_given_back, counted_loan, counted_lender, recount}
+use Rattle.dk_budget.proofs.Names.{◌≡◌, ◌∙◌, ◌<◌, ◌+◌, ◌-◌, ◌*◌, ◌/◌, ℕ, Bool, true, List, [], ◌∷◌, length, map, Option, Some, None, ap, sym, arith, refl, slice_get, nat_lt, nat_le, ◌&&◌, not, filter, sum_by, if◌then◌else◌, option_map_or, range_with_len, nat_tests, slice_get-get_or, length-map, length-map-range_with_len, get_or-map-range_with_len, sum_by-cons, Configuration, period, main_level, max_level, slots, budget, periods_of, Entry, Refusal, Thread, is_main, is_void, is_ended_by, first_refusal, standing_children, create_refusal, least_share, Loan, Lender, lent, not_ended_at, period_in, lend_reasons, lend_refusal, given_back, all_given_back, counted_loan, counted_lender, recount}
 use Rattle.std.specs.Prelude.{◌||◌}
 use Rattle.dk_budget.proofs.Starting.{period-same}
 
@@ -54,10 +54,6 @@ refusal-same c now past x level quota entry instructions known main =
     ∙ sym
     (first-passed (is_main x) Refusal.NotMain
     (reasons (length children) (sum_by (λ (y : Thread). y.quota) children) (period c level) (period c (main_level c p))) main)
-
-pub spare-same : (c : Configuration) (now : ℕ) (past : List Entry) (p : ℕ) → p < length c.processes
-    → spare_of (recount c now past) p ≡ budget c p - sum_by (λ (y : Thread). y.quota) (standing_children c now past p) - least_share c
-spare-same c now past p known = grind (arith, nat_tests, row-of, lent-counted)
 
 -- whether a child is neither void nor ended
 abbrev stands-at : Configuration → ℕ → Thread → Bool

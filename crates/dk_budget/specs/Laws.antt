@@ -2,14 +2,14 @@
 use Rattle.std.specs.Prelude.{◌∷◌, ℕ, ◌+◌, ◌-◌, ◌<◌, ◌≡◌, ◌==◌, List, None, Some, find, if◌then◌else◌, length, nat_le, sum_by, false, true}
 use Rattle.dk_config.specs.Checked.{IsChecked}
 use Rattle.dk_config.specs.Configuration.{Configuration}
-use Rattle.dk_config.specs.Windows.{budget, main_level, window_end, window_start}
+use Rattle.dk_config.specs.Windows.{main_level, window_end, window_start}
 use Rattle.dk_trace.specs.declared.Entry.{Entry}
 use Rattle.dk_trace.specs.Threads.{Thread, family, is_main, share}
 use Rattle.dk_trace.specs.Demand.{sum_starts}
 use Rattle.dk_trace.specs.Members.{Has}
-use Rattle.dk_trace.specs.Refusals.{create_refusal, least_share, standing_children}
+use Rattle.dk_trace.specs.Refusals.{create_refusal}
 use Rattle.dk_windows.specs.Clock.{clock_at}
-use Rattle.dk_budget.specs.Shares.{future_shares, present_child_share, present_main_share, spare_of}
+use Rattle.dk_budget.specs.Shares.{future_shares, present_child_share, present_main_share}
 use Rattle.dk_budget.specs.Calls.{all_given_back, lend_refusal, lent_to, new_loan, stopped_child, stopped_process}
 use Rattle.dk_budget.specs.Recount.{HasSlowerChildren, IsFamilyOf, IsRecount, MakesChild, StopsOnly, counted_lender, counted_stop, recount}
 
@@ -57,13 +57,6 @@ RefusesLoans =
     → x.id.process < length c.processes → is_main x ≡ true
     → lend_refusal (recount c now past) x.id.process level quota entry instructions
     ≡ create_refusal c now past x level quota entry instructions
-
--- What could still be lent is the budget without the quotas of the children that stand and without the least share.
-abbrev pub TellsSpares : Type 0
-TellsSpares =
-    (c : Configuration) (now : ℕ) (past : List Entry) (p : ℕ) → p < length c.processes
-    → spare_of (recount c now past) p
-    ≡ budget c p - sum_by (λ y. y.quota) (standing_children c now past p) - least_share c
 
 -- The main's share of the present window is the past's.
 abbrev pub TellsMainShares : Type 0

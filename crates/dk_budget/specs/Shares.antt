@@ -42,10 +42,6 @@ present_child_share b w p serial =
     (find (λ l. l.serial == serial) x.loans.items) 0)
     b p
 
--- what could still be lent
-abbrev pub spare_of : Book → ℕ → ℕ
-spare_of b p = of_lender (λ x. x.budget - lent x.loans.items - least_share b.switch) b p
-
 -- how many windows of level i begin after the present tick and before the window of level j ends, which is no faster
 abbrev pub windows_left : Clock → ℕ → ℕ → ℕ
 windows_left w i j = (end_at w j - end_at w i) / period_at w i

@@ -3,7 +3,7 @@ ghost use Rattle.std.specs.Prelude.{[]};
 ghost use Rattle.dk_config.specs.Configuration.{Configuration};
 ghost use Rattle.dk_budget.specs.Book.{book_of};
 ghost use Rattle.dk_budget.specs.Recount.{IsRecount};
-ghost use Rattle.dk_budget.specs.Laws.{QuietKeepsLoans, CreateAddsLoan, ChildsStopEndsLoan, MainsStopEndsLoans, OpeningGivesBack, RefusesLoans, TellsSpares, TellsMainShares, TellsChildShares, TellsFutureShares};
+ghost use Rattle.dk_budget.specs.Laws.{QuietKeepsLoans, CreateAddsLoan, ChildsStopEndsLoan, MainsStopEndsLoans, OpeningGivesBack, RefusesLoans, TellsMainShares, TellsChildShares, TellsFutureShares};
 
 /// The table at the start is the recount of no entries.
 pub fn start_is_the_recount()
@@ -36,12 +36,6 @@ pub fn opening_keeps_the_recount()
 /// The recount refuses a main a loan exactly as a create is refused.
 pub fn refusals_are_the_pasts()
     ensures { RefusesLoans }
-{}
-
-/// What the recount says could still be lent is the budget without the quotas of the children that stand and
-/// without the least share, which the main keeps.
-pub fn spares_are_the_pasts()
-    ensures { TellsSpares }
 {}
 
 /// The main's share that the recount gives of the present window is that of the past.

@@ -9,8 +9,8 @@
 
 mod laws;
 mod lender;
-mod lends;
 mod loan;
+mod loans;
 mod refusing;
 mod shares;
 mod starts;
@@ -18,8 +18,8 @@ mod starts;
 pub use laws::{
     call_keeps_the_recount, child_shares_are_the_pasts, future_shares_are_the_pasts,
     main_shares_are_the_pasts, opening_keeps_the_recount, refusals_are_the_pasts,
-    spares_are_the_pasts, start_is_the_recount, stops_keep_the_recount, tick_keeps_the_recount,
+    start_is_the_recount, stops_keep_the_recount, tick_keeps_the_recount,
 };
 pub use lender::Lender;
-pub use lends::Lends;
 pub use loan::Loan;
+pub use loans::Loans;

@@ -1,11 +1,11 @@
 //! The jobs of a main in a ledger.
 ghost use Rattle.std.specs.Prelude.{◌+◌, ◌≡◌, ◌<◌, ◌≤◌, length, position, IfSome};
 ghost use Rattle.dk_config.specs.declared.TheConstants.{MAX_RUN_TICKS};
-ghost use Rattle.dk_trace.specs.Entries.{is_budget_of, is_of};
+ghost use Rattle.dk_trace.specs.Entries.{is_budget_of};
 ghost use Rattle.dk_chain_ledger.specs.Jobs.{closes, first_in, job_in, last_in, over_in};
 
 use dk_config::MAX_RUN_TICKS;
-use dk_trace::{Entry, Event, Label, ThreadId};
+use dk_trace::{Entry, Event, ThreadId};
 
 /// A job of a main: the tick at which it had its first tick on its budget, and the tick by which the job is over.
 #[derive(Clone, Copy)]
@@ -14,34 +14,12 @@ pub(crate) struct Job {
     pub(crate) over: u32,
 }
 
-fn is_budget_of(thread: ThreadId, entry: Entry) -> bool
-    ensures { result ≡ is_budget_of thread entry }
-{
-    match entry.label {
-        Label::In(payer) | Label::Run(payer) | Label::Call(payer) | Label::Out(payer) =>
-            thread.is_same(payer),
-        _ => false,
-    }
-}
-
-fn is_of(thread: ThreadId, entry: Entry) -> bool
-    ensures { result ≡ is_of thread entry }
-{
-    match entry.label {
-        Label::Slack {
-            thread: borrower,
-            ..
-        } => thread.is_same(borrower),
-        _ => is_budget_of(thread, entry),
-    }
-}
-
 /// Whether the main waited or was stopped in the entry.
 fn closes(main: ThreadId, entry: Entry) -> bool
     ensures { result ≡ closes main entry }
 {
     match entry.event {
-        Some(Event::Wait) | Some(Event::Exit) | Some(Event::Fault(_)) => is_of(main, entry),
+        Some(Event::Wait) | Some(Event::Exit) | Some(Event::Fault(_)) => entry.label.is_of(main),
         _ => false,
     }
 }
@@ -55,7 +33,7 @@ fn last_paid(main: ThreadId, window: &[Entry]) -> u32
     let mut ticks = 0;
     for entry in window {
         ticks += 1;
-        if is_budget_of(main, *entry) {
+        if entry.label.is_paid_by(main) {
             last = ticks;
         }
     }
@@ -90,7 +68,7 @@ fn first_paid(main: ThreadId, window: &[Entry]) -> Option<usize>
     ensures first { result ≡ position (is_budget_of main) window.now }
     ensures within { IfSome result (λ k. k < length window.now) }
 {
-    window.iter().position(|entry| is_budget_of(main, *entry))
+    window.iter().position(|entry| entry.label.is_paid_by(main))
 }
 
 /// The job of the main in a window that starts at this tick, if it had a tick of its budget there.

@@ -24,11 +24,11 @@ module _ {X Y Z : Type 0} (v : X → Y) (R : Z → Y → Type 0) (F : Y → Refu
       refused (Ok y) never = absurd never
       refused (Err d) same = same
 
-  module _ (old new : DepotView) (plan : Files → Reads Y) where
+  module _ (old new : DepotView) (reads : Files → Reads Y) where
     -- what was found comes to this
-    pub comes_to : (x : X) (r : Result Z Refusal) → Finds v old new (Ok x) plan → Makes R F r (v x) → Follows R F old new r plan
+    pub comes_to : (x : X) (r : Result Z Refusal) → Finds v old new (Ok x) reads → Makes R F r (v x) → Follows R F old new r reads
     comes_to x r one makes = record {
-      told = some_map _ _ old.files (λ at told. told_work r x (plan at) old.given new.given makes told) one.told;
+      told = some_map _ _ old.files (λ at told. told_work r x (reads at) old.given new.given makes told) one.told;
       cause = λ failed. absurd (no_failed_read r (v x) makes failed);
       faults_stay = λ other. one.faults_stay (λ is. cc);
       held = one.held;
@@ -36,9 +36,9 @@ module _ {X Y Z : Type 0} (v : X → Y) (R : Z → Y → Type 0) (F : Y → Refu
     }
 
     -- a refusal stays one
-    pub refused_before : (e : Refusal) (r : Result Z Refusal) → r ≡ Err e → Finds v old new (Err e) plan → Follows R F old new r plan
-    refused_before e r is one = subst (λ t. Follows R F old new t plan) (sym is) (record {
-      told = some_map _ _ old.files (λ at told. told_refusal e (plan at) old.given new.given told) one.told;
+    pub refused_before : (e : Refusal) (r : Result Z Refusal) → r ≡ Err e → Finds v old new (Err e) reads → Follows R F old new r reads
+    refused_before e r is one = subst (λ t. Follows R F old new t reads) (sym is) (record {
+      told = some_map _ _ old.files (λ at told. told_refusal e (reads at) old.given new.given told) one.told;
       cause = λ failed. one.cause (let same : e ≡ why.Depot = cc in ap (λ d. Err d) same);
       faults_stay = λ other. one.faults_stay (λ failed. other (let same : e ≡ why.Depot = cc in ap (λ d. Err d) same));
       held = one.held;

@@ -21,7 +21,7 @@ pub use Rattle.dk_inputs.proofs.FollowLemmas.{Never, Same, some_map}
 pub use Rattle.dk_inputs.specs.Answer.{is_failed_read, is_silent}
 pub use Rattle.dk_inputs.specs.Follows.{Finds, Follows, Makes, Refuses, Tells}
 pub use Rattle.dk_inputs.specs.Inputs.{CanBoot, IsCertified, heading, job_of}
-pub use Rattle.dk_inputs.specs.Plan.{Job, ledger, planned, run, some_found, state}
+pub use Rattle.dk_inputs.specs.Jobs.{Job, ledger, job_for_words, run, some_found, state}
 pub use Rattle.dk_inputs.specs.Reads.{Files, Reads}
 pub use Rattle.dk_inputs.specs.declared.inputs.Inputs.{Inputs}
 pub use Rattle.dk_inputs.specs.declared.refusal.Refusal.{Refusal}

@@ -25,7 +25,7 @@ use Rattle.dk_request.specs.Commands.{usage_text}
 use Rattle.dk_command.specs.Runs.{AreEntries}
 use Rattle.dk_inputs.specs.Reads.{Files}
 use Rattle.dk_inputs.specs.Inputs.{heading}
-use Rattle.dk_inputs.specs.Plan.{Job, run, certificate, ledger, document, source, code, findings, budget, base, state, planned}
+use Rattle.dk_inputs.specs.Jobs.{Job, run, certificate, ledger, document, source, code, findings, budget, base, state, job_for_words}
 use Rattle.dk_command.specs.Planner.{base_text, budget_text}
 
 -- the ledger of entries, or its header and their report
@@ -89,7 +89,7 @@ Comes (Err e) text ended = Says e text ended
 
 -- the text and the status are the output of the words and the files
 abbrev pub IsOutput : List (List ℕ) → Files → List ℕ → Status → Type 0
-IsOutput words at text ended = Comes (planned words at).found text ended
+IsOutput words at text ended = Comes (job_for_words words at).found text ended
 
 -- a status that the outside and memory had no part in
 abbrev pub IsAnswer : Status → Type 0

@@ -5,7 +5,7 @@ use Rattle.dk_bound.specs.ByWhen.{AllByWhen, ByWhen}
 use Rattle.dk_world.specs.Run.{trace}
 use Rattle.dk_kernel.specs.Laws.{HasOwnTime}
 use Rattle.dk_loader.specs.Workload.{Workload}
-use Rattle.dk_inputs.specs.Plan.{Job, run}
+use Rattle.dk_inputs.specs.Jobs.{Job, run}
 
 -- Of the defined run of so many ticks: in each window that has ended each thread had its whole share, unless it waited or was
 -- stopped; none had more; once so many ticks of a window are over as are enough for k ticks of a main, it has had k ticks,

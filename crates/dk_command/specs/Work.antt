@@ -11,7 +11,7 @@ use Rattle.dk_command.specs.declared.work.Work.{Work}
 use Rattle.dk_command.specs.declared.work.Work.TheVariants as work
 use Rattle.dk_command.specs.Runs.{AreEntries, workload_of}
 use Rattle.dk_inputs.specs.Inputs.{IsCertified}
-use Rattle.dk_inputs.specs.Plan.{Job}
+use Rattle.dk_inputs.specs.Jobs.{Job}
 use Rattle.dk_command.specs.Output.{IsText}
 use Rattle.dk_command.specs.Promises.{Keeps}
 

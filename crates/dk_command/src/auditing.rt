@@ -2,7 +2,7 @@
 ghost use Rattle.std.specs.Prelude.{◌≡◌, IfOk, string_bytes};
 ghost use Rattle.dk_config.specs.Checked.{IsWithinLimits};
 ghost use Rattle.dk_inputs.specs.Inputs.{IsCertified};
-ghost use Rattle.dk_inputs.specs.Plan.{findings};
+ghost use Rattle.dk_inputs.specs.Jobs.{findings};
 ghost use Rattle.dk_command.specs.Output.{Fails, IsFoundIn, passed_text};
 ghost use Rattle.dk_inputs.specs.Follows.{Makes};
 ghost use Rattle.dk_command.specs.Work.{Does, IsReady};

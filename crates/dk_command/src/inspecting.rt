@@ -2,7 +2,7 @@
 ghost use Rattle.std.specs.Prelude.{◌≡◌, ◌<◌, ◌≤◌, IfOk};
 ghost use Rattle.dk_command.specs.Runs.{workload_of};
 ghost use Rattle.dk_inputs.specs.Inputs.{CanBoot, IsCertified};
-ghost use Rattle.dk_inputs.specs.Plan.{state};
+ghost use Rattle.dk_inputs.specs.Jobs.{state};
 ghost use Rattle.dk_command.specs.Output.{Fails};
 ghost use Rattle.dk_inputs.specs.Follows.{Makes};
 ghost use Rattle.dk_command.specs.Work.{Does, IsReady};

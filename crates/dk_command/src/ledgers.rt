@@ -4,7 +4,7 @@ ghost use Rattle.dk_ledger.specs.declared.ledger.LedgerFault.{LedgerFault};
 ghost use Rattle.dk_ledger.specs.Readable.{IsNoText, IsWrongLine};
 ghost use Rattle.dk_ledger.specs.ReadSoFar.{ComesNext};
 ghost use Rattle.dk_report.specs.Counts.{StandsFor};
-ghost use Rattle.dk_inputs.specs.Plan.{ledger};
+ghost use Rattle.dk_inputs.specs.Jobs.{ledger};
 ghost use Rattle.dk_command.specs.Output.{Fails};
 ghost use Rattle.dk_inputs.specs.Follows.{Makes};
 ghost use Rattle.dk_command.specs.LedgerLines.{HasCounted};

@@ -1,13 +1,13 @@
 //! The commands: what the inputs of each come to, and the writing of it.
 //!
-//! The inputs that dk_inputs finds for the words come to work (`planned.rt`), which is written (`work.rt`). A command is
+//! The inputs that dk_inputs finds for the words come to work (`making.rt`), which is written (`work.rt`). A command is
 //! a case of each of these, and a function that makes its work.
 #![tactic(auto)]
 
 mod auditing;
 mod inspecting;
 mod ledgers;
-mod planned;
+mod making;
 mod planner;
 mod prepare;
 mod programs;
@@ -16,5 +16,5 @@ mod work;
 
 pub use dk_inputs::{Refusal, Status};
 pub use dk_request::usage;
-pub use planned::plan;
+pub use making::work_for;
 pub use work::{Work, perform};

@@ -2,7 +2,7 @@
 ghost use Rattle.std.specs.Prelude.{◌≡◌, ◌++◌, ◌<◌, ◌≤◌, IfOk, OnOk, flat_map, length, string_bytes};
 ghost use Rattle.dk_config.specs.Checked.{BreaksNoRule, IsChecked, IsWithinLimits};
 ghost use Rattle.dk_plan.specs.Base.{AreAsks};
-ghost use Rattle.dk_inputs.specs.Plan.{base, budget};
+ghost use Rattle.dk_inputs.specs.Jobs.{base, budget};
 ghost use Rattle.dk_command.specs.Planner.{ask_line, base_text, budget_text, first_line, utilisation_line};
 ghost use Rattle.dk_command.specs.Output.{Fails};
 ghost use Rattle.dk_inputs.specs.Follows.{Makes};

@@ -11,7 +11,7 @@ ghost use Rattle.dk_loader.specs.Workload.{Workload};
 ghost use Rattle.dk_command.specs.Promises.{KeepsPromises};
 ghost use Rattle.dk_command.specs.Runs.{AreEntries, workload_of};
 ghost use Rattle.dk_inputs.specs.Inputs.{CanBoot, IsCertified, heading};
-ghost use Rattle.dk_inputs.specs.Plan.{run, certificate, document};
+ghost use Rattle.dk_inputs.specs.Jobs.{run, certificate, document};
 ghost use Rattle.dk_command.specs.Output.{Fails};
 ghost use Rattle.dk_inputs.specs.Follows.{Makes};
 ghost use Rattle.dk_command.specs.Work.{Does, IsReady, WritesFor};

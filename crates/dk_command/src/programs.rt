@@ -1,6 +1,6 @@
 //! What the assembler and the disassembler come to.
 ghost use Rattle.std.specs.Prelude.{◌≤◌, IfOk, vec_len};
-ghost use Rattle.dk_inputs.specs.Plan.{code, source};
+ghost use Rattle.dk_inputs.specs.Jobs.{code, source};
 ghost use Rattle.dk_command.specs.Output.{Fails};
 ghost use Rattle.dk_inputs.specs.Follows.{Makes};
 ghost use Rattle.dk_command.specs.Work.{Does, IsReady};

@@ -1,4 +1,5 @@
 pub mod Names
+pub mod Serials
 pub mod Stands
 pub mod Telling
 pub mod Seen

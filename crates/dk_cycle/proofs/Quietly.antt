@@ -1,15 +1,8 @@
 -- Ticks that change no s of a run.
-use Rattle.dk_cycle.proofs.Names.{ℕ, zero, suc, ◌≡◌, ◌+◌, ◌∙◌, ◌∷◌, ◌++◌, List, Option, Some, None, refl, sym, ap, subst, arith, replicate, option_map_or, Configuration, IsChecked, IsAccepted, ThreadId, Label, Entry, quiet, chosen, World, body_step, executes, quiet_step, step, trace, world, EntriesKeepThreads, EntriesShowReads, caller, RunSearch, StartSearch, IsReader, IsRunSearch, IsStartSearch, SearchesStay, StartsStay}
+use Rattle.dk_cycle.proofs.Names.{ℕ, zero, suc, ◌≡◌, ◌+◌, ◌∙◌, ◌∷◌, ◌++◌, List, Some, None, refl, sym, ap, subst, arith, replicate, Configuration, IsChecked, IsAccepted, Label, Entry, quiet, trace, world, EntriesKeepThreads, EntriesShowReads, caller, RunSearch, StartSearch, IsReader, IsRunSearch, IsStartSearch, SearchesStay, StartsStay, option_or}
+use Rattle.dk_cycle.proofs.Serials.{none-quietly, step-adds}
 use Rattle.dk_cycle.proofs.Stands.{followed}
 use Rattle.dk_cycle.proofs.Starts.{start-quiet}
-
--- a step adds one entry
-step-adds : (c : Configuration) (w : World) → (e : Entry) × ((step c w).past ≡ e ∷ w.past)
-step-adds c w = go (executes (chosen c w.past))
-  where
-    go : (o : Option ThreadId) → (e : Entry) × ((option_map_or (body_step c (chosen c w.past) w) o (quiet_step (chosen c w.past) w)).past ≡ e ∷ w.past)
-    go None = (_, refl)
-    go (Some x) = (_, refl)
 
 -- the last of some ticks with one entry, and those before it
 last-of : (c : Configuration) (programs : List (List ℕ)) (tick n : ℕ) (e : Entry)
@@ -39,7 +32,8 @@ module _ (keeping : EntriesKeepThreads) (showing : EntriesShowReads) (c : Config
       let parts = last-of c programs tick n (quiet label) entries in
       let more : tick + n + 1 ≡ tick + suc n = omega arith in
       subst (λ t. IsRunSearch c programs t s) more
-      (followed c programs (tick + n) s (quiet label) None s.reader s.kept keeping showing (λ kept. record { still = kept; keeps = refl; none = refl }) refl
+      (followed c programs (tick + n) s (quiet label) None s.reader s.made s.kept keeping showing (λ kept. record { still = kept; keeps = refl; none = refl }) refl
+      (sym (ap (λ o. option_or o s.made) (none-quietly (tick + n) label)))
       checked accepted (searches tick n s parts.1 is) parts.0 (no-reader (tick + n) parts.0))
 
   starts : (tick n : ℕ) (s : StartSearch) → trace c programs (tick + n) ≡ replicate n (quiet label) ++ trace c programs tick → IsStartSearch c programs tick s

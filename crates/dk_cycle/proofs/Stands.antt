@@ -1,5 +1,6 @@
 -- A run, or a process, that is what it was stands again.
-use Rattle.dk_cycle.proofs.Names.{ℕ, suc, ◌≡◌, ◌+◌, ◌-◌, ◌<◌, ◌≤◌, ◌%◌, ◌∙◌, ◌∷◌, inl, inr, Bool, true, List, length, Option, Some, None, refl, sym, ap, subst, arith, slice_get, IfSome, ◌∣◌, option_map_or, cases_eq, slice_get_within, dvd_trans, dvd_of_mod-eq-zero, mod-eq-zero_of_dvd, Configuration, period, main_level, IsChecked, IsAccepted, IsWithinLimits, Entry, World, world, trace, WindowBegins, ProcessStandsAlike, ProcessStandsAgain, ReadsNoTickNext, WindowsBegin, ThreadsStandAlike, RunStandsAlike, RunStandsAgain, entry_at, keeps_threads, newest, EntriesKeepThreads, EntriesShowReads, NobodyReads, ReadsTickAt, Cycle, MainState, OwnSearch, ThreadState, ProcessState, RunState, RunSearch, IsFound, IsMainState, IsOwnSearch, IsSavedMain, AreAllProcesses, AreProcessStates, AreSame, AreSameThreads, IsFoundRun, IsKept, IsLongest, IsLastReader, IsReader, IsRunSearch, IsRunState, IsSameProcess, GoesOn, KeepsThreadsFrom, KeepsThreadsIn, last_reader}
+use Rattle.dk_cycle.proofs.Names.{ℕ, suc, ◌≡◌, ◌+◌, ◌-◌, ◌<◌, ◌≤◌, ◌%◌, ◌∙◌, ◌∷◌, inl, inr, Bool, true, List, length, Option, Some, None, refl, sym, ap, subst, arith, slice_get, IfSome, ◌∣◌, option_map_or, cases_eq, slice_get_within, dvd_trans, dvd_of_mod-eq-zero, mod-eq-zero_of_dvd, Configuration, period, main_level, IsChecked, IsAccepted, IsWithinLimits, Entry, World, world, trace, WindowBegins, ProcessStandsAlike, ProcessStandsAgain, ReadsNoTickNext, WindowsBegin, ThreadsStandAlike, RunStandsAlike, RunStandsAgain, entry_at, keeps_threads, newest, EntriesKeepThreads, EntriesShowReads, NobodyReads, ReadsTickAt, Cycle, MainState, OwnSearch, ThreadState, ProcessState, RunState, RunSearch, IsFound, IsMainState, IsOwnSearch, IsSavedMain, AreAllProcesses, AreProcessStates, AreSame, AreSameThreads, IsFoundRun, IsKept, IsLongest, IsLastReader, IsReader, IsRunSearch, IsRunState, IsSameProcess, GoesOn, KeepsThreadsFrom, KeepsThreadsIn, last_reader, Made, IsLastMade, MakesNone, last_made, made_in, option_or}
+use Rattle.dk_cycle.proofs.Serials.{made-tick}
 
 begins-by : (c : Configuration) (p tick own : ℕ) → own ≡ period c (main_level c p) → tick % own ≡ 0 → WindowBegins c p tick
 begins-by c p tick own is begins = subst (λ n. tick % n ≡ 0) is begins
@@ -153,6 +154,7 @@ pub run-with-cycle : (c : Configuration) (programs : List (List ℕ)) (search : 
 run-with-cycle c programs search now y is state begins found = record {
   longest = is.longest;
   reader = is.reader;
+  made = is.made;
   saved = is.saved;
   cycle = run-again c programs search.saved search.kept now y is.saved state (begins-all c search.longest now.tick is.longest begins) found;
   keeps = cycle-keeps c programs search.saved search.kept now y is.saved found;
@@ -164,6 +166,7 @@ pub run-with-saved : (c : Configuration) (programs : List (List ℕ)) (search : 
 run-with-saved c programs search now is state begins = record {
   longest = is.longest;
   reader = is.reader;
+  made = is.made;
   saved = record {
     is = record { begins = begins-all c search.longest now.tick is.longest begins; is = state };
     come = omega arith;
@@ -188,6 +191,42 @@ kept-in c programs tick e adds keeps = λ f is.
     let both : Some e ≡ Some f = sym (entry-there c programs tick e adds) ∙ is in
     let same : e ≡ f = cc in
     subst (λ (g : Entry). option_map_or keeps_threads g.event true ≡ true) same keeps
+
+none-made : (c : Configuration) (programs : List (List ℕ)) (from tick : ℕ) (e : Entry) → trace c programs (tick + 1) ≡ e ∷ trace c programs tick → made_in tick e ≡ None
+    → MakesNone c programs from tick → MakesNone c programs from (tick + 1)
+none-made c programs from tick e adds none before t f low high is =
+    elim (cases_eq tick t) [
+      | inl same ↦
+          let there : entry_at c programs tick ≡ Some f = subst (λ n. entry_at c programs n ≡ Some f) (sym same) is in
+          let both : Some e ≡ Some f = sym (entry-there c programs tick e adds) ∙ there in
+          let one : e ≡ f = cc in
+          subst (λ g. made_in t g ≡ None) one (subst (λ n. made_in n e ≡ None) same none)
+      | inr other ↦ before t f low (omega (arith, high, other)) is
+    ]
+
+-- the child that was made last, with the entry of one more tick
+made-more : (c : Configuration) (programs : List (List ℕ)) (tick : ℕ) (e : Entry) (before : Option Made) → trace c programs (tick + 1) ≡ e ∷ trace c programs tick
+    → IsLastMade c programs tick before → IsLastMade c programs (tick + 1) (last_made before tick e)
+made-more c programs tick e before adds was = at (made_in tick e) before refl was
+  where
+    at : (now : Option Made) (o : Option Made) → made_in tick e ≡ now → IsLastMade c programs tick o → IsLastMade c programs (tick + 1) (option_or now o)
+    at (Some m) o makes is =
+        let tick-is = made-tick tick e m makes in
+        record {
+          before = omega (arith, tick-is);
+          entry = e;
+          is = subst (λ n. entry_at c programs n ≡ Some e) (sym tick-is) (entry-there c programs tick e adds);
+          makes = subst (λ n. made_in n e ≡ Some m) (sym tick-is) makes;
+          last = λ t f low high there. absurd (omega (arith, low, high, tick-is));
+        }
+    at None (Some m) makes is = record {
+      before = let early = is.before in omega (arith, early);
+      entry = is.entry;
+      is = is.is;
+      makes = is.makes;
+      last = none-made c programs (m.tick + 1) tick e adds makes is.last;
+    }
+    at None None makes is = none-made c programs 0 tick e adds makes is
 
 -- the entry of one more tick
 joined : (c : Configuration) (programs : List (List ℕ)) (tick : ℕ) (kept both : Bool) (o : Option RunState)
@@ -251,13 +290,14 @@ still-within : (tick : ℕ) (o : Option Cycle) → IfSome o (λ y. y.start + y.l
 still-within tick None is = tt
 still-within tick (Some y) is = omega (arith, is)
 
-pub followed : (c : Configuration) (programs : List (List ℕ)) (tick : ℕ) (search : RunSearch) (e : Entry) (reader last : Option ℕ) (both : Bool) → EntriesKeepThreads
-    → EntriesShowReads → (both ≡ true → GoesOn search.kept e reader) → last ≡ last_reader search.reader reader → IsChecked c → IsAccepted c → IsRunSearch c programs tick search
+pub followed : (c : Configuration) (programs : List (List ℕ)) (tick : ℕ) (search : RunSearch) (e : Entry) (reader last : Option ℕ) (made : Option Made) (both : Bool) → EntriesKeepThreads
+    → EntriesShowReads → (both ≡ true → GoesOn search.kept e reader) → last ≡ last_reader search.reader reader → made ≡ last_made search.made tick e → IsChecked c → IsAccepted c → IsRunSearch c programs tick search
     → trace c programs (tick + 1) ≡ e ∷ trace c programs tick → IsReader c programs tick e reader
-    → IsRunSearch c programs (tick + 1) (record search { reader = last; kept = both })
-followed c programs tick search e reader last both keeping showing goes last-is checked accepted is adds here = record {
+    → IsRunSearch c programs (tick + 1) (record search { reader = last; made = made; kept = both })
+followed c programs tick search e reader last made both keeping showing goes last-is made-is checked accepted is adds here = record {
   longest = is.longest;
   reader = subst (IsLastReader c programs (tick + 1)) (sym last-is) (reader-more c programs tick e search.reader reader adds here is.reader);
+  made = subst (IsLastMade c programs (tick + 1)) (sym made-is) (made-more c programs tick e search.made adds is.made);
   saved = joined c programs tick search.kept both search.saved (λ all.
       let g = goes all in
       let shows = showing c programs tick e checked accepted adds in

@@ -138,6 +138,7 @@ started c programs tick search y start law checked accepted is cycle early other
     record {
       longest = is.longest;
       reader = is.reader;
+      made = is.made;
       saved = is.saved;
       cycle = other;
       keeps = λ n low high. keeps-from c programs y start n law checked accepted again keeps other low;

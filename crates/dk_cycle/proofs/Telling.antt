@@ -1,5 +1,6 @@
 -- What was found says how it goes on for ever.
-use Rattle.dk_cycle.proofs.Names.{ℕ, ◌≡◌, List, [], Option, Some, None, refl, subst, IfSome, slice_index_or, Configuration, IsChecked, IsAccepted, KeepsToItself, ProcessStandsAgain, ProcessesRepeat, StandsAgainAsAlone, RunStandsAgain, RunsRepeatForEver, Cycle, IsKeeping, StartsFirst, IsLastReader, HasCycle, IsRunCycle, OwnIsTold, RunIsTold, reader_by}
+use Rattle.dk_cycle.proofs.Names.{ℕ, ◌≡◌, List, [], Option, Some, None, refl, subst, IfSome, slice_index_or, Configuration, IsChecked, IsAccepted, KeepsToItself, ProcessStandsAgain, ProcessesRepeat, StandsAgainAsAlone, RunStandsAgain, RunsRepeatForEver, Cycle, IsKeeping, StartsFirst, IsLastReader, HasCycle, IsRunCycle, OwnIsTold, RunIsTold, reader_by, Made, IsLastMade, RepeatsOnlyBehind, made_by, RunsAreAudited}
+use Rattle.dk_cycle.proofs.Serials.{only-behind}
 
 run-cycle : (c : Configuration) (programs : List (List ℕ)) (o : Option Cycle) → RunsRepeatForEver → IsChecked c → IsAccepted c
     → IfSome o (λ y. RunStandsAgain c programs y.start y.length) → IfSome o (StartsFirst c programs) → IfSome o (IsRunCycle c programs)
@@ -26,16 +27,29 @@ read-last : (c : Configuration) (programs : List (List ℕ)) (tick : ℕ) (o : O
 read-last c programs tick (Some y) reader is none = absurd (cc)
 read-last c programs tick None reader is none = is
 
-read-none : (o : Option Cycle) (reader : Option ℕ) (y : Cycle) → o ≡ Some y → reader_by o reader ≡ None
-read-none (Some z) reader y is = refl
-read-none None reader y is = absurd (cc)
+made-last : (c : Configuration) (programs : List (List ℕ)) (tick : ℕ) (o : Option Cycle) (made : Option Made) → IsLastMade c programs tick made
+    → o ≡ None → IsLastMade c programs tick (made_by o made)
+made-last c programs tick (Some y) made is none = absurd (cc)
+made-last c programs tick None made is none = is
 
-pub run-is-told : RunsRepeatForEver → RunIsTold
-run-is-told law c programs tick search checked accepted is first = record {
+none-told : (o : Option Cycle) (reader : Option ℕ) (made : Option Made) (y : Cycle) → o ≡ Some y → (reader_by o reader ≡ None) × (made_by o made ≡ None)
+none-told (Some z) reader made y is = (refl, refl)
+none-told None reader made y is = absurd (cc)
+
+made-behind : (c : Configuration) (programs : List (List ℕ)) (tick : ℕ) (o : Option Cycle) (made : Option Made) → RunsAreAudited → IsChecked c → IsAccepted c
+    → IsLastMade c programs tick made → IfSome (made_by o made) (RepeatsOnlyBehind c programs)
+made-behind c programs tick (Some y) made audited checked accepted is = tt
+made-behind c programs tick None None audited checked accepted is = tt
+made-behind c programs tick None (Some m) audited checked accepted is = only-behind c programs m is.entry audited checked accepted is.is is.makes
+
+pub run-is-told : RunsAreAudited → RunsRepeatForEver → RunIsTold
+run-is-told audited law c programs tick search checked accepted is first = record {
   ticks = tick;
   cycle = run-cycle c programs search.cycle law checked accepted is.cycle first;
   reader = read-last c programs tick search.cycle search.reader is.reader;
-  alone = read-none search.cycle search.reader;
+  made = made-last c programs tick search.cycle search.made is.made;
+  behind = made-behind c programs tick search.cycle search.made audited checked accepted is.made;
+  alone = none-told search.cycle search.reader search.made;
 }
 
 pub own-is-told : StandsAgainAsAlone → ProcessesRepeat → OwnIsTold

@@ -3,6 +3,7 @@ pub mod Own
 pub mod Run
 pub mod Start
 pub mod Repeating
+pub mod Made
 pub mod Told
 pub mod Waiting
 pub mod Stretching

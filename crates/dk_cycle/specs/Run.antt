@@ -17,6 +17,7 @@ use Rattle.dk_cycle.specs.declared.run.ThreadState.{ThreadState}
 use Rattle.dk_cycle.specs.declared.run.ProcessState.{ProcessState}
 use Rattle.dk_cycle.specs.declared.run.RunState.{RunState}
 use Rattle.dk_cycle.specs.declared.run.RunSearch.{RunSearch}
+use Rattle.dk_cycle.specs.Made.{IsLastMade}
 
 -- the thread with its context is among these
 abbrev pub IsAmong : World → ℕ → List ThreadState → Thread → Type 0
@@ -141,15 +142,16 @@ pub record IsLongest (c : Configuration) (n : ℕ) : Type 0 where
 pub record IsRunSearch (c : Configuration) (programs : List (List ℕ)) (tick : ℕ) (search : RunSearch) : Type 0 where
   pub longest : IsLongest c search.longest
   pub reader : IsLastReader c programs tick search.reader
+  pub made : IsLastMade c programs tick search.made
   pub saved : IfSome search.saved (IsKept c programs tick search.kept)
   pub cycle : IfSome search.cycle (λ y. RunStandsAgain c programs y.start y.length)
   pub keeps : IfSome search.cycle (λ y. KeepsThreadsFrom c programs y.start y.length)
   pub within : IfSome search.cycle (λ y. y.start + y.length ≤ tick)
 
--- a search of a run that looks at the entry of the next tick, and at who read the tick in it, is one up to that tick
-abbrev pub Follows : RunSearch → Entry → Option ℕ → RunSearch → Type 0
-Follows before entry reader after =
-    (c : Configuration) (programs : List (List ℕ)) (tick : ℕ) → IsChecked c → IsAccepted c → IsRunSearch c programs tick before
+-- a search of a run that looks at the entry of the tick, and at who read the tick in it, is one up to the next tick
+abbrev pub Follows : RunSearch → ℕ → Entry → Option ℕ → RunSearch → Type 0
+Follows before tick entry reader after =
+    (c : Configuration) (programs : List (List ℕ)) → IsChecked c → IsAccepted c → IsRunSearch c programs tick before
     → trace c programs (tick + 1) ≡ entry ∷ trace c programs tick → IsReader c programs tick entry reader
     → IsRunSearch c programs (tick + 1) after
 

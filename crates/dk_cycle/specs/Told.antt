@@ -8,9 +8,11 @@ use Rattle.dk_cycle.specs.declared.keeping.Keeping.TheVariants as kind
 use Rattle.dk_cycle.specs.declared.own.OwnSearch.{OwnSearch}
 use Rattle.dk_cycle.specs.declared.run.RunSearch.{RunSearch}
 use Rattle.dk_cycle.specs.declared.Cycle.{Cycle}
+use Rattle.dk_cycle.specs.declared.made.Made.{Made}
 use Rattle.dk_cycle.specs.declared.told.OwnTold.{OwnTold}
 use Rattle.dk_cycle.specs.declared.told.RunTold.{RunTold}
 use Rattle.dk_cycle.specs.Keeping.{IsKeeping}
+use Rattle.dk_cycle.specs.Made.{IsLastMade, RepeatsOnlyBehind}
 use Rattle.dk_cycle.specs.Own.{IsOwnSearch}
 use Rattle.dk_cycle.specs.Run.{IsLastReader, IsRunSearch}
 use Rattle.dk_cycle.specs.Start.{StartsFirst}
@@ -21,8 +23,17 @@ abbrev pub reader_by : Option Cycle → Option ℕ → Option ℕ
 reader_by (Some y) reader = None
 reader_by None reader = reader
 
+-- the child that was made last, where no cycle was found
+abbrev pub made_by : Option Cycle → Option Made → Option Made
+made_by (Some y) made = None
+made_by None made = made
+
 abbrev pub run_told : RunSearch → RunTold
-run_told search = record { reader = reader_by search.cycle search.reader; cycle = search.cycle }
+run_told search = record {
+  reader = reader_by search.cycle search.reader;
+  made = made_by search.cycle search.made;
+  cycle = search.cycle;
+}
 
 abbrev pub own_told : OwnSearch → OwnTold
 own_told search = record { process = search.process; keeping = search.keeping; cycle = search.cycle }
@@ -34,12 +45,15 @@ pub record IsRunCycle (c : Configuration) (programs : List (List ℕ)) (y : Cycl
   pub first : StartsFirst c programs y
 
 -- The run repeats for ever. Where that isn't told, a thread of the process that is named read the tick, last of all that did in
--- so many ticks; or nobody did in them.
+-- so many ticks; or nobody did in them. And then the child that is named was made in them, last of all, and from no tick up to
+-- that the run repeats; or none was made in them.
 pub record IsRunTold (c : Configuration) (programs : List (List ℕ)) (told : RunTold) : Type 0 where
   pub ticks : ℕ
   pub cycle : IfSome told.cycle (IsRunCycle c programs)
   pub reader : told.cycle ≡ None → IsLastReader c programs ticks told.reader
-  pub alone : (y : Cycle) → told.cycle ≡ Some y → told.reader ≡ None
+  pub made : told.cycle ≡ None → IsLastMade c programs ticks told.made
+  pub behind : IfSome told.made (RepeatsOnlyBehind c programs)
+  pub alone : (y : Cycle) → told.cycle ≡ Some y → (told.reader ≡ None) × (told.made ≡ None)
 
 -- from a start of its windows on the process repeats in every run
 pub record HasCycle (c : Configuration) (programs : List (List ℕ)) (p : ℕ) (y : Cycle) : Type 0 where

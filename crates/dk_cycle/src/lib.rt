@@ -4,6 +4,7 @@
 #![tactic(auto)]
 
 mod keeping;
+mod made;
 mod own;
 mod reading;
 mod run;
@@ -13,6 +14,7 @@ mod told;
 mod waiting;
 
 pub use keeping::Keeping;
+pub use made::Made;
 pub use own::{MainState, OwnSearch, same_context};
 pub use reading::{is_behind_read, quiet_caller};
 pub use run::{ProcessState, RunSearch, RunState, ThreadState};

@@ -7,6 +7,7 @@ ghost use Rattle.dk_cycle.specs.Start.{with_start};
 ghost use Rattle.dk_cycle.specs.Run.{AreAllProcesses, AreAllThreads, GoesOn, IsLongest, IsSameProcess, last_reader};
 
 use crate::Cycle;
+use crate::made::{Made, last_made};
 use crate::own::{period_of, same_context};
 use dk_config::Config;
 use dk_cpu::Context;
@@ -41,6 +42,8 @@ pub struct RunSearch {
     pub longest: u32,
     /// The process whose thread read the tick last.
     pub reader: Option<u8>,
+    /// The child that was made last.
+    pub made: Option<Made>,
     /// What the run was at a tick at which the windows of all levels began.
     pub saved: Option<RunState>,
     /// No thread was made or stopped since, and the tick wasn't read.
@@ -172,6 +175,7 @@ impl RunSearch {
         RunSearch {
             longest: longest_of(config),
             reader: None,
+            made: None,
             saved: None,
             kept: true,
             cycle: None,
@@ -196,11 +200,12 @@ impl RunSearch {
 
     /// Looks at the entry of the next tick, in which a thread of this process read the tick, or nobody did.
     #[inline(always)]
-    pub fn follow(&mut self, entry: &Entry, reader: Option<u8>)
-        ensures { Follows self.old entry.now reader self.new }
+    pub fn follow(&mut self, tick: u32, entry: &Entry, reader: Option<u8>)
+        ensures { Follows self.old tick entry.now reader self.new }
     {
         kept_law();
         reads_law();
+        self.made = last_made(self.made, tick, entry);
         self.kept = goes_on(self.kept, entry, reader);
         self.reader = last_reader(self.reader, reader);
     }

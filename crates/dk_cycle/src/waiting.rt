@@ -2,7 +2,6 @@
 ghost use Rattle.std.specs.Prelude.{ℕ, List, [], ◌≡◌, ◌+◌, ◌<◌, length};
 ghost use Rattle.dk_config.specs.declared.TheConstants.{MAX_TICKS};
 ghost use Rattle.dk_config.specs.Checked.{IsChecked};
-ghost use Rattle.dk_trace.specs.Entries.{is_of};
 ghost use Rattle.dk_cycle.specs.Waiting.{WaitsAreTold, main_waits, waits_of, waits_told};
 
 use crate::Cycle;
@@ -10,7 +9,7 @@ use crate::keeping::Keeping;
 use crate::own::{OwnSearch, level_of, period_of};
 use dk_alone::{first_windows_law, windows_law};
 use dk_config::{Config, MAX_TICKS};
-use dk_trace::{Entry, Event, Label, ThreadId};
+use dk_trace::{Entry, Event, ThreadId};
 
 /// Whether the main of a process waits in each window of its level.
 #[derive(Clone, Copy)]
@@ -41,28 +40,13 @@ pub struct WaitWatch {
     pub missed: Option<u32>,
 }
 
-/// Whether the entry is one of the thread.
-fn is_of(thread: ThreadId, entry: &Entry) -> bool
-    ensures { result ≡ is_of thread entry.now }
-{
-    match entry.label {
-        Label::In(other) => thread.is_same(other),
-        Label::Run(other) => thread.is_same(other),
-        Label::Call(other) => thread.is_same(other),
-        Label::Out(other) => thread.is_same(other),
-        Label::Slack { thread: other, .. } => thread.is_same(other),
-        Label::Kernel(_) => false,
-        Label::Idle => false,
-    }
-}
-
 /// Whether the main of the process waits in the entry.
 fn main_waits(process: u8, entry: &Entry) -> bool
     ensures { result ≡ main_waits process entry.now }
 {
     let main = ThreadId { process, serial: 0 };
     match entry.event {
-        Some(Event::Wait) => is_of(main, entry),
+        Some(Event::Wait) => entry.label.is_of(main),
         _ => false,
     }
 }

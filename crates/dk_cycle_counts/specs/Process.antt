@@ -1,11 +1,13 @@
 -- What a process did in some ticks. Their entries are a list, the newest first.
-use Rattle.std.specs.Prelude.{ℕ, ◌&&◌, ◌==◌, Bool, false, List, count_by}
+use Rattle.std.specs.Prelude.{ℕ, ◌+◌, ◌&&◌, ◌==◌, min, if◌then◌else◌, Bool, false, List, count_by}
 use Rattle.std.specs.Option.{option_map_or}
+use Rattle.dk_trace.specs.declared.Label.{Label}
 use Rattle.dk_trace.specs.declared.Entry.{Entry}
-use Rattle.dk_trace.specs.Entries.{borrower, has_event}
+use Rattle.dk_trace.specs.Entries.{borrower, has_event, quiet}
 use Rattle.dk_report.specs.Counts.{is_fault, is_of_process, is_refused}
 use Rattle.dk_window_report.specs.Owners.{Owner}
 use Rattle.dk_window_report.specs.Rows.{raised_if, row_of, stepped}
+use Rattle.dk_window_report.specs.Passing.{gone_by}
 use Rattle.dk_cycle_counts.specs.declared.process.MainShare.{MainShare}
 use Rattle.dk_cycle_counts.specs.declared.process.ProcessUse.{ProcessUse}
 
@@ -43,4 +45,18 @@ use_with ticks e u = record {
   slack = raised_if (has_slack u.main.thread.process e) u.slack;
   refused = raised_if (has_refused u.main.thread.process e) u.refused;
   faults = raised_if (has_fault u.main.thread.process e) u.faults;
+}
+
+-- so many more where it holds, up to the last value of 32 bits
+abbrev pub added_if : Bool → ℕ → ℕ → ℕ
+added_if b n k = if b then min (k + n) 4294967295 else k
+
+-- with so many ticks more, behind so many, that all have the label and no event
+abbrev pub use_gone_by : ℕ → Label → ℕ → ProcessUse → ProcessUse
+use_gone_by ticks label n u = record {
+  main = gone_by (quiet label) ticks n u.main;
+  budget = u.budget;
+  slack = added_if (has_slack u.main.thread.process (quiet label)) n u.slack;
+  refused = u.refused;
+  faults = u.faults;
 }

@@ -1,10 +1,10 @@
 -- Whose some ticks were. Their entries are a list, the newest first.
-use Rattle.std.specs.Prelude.{Bool, true, false, List}
+use Rattle.std.specs.Prelude.{ℕ, Bool, true, false, List}
 use Rattle.dk_trace.specs.declared.Label.{Label}
 use Rattle.dk_trace.specs.declared.Entry.{Entry}
 use Rattle.dk_report.specs.Counts.{is_call, is_idle, is_in, is_kernel, is_out, is_run, labelled}
-use Rattle.dk_window_report.specs.Rows.{raised_if}
 use Rattle.dk_cycle_counts.specs.declared.totals.CycleTotals.{CycleTotals}
+use Rattle.dk_cycle_counts.specs.Process.{added_if}
 
 -- a thread had the tick on slack, from either source
 abbrev pub is_slack : Label → Bool
@@ -23,14 +23,14 @@ totals_of es = record {
   idle = labelled is_idle es;
 }
 
--- with one more entry
-abbrev pub totals_with : Entry → CycleTotals → CycleTotals
-totals_with e t = record {
-  ins = raised_if (is_in e.label) t.ins;
-  runs = raised_if (is_run e.label) t.runs;
-  calls = raised_if (is_call e.label) t.calls;
-  outs = raised_if (is_out e.label) t.outs;
-  slack = raised_if (is_slack e.label) t.slack;
-  kernel = raised_if (is_kernel e.label) t.kernel;
-  idle = raised_if (is_idle e.label) t.idle;
+-- with so many entries more that have the label
+abbrev pub totals_with : Label → ℕ → CycleTotals → CycleTotals
+totals_with label n t = record {
+  ins = added_if (is_in label) n t.ins;
+  runs = added_if (is_run label) n t.runs;
+  calls = added_if (is_call label) n t.calls;
+  outs = added_if (is_out label) n t.outs;
+  slack = added_if (is_slack label) n t.slack;
+  kernel = added_if (is_kernel label) n t.kernel;
+  idle = added_if (is_idle label) n t.idle;
 }

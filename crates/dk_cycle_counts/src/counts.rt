@@ -1,15 +1,16 @@
 //! What is counted of some ticks.
-ghost use Rattle.std.specs.Prelude.{List, ◌≡◌, ◌+◌, ◌<◌, ◌∷◌, [], map, IfOk};
+ghost use Rattle.std.specs.Prelude.{List, ◌≡◌, ◌+◌, ◌<◌, ◌≤◌, ◌∷◌, ◌++◌, [], map, replicate, IfOk};
 ghost use Rattle.dk_config.specs.declared.TheConstants.{MAX_TICKS};
 ghost use Rattle.dk_trace.specs.declared.Entry.{Entry};
+ghost use Rattle.dk_trace.specs.Entries.{quiet};
 ghost use Rattle.dk_cycle_counts.specs.declared.process.MainShare.{MainShare};
-ghost use Rattle.dk_cycle_counts.specs.Process.{use_of, use_with};
+ghost use Rattle.dk_cycle_counts.specs.Process.{use_gone_by, use_of, use_with};
 ghost use Rattle.dk_cycle_counts.specs.Counts.{AreCountsOf};
 
 use crate::process::{MainShare, ProcessUse};
 use crate::totals::CycleTotals;
 use dk_config::{MAX_TICKS, NoMemory};
-use dk_trace::Entry;
+use dk_trace::{Entry, Label};
 use dk_window_report::row_law;
 use std::alloc::Global;
 
@@ -27,6 +28,16 @@ fn add_to_all(processes: &mut Vec<ProcessUse>, ticks: u32, entry: Entry)
 {
     for process in processes.iter_mut() {
         *process = process.with_entry(ticks, entry);
+    }
+}
+
+/// Counts so many ticks more, behind so many, that all have the label and no event, of each process.
+fn all_gone_by(processes: &mut Vec<ProcessUse>, ticks: u32, label: Label, count: u32)
+    requires { ticks + count ≤ MAX_TICKS }
+    ensures { processes.new.items ≡ map (use_gone_by ticks label count) processes.old.items }
+{
+    for process in processes.iter_mut() {
+        *process = process.gone_by(ticks, label, count);
     }
 }
 
@@ -62,8 +73,22 @@ impl CycleCounts {
     {
         row_law();
         let ticks = self.ticks;
-        self.totals.add(entry);
+        self.totals.add(entry.label, 1);
         add_to_all(&mut self.processes, ticks, entry);
         self.ticks = ticks + 1;
+    }
+
+    /// Counts so many ticks more, which all have the label and no event.
+    pub fn add_quiet(&mut self, label: Label, count: u32)
+        requires { self.old.ticks + count ≤ MAX_TICKS }
+        ensures counts { (shares : List MainShare) (es : List Entry) → AreCountsOf shares es self.old
+            → AreCountsOf shares (replicate count (quiet label) ++ es) self.new }
+        ensures ticks { self.new.ticks ≡ self.old.ticks + count }
+    {
+        row_law();
+        let ticks = self.ticks;
+        self.totals.add(label, count);
+        all_gone_by(&mut self.processes, ticks, label, count);
+        self.ticks = ticks + count;
     }
 }

@@ -1,11 +1,14 @@
 //! What a process did in some ticks.
-ghost use Rattle.std.specs.Prelude.{◌≡◌, []};
+ghost use Rattle.std.specs.Prelude.{◌≡◌, ◌+◌, ◌≤◌, []};
+ghost use Rattle.dk_config.specs.declared.TheConstants.{MAX_TICKS};
+ghost use Rattle.dk_trace.specs.Entries.{quiet};
 ghost use Rattle.dk_window_report.specs.Rows.{raised_if};
 ghost use Rattle.dk_report.specs.Counts.{is_of_process};
-ghost use Rattle.dk_cycle_counts.specs.Process.{has_fault, has_refused, has_slack, use_of, use_with};
+ghost use Rattle.dk_cycle_counts.specs.Process.{has_fault, has_refused, has_slack, use_gone_by, use_of, use_with};
 
+use dk_config::MAX_TICKS;
 use dk_trace::{Entry, Event, Label, ThreadId};
-use dk_window_report::{Row, fresh, row_law, stepped};
+use dk_window_report::{Row, fresh, gone_by, row_law, stepped};
 
 /// A process, with the period of its main's level and its budget.
 #[derive(Clone, Copy)]
@@ -38,21 +41,16 @@ fn raised_if(condition: bool, n: u32) -> u32
 fn is_of_process(process: u8, entry: Entry) -> bool
     ensures { result ≡ is_of_process process entry }
 {
-    match entry.label {
-        Label::In(thread) => thread.process == process,
-        Label::Run(thread) => thread.process == process,
-        Label::Call(thread) => thread.process == process,
-        Label::Out(thread) => thread.process == process,
-        Label::Slack { thread, .. } => thread.process == process,
-        Label::Kernel(_) => false,
-        Label::Idle => false,
+    match entry.label.thread() {
+        Some(thread) => thread.process == process,
+        None => false,
     }
 }
 
-fn has_slack(process: u8, entry: Entry) -> bool
-    ensures { result ≡ has_slack process entry }
+fn has_slack(process: u8, label: Label) -> bool
+    ensures { result ≡ has_slack process (quiet label) }
 {
-    match entry.label {
+    match label {
         Label::Slack { thread, .. } => thread.process == process,
         _ => false,
     }
@@ -103,9 +101,26 @@ impl ProcessUse {
         ProcessUse {
             main: stepped(ticks, entry, self.main),
             budget: self.budget,
-            slack: raised_if(has_slack(process, entry), self.slack),
+            slack: raised_if(has_slack(process, entry.label), self.slack),
             refused: raised_if(has_refused(process, entry), self.refused),
             faults: raised_if(has_fault(process, entry), self.faults),
+        }
+    }
+
+    /// With so many ticks more, behind so many, that all have the label and no event.
+    pub(crate) fn gone_by(self, ticks: u32, label: Label, count: u32) -> ProcessUse
+        requires { ticks + count ≤ MAX_TICKS }
+        ensures { result ≡ use_gone_by ticks label count self }
+    {
+        let slack = if has_slack(self.main.thread.process, label) {
+            self.slack.saturating_add(count)
+        } else {
+            self.slack
+        };
+        ProcessUse {
+            main: gone_by(ticks, label, count, self.main),
+            slack,
+            ..self
         }
     }
 }

@@ -1,9 +1,9 @@
 //! Whose some ticks were.
-ghost use Rattle.std.specs.Prelude.{◌≡◌, []};
-ghost use Rattle.dk_window_report.specs.Rows.{raised};
+ghost use Rattle.std.specs.Prelude.{◌≡◌, true, []};
+ghost use Rattle.dk_cycle_counts.specs.Process.{added_if};
 ghost use Rattle.dk_cycle_counts.specs.Totals.{totals_of, totals_with};
 
-use dk_trace::{Entry, Label};
+use dk_trace::Label;
 
 /// How many of some ticks were of which kind.
 #[derive(Clone, Copy)]
@@ -17,11 +17,11 @@ pub struct CycleTotals {
     pub idle: u32,
 }
 
-/// One more, up to the last value.
-fn raise(count: &mut u32)
-    ensures { count.new ≡ raised count.old }
+/// So many more, up to the last value.
+fn raise(total: &mut u32, count: u32)
+    ensures { total.new ≡ added_if true count total.old }
 {
-    *count = count.saturating_add(1);
+    *total = total.saturating_add(count);
 }
 
 impl CycleTotals {
@@ -40,18 +40,18 @@ impl CycleTotals {
         }
     }
 
-    /// Counts one tick more.
-    pub(crate) fn add(&mut self, entry: Entry)
-        ensures { self.new ≡ totals_with entry self.old }
+    /// Counts so many ticks more with this label, up to the last value.
+    pub(crate) fn add(&mut self, label: Label, count: u32)
+        ensures { self.new ≡ totals_with label count self.old }
     {
-        match entry.label {
-            Label::In(_) => raise(&mut self.ins),
-            Label::Run(_) => raise(&mut self.runs),
-            Label::Call(_) => raise(&mut self.calls),
-            Label::Out(_) => raise(&mut self.outs),
-            Label::Slack { .. } => raise(&mut self.slack),
-            Label::Kernel(_) => raise(&mut self.kernel),
-            Label::Idle => raise(&mut self.idle),
+        match label {
+            Label::In(_) => raise(&mut self.ins, count),
+            Label::Run(_) => raise(&mut self.runs, count),
+            Label::Call(_) => raise(&mut self.calls, count),
+            Label::Out(_) => raise(&mut self.outs, count),
+            Label::Slack { .. } => raise(&mut self.slack, count),
+            Label::Kernel(_) => raise(&mut self.kernel, count),
+            Label::Idle => raise(&mut self.idle, count),
         }
     }
 }

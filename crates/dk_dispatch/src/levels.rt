@@ -7,7 +7,7 @@ ghost use Rattle.dk_recount.specs.Opening.{AreKnown, all_rows, cell_steps, cells
 
 use crate::opening::shares_by_level;
 use arrayvec::ArrayVec;
-use dk_budget::Lends;
+use dk_budget::Loans;
 use dk_config::{MAX_LEVELS, MAX_SPAN, MAX_THREADS};
 use dk_demand::Demand;
 use dk_ready::Parts;
@@ -52,7 +52,7 @@ fn kernel_work(releases: &ArrayVec<u32, MAX_LEVELS>, windows: &Windows, level: u
 }
 
 /// All shares of the windows to come before the window of the level ends.
-fn shares_to_come(loans: &Lends, windows: &Windows, processes: u8, level: u8) -> u64
+fn shares_to_come(loans: &Loans, windows: &Windows, processes: u8, level: u8) -> u64
     requires levels { windows.now.periods ≡ loans.now.periods }
     requires lenders { length loans.now.lenders ≡ processes }
     requires known { level < length windows.now.periods }
@@ -83,7 +83,7 @@ fn slowest_begun(windows: &Windows, levels: u8) -> u8
 /// Sets the cells of a level whose window begins, where the shares of its threads are known, and those
 /// of the threads of all levels up to it.
 fn begin_cell<L: Ledger>(
-    loans: &Lends,
+    loans: &Loans,
     releases: &ArrayVec<u32, MAX_LEVELS>,
     demand: &mut Demand,
     processes: u8,
@@ -119,7 +119,7 @@ fn begin_cell<L: Ledger>(
 /// Sets the cells of all levels whose windows begin.
 pub fn begin_cells<L: Ledger>(
     threads: &Threads,
-    loans: &Lends,
+    loans: &Loans,
     releases: &ArrayVec<u32, MAX_LEVELS>,
     demand: &mut Demand,
     processes: u8,

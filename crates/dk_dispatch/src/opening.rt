@@ -5,7 +5,7 @@ ghost use Rattle.dk_threads.specs.Table.{children_at};
 ghost use Rattle.dk_recount.specs.Opening.{AreKnown, CanAllSit, CanSit, IsKnownRow, all_rows, given, given_one, given_steps, is_between, quieted, quieted_one, rows_in, share_in, shares_in, steps_of};
 
 use crate::node::node_on;
-use dk_budget::Lends;
+use dk_budget::Loans;
 use dk_config::{MAX_CHILDREN, MAX_LEVELS, MAX_THREADS};
 use dk_ready::Jobs;
 use dk_slack::SlackTable;
@@ -16,7 +16,7 @@ use dk_windows::Windows;
 use std::sync::ledger::Ledger;
 
 /// The share of the row's thread of the present window of its level, in ticks. A stopped main has none.
-fn share_of(loans: &Lends, windows: &Windows, row: ThreadRow) -> u32
+fn share_of(loans: &Loans, windows: &Windows, row: ThreadRow) -> u32
     requires levels { windows.now.periods ≡ loans.now.periods }
     requires known { IsKnownRow loans.now windows.now row }
     ensures { result ≡ share_in loans.now windows.now row }
@@ -30,7 +30,7 @@ fn share_of(loans: &Lends, windows: &Windows, row: ThreadRow) -> u32
 
 /// Where a window of its level begins, the thread gets its share of it, and its wish for slack goes.
 fn begin_row<L: Ledger>(
-    loans: &Lends,
+    loans: &Loans,
     windows: &Windows,
     jobs: &mut Jobs,
     slack: &mut SlackTable,
@@ -55,7 +55,7 @@ fn begin_row<L: Ledger>(
 /// Does so for the children of a process from the one at that place on.
 fn begin_children<L: Ledger>(
     threads: &Threads,
-    loans: &Lends,
+    loans: &Loans,
     windows: &Windows,
     jobs: &mut Jobs,
     slack: &mut SlackTable,
@@ -84,7 +84,7 @@ fn begin_children<L: Ledger>(
 /// Does so for all threads of a process.
 fn begin_process<L: Ledger>(
     threads: &Threads,
-    loans: &Lends,
+    loans: &Loans,
     windows: &Windows,
     jobs: &mut Jobs,
     slack: &mut SlackTable,
@@ -112,7 +112,7 @@ fn begin_process<L: Ledger>(
 /// Does so for all threads.
 pub fn begin_threads<L: Ledger>(
     threads: &Threads,
-    loans: &Lends,
+    loans: &Loans,
     windows: &Windows,
     jobs: &mut Jobs,
     slack: &mut SlackTable,
@@ -138,7 +138,7 @@ pub fn begin_threads<L: Ledger>(
 
 /// Adds the row's share to the sum of its level, where that is one of those up to the last.
 fn add_share(
-    loans: &Lends,
+    loans: &Loans,
     windows: &Windows,
     row: ThreadRow,
     last: u8,
@@ -158,7 +158,7 @@ fn add_share(
 /// Adds those of the children of a process.
 fn add_children(
     threads: &Threads,
-    loans: &Lends,
+    loans: &Loans,
     windows: &Windows,
     process: u8,
     last: u8,
@@ -182,7 +182,7 @@ fn add_children(
 /// Adds those of all its threads.
 fn add_process(
     threads: &Threads,
-    loans: &Lends,
+    loans: &Loans,
     windows: &Windows,
     process: u8,
     last: u8,
@@ -206,7 +206,7 @@ fn add_process(
 /// at once.
 pub fn shares_by_level(
     threads: &Threads,
-    loans: &Lends,
+    loans: &Loans,
     windows: &Windows,
     processes: u8,
     last: u8,

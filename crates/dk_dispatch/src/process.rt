@@ -5,7 +5,7 @@ ghost use Rattle.dk_demand.specs.Levels.{at_level, by_level, less};
 ghost use Rattle.dk_recount.specs.Process.{cells_lost};
 
 use crate::tables::AllTables;
-use dk_budget::Lends;
+use dk_budget::Loans;
 use dk_config::MAX_CHILDREN;
 use dk_demand::Demand;
 use dk_steps::Steps;
@@ -31,7 +31,7 @@ fn lower_need<L: Ledger>(demand: &mut Demand, level: u8, lost: u64, steps: &mut 
 /// No level needs the shares to come of the process any longer. A step for each level.
 fn lose_shares<L: Ledger>(
     demand: &mut Demand,
-    loans: &Lends,
+    loans: &Loans,
     process: u8,
     levels: u8,
     steps: &mut Steps<L>,

@@ -15,7 +15,7 @@ use crate::reserving::{
     first_cells, first_jobs, first_parts, releases_of, rights_of, slack_of, table_of,
 };
 use arrayvec::ArrayVec;
-use dk_budget::Lends;
+use dk_budget::Loans;
 use dk_certify::Table;
 use dk_config::{Config, MAX_LEVELS, MAX_PROCESSES, NoMemory};
 use dk_demand::Demand;
@@ -38,7 +38,7 @@ use std::sync::ledger::{Blank, Ledger};
 #[derive(Drop)]
 pub struct AllTables {
     pub(crate) threads: Threads,
-    pub(crate) loans: Lends,
+    pub(crate) loans: Loans,
     pub(crate) mutexes: Mutexes,
     pub(crate) demand: Demand,
     pub(crate) slack: SlackTable,
@@ -147,7 +147,7 @@ impl AllTables {
     {
         AllTables {
             threads,
-            loans: Lends::at_start(config),
+            loans: Loans::at_start(config),
             mutexes: Mutexes::at_start(config),
             demand: first_cells(config, table, steps),
             slack,

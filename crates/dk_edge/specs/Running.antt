@@ -37,3 +37,16 @@ pub record RanOnce {T : Type 0} (ends : List (List ℕ) → DepotView → DepotV
   pub words : List (List ℕ)
   pub given : IfSome told (λ all. words ≡ usable all)
   pub ran : Ran ends words depot_old depot_new out_old out_new result
+
+-- the status of the call, or the one for what ended the program at the edge
+abbrev pub last_status : {T : Type 0} → (EdgeFault → T) → Result T EdgeFault → T
+last_status status_of (Ok status) = status
+last_status status_of (Err fault) = status_of fault
+
+-- What a program leaves, and the number that its process ends with: that of how the one call ended.
+pub record Exits {T : Type 0} (ends : List (List ℕ) → DepotView → DepotView → SinkView → SinkView → T → Type 0)
+    (number_of : T → ℕ) (status_of : EdgeFault → T) (told : Option (List (Option (List ℕ))))
+    (depot_old depot_new : DepotView) (out_old out_new : SinkView) (number : ℕ) : Type 0 where
+  pub ended : Result T EdgeFault
+  pub ran : RanOnce ends told depot_old depot_new out_old out_new ended
+  pub exits : number ≡ number_of (last_status status_of ended)

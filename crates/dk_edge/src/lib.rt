@@ -5,7 +5,6 @@
 #![tactic(auto)]
 
 mod buffer;
-mod ending;
 mod file_depot;
 mod opener;
 mod out_sink;
@@ -14,11 +13,10 @@ mod system;
 mod system_words;
 mod words;
 
-pub use ending::final_status;
 pub use file_depot::FileDepot;
 pub use opener::Opener;
 pub use out_sink::OutSink;
-pub use running::{EdgeFault, Program, run};
+pub use running::{EdgeFault, Program, run_program};
 pub use system::{StandardOutput, SystemFiles};
 pub use system_words::ProcessWords;
 pub use words::{Word, Words, words_of};

@@ -1,14 +1,13 @@
 //! The holds of a ledger, with the ticks that their threads had in them.
 ghost use Rattle.std.specs.Prelude.{◌≡◌, ◌≤◌, length, map, IfOk};
 ghost use Rattle.dk_config.specs.declared.TheConstants.{MAX_RUN_TICKS};
-ghost use Rattle.dk_trace.specs.Entries.{is_of};
 ghost use Rattle.dk_ledger.specs.Readable.{IsReadable, text_of};
 ghost use Rattle.dk_hold_report.specs.Measured.{entries_in, holds_of, is_of_mutex, measured, measured_holds, own_ticks};
 
 use dk_config::NoMemory;
 use dk_hold_spans::{Hold, read_holds};
 use dk_ledger::Ledger;
-use dk_trace::{Entry, Label, ThreadId};
+use dk_trace::Entry;
 use std::alloc::{AllocError, Global};
 
 /// A hold of a mutex in a ledger, and how many of its ticks the thread had that holds it.
@@ -16,20 +15,6 @@ use std::alloc::{AllocError, Global};
 pub struct MeasuredHold {
     pub hold: Hold,
     pub own: u32,
-}
-
-/// Whether the entry is one of the thread.
-fn is_of(thread: ThreadId, entry: &Entry) -> bool
-    ensures { result ≡ is_of thread entry.now }
-{
-    match entry.label {
-        Label::In(other)
-        | Label::Run(other)
-        | Label::Call(other)
-        | Label::Out(other)
-        | Label::Slack { thread: other, .. } => thread.is_same(other),
-        Label::Kernel(_) | Label::Idle => false,
-    }
 }
 
 /// The entries from one tick on up to before another.
@@ -48,7 +33,10 @@ fn own_ticks(entries: &[Entry], hold: &Hold) -> u32
 {
     let thread = hold.thread;
     let ticks = entries_in(entries, hold.start, hold.end);
-    ticks.iter().filter(|entry| is_of(thread, entry)).count() as u32
+    ticks
+        .iter()
+        .filter(|entry| entry.label.is_of(thread))
+        .count() as u32
 }
 
 fn measured(entries: &[Entry], hold: &Hold) -> MeasuredHold

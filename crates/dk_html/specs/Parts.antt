@@ -3,9 +3,9 @@ use Rattle.std.specs.Prelude.{ℕ, List, flat_map, decimal}
 use Rattle.dk_html.specs.Checksums.{file_row}
 use Rattle.dk_html.specs.Escaping.{escaped}
 use Rattle.dk_html.specs.Outputs.{output}
-use Rattle.dk_html.specs.Tables.{rows}
+use Rattle.dk_html.specs.Tables.{rows, word_rows}
 use Rattle.dk_html.specs.declared.parts.Part.{Part}
-use Rattle.dk_html.specs.declared.parts.Part.TheVariants.{Words, Made, Text, Number, Rows, Output, File}
+use Rattle.dk_html.specs.declared.parts.Part.TheVariants.{Words, Made, Text, Number, Rows, Lines, Output, File}
 
 -- one text behind the other
 abbrev pub joined : List (List ℕ) → List ℕ
@@ -18,5 +18,6 @@ part_text (Made bytes) = bytes.now
 part_text (Text text) = escaped text.now
 part_text (Number n) = decimal n
 part_text (Rows table) = rows table.now
+part_text (Lines text) = word_rows text.now
 part_text (Output command name text) = output command.now name.now text.now
 part_text (File what name bytes) = file_row what.now name.now bytes.now

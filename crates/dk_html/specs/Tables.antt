@@ -1,4 +1,4 @@
--- A table of comma-separated values as the rows of a table in HTML.
+-- A table of comma-separated values, or lines of words, as the rows of a table in HTML.
 use Rattle.std.specs.Prelude.{ℕ, ◌+◌, Bool, ◌&&◌, nat_lt, if◌then◌else◌, List, [], ◌∷◌, ◌++◌, length, drop, flat_map, codes, decimal}
 use Rattle.std.specs.Char.{is_ascii_digit}
 use Rattle.std.specs.List.{list_all}
@@ -41,11 +41,18 @@ row_end fields = flat_map cell fields
 abbrev pub row : List (List ℕ) → List ℕ
 row fields = row_start fields ++ row_end fields
 
--- the fields of a line stand between commas, and a line with nothing in it is no row
-abbrev pub row_of : List ℕ → List ℕ
-row_of [] = []
-row_of (b ∷ line) = row (pieces 44 (b ∷ line))
+-- the fields of a line stand between bytes of one kind, and a line with nothing in it is no row
+abbrev pub row_of : ℕ → List ℕ → List ℕ
+row_of between [] = []
+row_of between (b ∷ line) = row (pieces between (b ∷ line))
 
--- a row for each line but the first, which has the names of the columns
+abbrev pub rows_of : ℕ → List (List ℕ) → List ℕ
+rows_of between lines = flat_map (row_of between) lines
+
+-- a row for each line but the first, which has the names of the columns; its fields stand between commas
 abbrev pub rows : List ℕ → List ℕ
-rows text = flat_map row_of (drop 1 (pieces 10 text))
+rows text = rows_of 44 (drop 1 (pieces 10 text))
+
+-- a row for each line; its words stand between spaces
+abbrev pub word_rows : List ℕ → List ℕ
+word_rows text = rows_of 32 (pieces 10 text)

@@ -6,7 +6,7 @@ use crate::checksums::add_file;
 use crate::escaping::add_escaped;
 use crate::outputs::add_output;
 use crate::pieces::{add_string, add_words};
-use crate::tables::add_rows;
+use crate::tables::{add_rows, add_word_rows};
 use std::alloc::{AllocError, Global};
 
 /// A part of a page.
@@ -23,6 +23,8 @@ pub enum Part<'a> {
     /// each field, and those that are numbers once more as properties, `--c0`, `--c1` and so on by their columns, from which a
     /// style sheet draws its bar.
     Rows(&'a [u8]),
+    /// Such a row for each line of words with a space between each two.
+    Lines(&'a [u8]),
     /// The words of a command, in which nothing needs escaping, and the names of its files, which open what it writes.
     Output {
         command: &'a str,
@@ -53,6 +55,7 @@ fn add_part(alloc: Global, out: &mut Vec<u8>, part: &Part) -> Result<(), AllocEr
         Part::Text(text) => add_escaped(out, text),
         Part::Number(number) => add_string(out, number_text(alloc, number)?),
         Part::Rows(table) => add_rows(alloc, out, table),
+        Part::Lines(text) => add_word_rows(alloc, out, text),
         Part::Output {
             command,
             name,

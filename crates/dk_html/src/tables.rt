@@ -1,9 +1,9 @@
-//! A table of comma-separated values as the rows of a table in HTML.
+//! A table of comma-separated values, or lines of words, as the rows of a table in HTML.
 ghost use Rattle.std.specs.Prelude.{◌≡◌, ◌++◌, drop, flat_map, map, OnOk, IfOk, string_bytes, codes, decimal};
 ghost use Rattle.std.specs.Char.{is_ascii_digit};
 ghost use Rattle.std.specs.List.{list_all};
 ghost use Rattle.dk_html.specs.Escaping.{escaped};
-ghost use Rattle.dk_html.specs.Tables.{cell, first_of, is_number, number_property, properties_from, property, row_end, row_of, row_start, rows};
+ghost use Rattle.dk_html.specs.Tables.{cell, first_of, is_number, number_property, properties_from, property, row_end, row_of, row_start, rows, rows_of, word_rows};
 
 use crate::cutting::pieces_of;
 use crate::escaping::add_escaped;
@@ -116,15 +116,30 @@ fn add_row_end(out: &mut Vec<u8>, fields: &[&[u8]]) -> Result<(), AllocError>
     Ok(())
 }
 
-fn add_row(alloc: Global, out: &mut Vec<u8>, line: &[u8]) -> Result<(), AllocError>
-    ensures { OnOk result (out.new.items ≡ out.old.items ++ row_of line.now) }
+fn add_row(alloc: Global, out: &mut Vec<u8>, between: u8, line: &[u8]) -> Result<(), AllocError>
+    ensures { OnOk result (out.new.items ≡ out.old.items ++ row_of between line.now) }
 {
     if line.is_empty() {
         return Ok(());
     }
-    let fields = pieces_of(alloc, line, b',')?;
+    let fields = pieces_of(alloc, line, between)?;
     add_row_start(alloc, out, fields.as_slice())?;
     add_row_end(out, fields.as_slice())?;
+    Ok(())
+}
+
+/// Adds a row for each of the lines, whose fields stand between bytes of one kind.
+fn add_lines(
+    alloc: Global,
+    out: &mut Vec<u8>,
+    between: u8,
+    lines: &[&[u8]],
+) -> Result<(), AllocError>
+    ensures { OnOk result (out.new.items ≡ out.old.items ++ rows_of between (map (λ l. l.now) lines.now)) }
+{
+    for line in lines {
+        add_row(alloc, out, between, line)?;
+    }
     Ok(())
 }
 
@@ -144,8 +159,13 @@ pub(crate) fn add_rows(alloc: Global, out: &mut Vec<u8>, text: &[u8]) -> Result<
     ensures { OnOk result (out.new.items ≡ out.old.items ++ rows text.now) }
 {
     let lines = pieces_of(alloc, text, b'\n')?;
-    for line in behind_first(lines.as_slice()) {
-        add_row(alloc, out, line)?;
-    }
-    Ok(())
+    add_lines(alloc, out, b',', behind_first(lines.as_slice()))
+}
+
+/// Adds such a row for each line of words with a space between each two.
+pub(crate) fn add_word_rows(alloc: Global, out: &mut Vec<u8>, text: &[u8]) -> Result<(), AllocError>
+    ensures { OnOk result (out.new.items ≡ out.old.items ++ word_rows text.now) }
+{
+    let lines = pieces_of(alloc, text, b'\n')?;
+    add_lines(alloc, out, b' ', lines.as_slice())
 }

@@ -1,12 +1,12 @@
 -- What words find, by what they ask for.
-use Rattle.dk_inputs.proofs.Names.{ℕ, ◌≡◌, ap, List, refl, subst, add-zero, sym, Option, Some, None, Result, Ok, Err, IsErrOf, option_map, DepotView, Request, meaning, Refusal, Inputs, Finds, Refuses, Tells, job_of, Job, plan_for, plan_of, some_found, Reads}
-use Rattle.dk_inputs.specs.Plan.{planned}
+use Rattle.dk_inputs.proofs.Names.{ℕ, ◌≡◌, ap, List, refl, subst, add-zero, sym, Option, Some, None, Result, Ok, Err, IsErrOf, option_map, DepotView, Request, meaning, Refusal, Inputs, Finds, Refuses, Tells, job_of, Job, some_job_for, job_for, some_found, Reads}
+use Rattle.dk_inputs.specs.Jobs.{job_for_words}
 use Rattle.dk_inputs.specs.declared.refusal.Refusal.TheVariants as why
 use Rattle.dk_inputs.proofs.FollowLemmas.{Never, Same, made, some_map}
 
-planned_for : (words : List (List ℕ)) (o : Option Request) → o ≡ meaning words → plan_for o ≡ planned words
-unfolding planned
-planned_for words o is = ap plan_for is
+asked_in_words : (words : List (List ℕ)) (o : Option Request) → o ≡ meaning words → some_job_for o ≡ job_for_words words
+unfolding job_for_words
+asked_in_words words o is = ap some_job_for is
 
 some_refused : (found : Result Job Refusal) (e : Refusal) → Refuses (Same job_of) Never found e
     → Refuses (Same (option_map job_of)) Never (some_found found) e
@@ -24,11 +24,11 @@ refused_too (Err d) e is = let same : d ≡ e = cc in ap (λ x. Err x) same
 
 -- what a request finds, the words that ask for it find
 pub for_request : (words : List (List ℕ)) (request : Request) → Some request ≡ meaning words
-    → (old new : DepotView) (r : Result Inputs Refusal) → Finds job_of old new r (plan_of request)
-    → Finds (option_map job_of) old new (some_found r) (planned words)
+    → (old new : DepotView) (r : Result Inputs Refusal) → Finds job_of old new r (job_for request)
+    → Finds (option_map job_of) old new (some_found r) (job_for_words words)
 for_request words request is old new r f =
-    subst (Finds (option_map job_of) old new (some_found r)) (planned_for words (Some request) is) (record {
-      told = some_map _ _ old.files (λ at told. some_told r (plan_of request at) old.given new.given told) f.told;
+    subst (Finds (option_map job_of) old new (some_found r)) (asked_in_words words (Some request) is) (record {
+      told = some_map _ _ old.files (λ at told. some_told r (job_for request at) old.given new.given told) f.told;
       cause = λ failed. f.cause (refused_too r why.Depot failed);
       faults_stay = λ other. f.faults_stay (λ failed. other (ap some_found failed));
       held = some_map _ _ old.files (λ at held apart. held (λ failed. apart (ap some_found failed))) f.held;
@@ -37,7 +37,7 @@ for_request words request is old new r f =
 
 -- words that ask for nothing find nothing
 pub for_nothing : (words : List (List ℕ)) → None ≡ meaning words → (d : DepotView)
-    → Finds (option_map job_of) d d (Ok None) (planned words)
+    → Finds (option_map job_of) d d (Ok None) (job_for_words words)
 for_nothing words is d =
-    subst (Finds (option_map job_of) d d (Ok None)) (planned_for words None is)
+    subst (Finds (option_map job_of) d d (Ok None)) (asked_in_words words None is)
     (made (option_map job_of) d None None refl)

@@ -1,4 +1,4 @@
--- The parts of a plan, one after another.
+-- The parts of what a command reads and tests, one after another.
 use Rattle.dk_inputs.proofs.Names.{ℕ, ◌≡◌, ◌<◌, ◌+◌, ◌∙◌, true, refl, sym, ap, subst, arith, add-zero, false≢true, ◌≢◌, Option, Some, None, Result, Ok, Err, IfSome, IsErrOf, DepotView, Refusal, is_failed_read, is_silent, Files, Reads, ◌>>=◌, done, given_more, on_found, test, Finds, Gives, Goes, Refuses, Tells}
 use Rattle.dk_inputs.specs.declared.refusal.Refusal.TheVariants as why
 
@@ -14,7 +14,7 @@ pub both_some : {A : Type 0} (P Q : A → Type 0) (o : Option A) → IfSome o P 
 both_some P Q None p q = tt
 both_some P Q (Some x) p q = (p, q)
 
--- ---- what a plan comes to
+-- ---- what reads and tests come to
 
 module _ {X Y : Type 0} (view : X → Y) where
   told_test : (r : Result X Refusal) (t : Result Y Refusal) (n : ℕ) → Gives view r t → Tells (λ x y. y ≡ view x) (λ y e. ⊥) r (test t) n n
@@ -25,7 +25,7 @@ module _ {X Y : Type 0} (view : X → Y) where
   no_failed_read (Ok x) t e early gives is = cc
   no_failed_read (Err d) t e early gives is = false≢true (sym gives.0 ∙ ap is_failed_read (let same : d ≡ e = cc in same) ∙ early)
 
--- what a part finds: what it should, and no refusal but those of the plan
+-- what a part finds: what it should, and no refusal but those of its tests
 abbrev pub Same : {X Y : Type 0} → (X → Y) → X → Y → Type 0
 Same view x y = y ≡ view x
 
@@ -115,16 +115,16 @@ module _ {Z W : Type 0} (v : Z → W) where
           left = goes_on old mid new one.left rest.left;
         }
 
--- a failed read or want of memory may come in place of what the plan comes to
-pub silently : {X Y : Type 0} (R : X → Y → Type 0) (F : Y → Refusal → Type 0) (o : Option Files) (e : Refusal) (plan : Files → Reads Y) (before after : ℕ) → is_silent e ≡ true
-    → IfSome o (λ at. Tells {X = X} R F (Err e) (plan at) before after)
-silently {X} R F o e plan before after silent = some_all _ o (λ at quiet. absurd (false≢true (sym quiet ∙ silent)))
+-- a failed read or want of memory may come in place of what the reads come to
+pub silently : {X Y : Type 0} (R : X → Y → Type 0) (F : Y → Refusal → Type 0) (o : Option Files) (e : Refusal) (reads : Files → Reads Y) (before after : ℕ) → is_silent e ≡ true
+    → IfSome o (λ at. Tells {X = X} R F (Err e) (reads at) before after)
+silently {X} R F o e reads before after silent = some_all _ o (λ at quiet. absurd (false≢true (sym quiet ∙ silent)))
 
 -- so may want of memory before the first read
 module _ {X Y : Type 0} (v : X → Y) where
-  pub out_of_memory : (d : DepotView) (r : Result X Refusal) → r ≡ Err why.NoMemory → (plan : Files → Reads Y) → Finds v d d r plan
-  out_of_memory d r is plan = subst (λ t. Finds v d d t plan) (sym is) (record {
-    told = silently {X = X} (Same v) Never d.files why.NoMemory plan d.given d.given refl;
+  pub out_of_memory : (d : DepotView) (r : Result X Refusal) → r ≡ Err why.NoMemory → (reads : Files → Reads Y) → Finds v d d r reads
+  out_of_memory d r is reads = subst (λ t. Finds v d d t reads) (sym is) (record {
+    told = silently {X = X} (Same v) Never d.files why.NoMemory reads d.given d.given refl;
     cause = λ failed. absurd (cc);
     faults_stay = λ other. refl;
     held = some_all _ d.files (λ at apart. refl);

@@ -10,7 +10,7 @@ pub use Rattle.dk_gen.specs.Generated.{generated}
 pub use Rattle.dk_inputs.specs.Answer.{is_failed_read, is_silent}
 pub use Rattle.dk_inputs.specs.Follows.{Finds, Gives, Goes, Refuses, Tells}
 pub use Rattle.dk_inputs.specs.Inputs.{heading, job_of}
-pub use Rattle.dk_inputs.specs.Plan.{Job, audit_of, base, budget, certificate, certified, code, config_at, config_in, document, findings, found_process, ledger, plan_for, plan_of, planned, process_in, run, run_of, some_found, source, state}
+pub use Rattle.dk_inputs.specs.Jobs.{Job, audit_of, base, budget, certificate, certified, code, config_at, config_in, document, findings, found_process, ledger, some_job_for, job_for, job_for_words, process_in, run, run_of, some_found, source, state}
 pub use Rattle.dk_inputs.specs.Reads.{Files, Reads, done, file_at, given_more, on_found, programs_at, read, test, ◌>>=◌}
 pub use Rattle.dk_inputs.specs.declared.inputs.Inputs.{Inputs}
 pub use Rattle.dk_inputs.specs.declared.refusal.Refusal.{Refusal}

@@ -1,4 +1,4 @@
--- The programs, as the loader reads them and as parts of a plan.
+-- The programs, as the loader reads them and as parts of what a command reads.
 use Rattle.dk_inputs.proofs.Names.{ℕ, zero, suc, ◌≡◌, ◌+◌, ◌∙◌, List, [], ◌∷◌, length, map, subst, drop, refl, sym, ap, arith, inl, inr, ◌≢◌, IfSome, Option, Some, None, Result, Ok, Err, nat_lt, slice_get, option_map_or, cases_Bool, MAX_PROGRAM_BYTES, ProcessRow, Configuration, process_name, LoadFault, before_others, bytes_before, bytes_read, loading, program_from, programs_from, with_config, Workload, Refusal, line_of_row, Refuses, Tells, Files, Reads, ◌>>=◌, done, on_found, programs_at, read}
 use Rattle.dk_loader.specs.declared.fault.LoadFault.TheVariants as fault
 use Rattle.dk_inputs.specs.declared.refusal.Refusal.TheVariants as why
@@ -68,7 +68,7 @@ are_named all (row ∷ rows) p is = (ap (λ o. option_map_or (λ (r : ProcessRow
     after (x ∷ xs) zero e = cc
     after (x ∷ xs) (suc q) e = after xs q e
 
--- what the loader makes of all programs is what the plan finds
+-- what the loader makes of all programs is what the reads find
 abbrev pub programs_of : Result Workload LoadFault → Result (List (List ℕ)) LoadFault
 programs_of (Ok w) = Ok w.programs
 programs_of (Err e) = Err e

@@ -1,4 +1,4 @@
--- What a function found in following a plan, and what it left of the depot.
+-- What a function found in reading and testing, and what it left of the depot.
 use Rattle.std.specs.Prelude.{ℕ, ◌≡◌, ◌≢◌, ◌+◌, ◌≤◌, false, Result, Ok, Err, IfSome, IsErrOf}
 use Rattle.dk_outside.specs.Counts.{Rises}
 use Rattle.dk_outside.specs.Views.{DepotView}
@@ -12,7 +12,7 @@ module _ {X Y : Type 0} (R : X → Y → Type 0) (F : Y → Refusal → Type 0) 
   Refuses (Ok y) e = F y e
   Refuses (Err d) e = d ≡ e
 
-  -- The result is what the plan comes to, after reads that handed out as many bytes. A failed read or want of
+  -- The result is what the reads come to, after reads that handed out as many bytes. A failed read or want of
   -- memory may come in its place.
   abbrev pub Tells : Result X Refusal → Reads Y → ℕ → ℕ → Type 0
   Tells (Ok x) s before after = (y : Y) × (s.found ≡ Ok y) × R x y × (after ≡ before + s.given)
@@ -35,19 +35,19 @@ abbrev pub CountsStay : DepotView → DepotView → Type 0
 CountsStay old new = (new.faults ≡ old.faults) × (new.given ≡ old.given) × (new.strays ≡ old.strays)
 
 pub record Follows {X Y : Type 0} (R : X → Y → Type 0) (F : Y → Refusal → Type 0)
-    (old new : DepotView) (result : Result X Refusal) (plan : Files → Reads Y) : Type 0 where
-  pub told : IfSome old.files (λ at. Tells R F result (plan at) old.given new.given)
+    (old new : DepotView) (result : Result X Refusal) (reads : Files → Reads Y) : Type 0 where
+  pub told : IfSome old.files (λ at. Tells R F result (reads at) old.given new.given)
   -- a read failed only where the outside did
   pub cause : IsErrOf result why.Depot → Rises old.faults new.faults
   -- and where none failed that is answered, the count of faults is as it was
   pub faults_stay : result ≢ Err why.Depot → new.faults ≡ old.faults
   -- where each file that is asked for is held, none of the reads was of another
-  pub held : IfSome old.files (λ at. (plan at).found ≢ Err why.Depot → new.strays ≡ old.strays)
+  pub held : IfSome old.files (λ at. (reads at).found ≢ Err why.Depot → new.strays ≡ old.strays)
   pub left : Goes old new
 
--- the plan comes to what the function returned, and to no refusal that it doesn't return
+-- the reads come to what the function returned, and to no refusal that it doesn't return
 abbrev pub Finds : {X Y : Type 0} → (X → Y) → DepotView → DepotView → Result X Refusal → (Files → Reads Y) → Type 0
-Finds view old new result plan = Follows (λ x y. y ≡ view x) (λ y e. ⊥) old new result plan
+Finds view old new result reads = Follows (λ x y. y ≡ view x) (λ y e. ⊥) old new result reads
 
 -- the same of a function without reads
 abbrev pub Gives : {X Y : Type 0} → (X → Y) → Result X Refusal → Result Y Refusal → Type 0

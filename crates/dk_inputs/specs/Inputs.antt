@@ -11,7 +11,7 @@ use Rattle.dk_asm.specs.declared.TheConstants.{MAX_SOURCE_BYTES}
 use Rattle.dk_plan.specs.Base.{AreAsks}
 use Rattle.dk_inputs.specs.declared.inputs.Inputs.{Inputs}
 use Rattle.dk_inputs.specs.declared.inputs.Inputs.TheVariants as inputs
-use Rattle.dk_inputs.specs.Plan.{Job, run, certificate, ledger, document, source, code, findings, budget, base, state}
+use Rattle.dk_inputs.specs.Jobs.{Job, run, certificate, ledger, document, source, code, findings, budget, base, state}
 
 -- the header of a configuration's ledgers
 abbrev pub heading : Configuration → Heading

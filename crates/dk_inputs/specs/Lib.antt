@@ -1,6 +1,6 @@
 pub mod Answer
 pub mod Number
 pub mod Reads
-pub mod Plan
+pub mod Jobs
 pub mod Follows
 pub mod Inputs

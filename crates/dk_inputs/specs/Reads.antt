@@ -1,4 +1,4 @@
--- Of what a plan is made: a file that is read, a test, or a computation, one after another, each with its refusal.
+-- What a command reads and tests: a file, a test, or a computation, one after another, each with its refusal.
 use Rattle.std.specs.Prelude.{ℕ, ◌+◌, nat_lt, length, List, [], ◌∷◌, Option, Some, None, Result, Ok, Err, if◌then◌else◌}
 use Rattle.dk_config.specs.declared.TheConstants.{MAX_PROGRAM_BYTES}
 use Rattle.dk_config.specs.declared.rows.ProcessRow.{ProcessRow}
@@ -9,7 +9,7 @@ use Rattle.dk_inputs.specs.declared.refusal.Refusal.TheVariants as why
 abbrev pub Files : Type 0
 Files = List ℕ → Option (List ℕ)
 
--- what a plan, or a part of it, comes to, and how many bytes its reads handed out
+-- what reads and tests, or a part of them, come to, and how many bytes the reads handed out
 pub record Reads (A : Type 0) : Type 0 where
   pub given : ℕ
   pub found : Result A Refusal

@@ -1,17 +1,17 @@
 //! The inputs of the commands: what each reads and tests over a depot, in order, and why it may be refused.
 //!
-//! A request has a plan (`plans.rt`, `planned.rt`), which is made of files that are read and of tests (`reading.rt`).
-//! What it finds are the inputs of the command (`inputs.rt`).
+//! Each command reads files and tests them (`reading.rt`), one after another (`commands.rt`). What it finds are its inputs
+//! (`inputs.rt`); `finding.rt` has them for a request and for words.
 #![tactic(auto)]
 
+mod commands;
+mod finding;
 mod inputs;
-mod planned;
-mod plans;
 mod reading;
 mod refusal;
 mod status;
 
+pub use finding::inputs_for;
 pub use inputs::Inputs;
-pub use planned::inputs_for;
 pub use refusal::Refusal;
 pub use status::Status;

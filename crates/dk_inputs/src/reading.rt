@@ -7,7 +7,7 @@ ghost use Rattle.dk_ledger.specs.Heading.{IsPrintable, name_of as name_in};
 ghost use Rattle.dk_inputs.specs.Answer.{is_failed_read, is_silent};
 ghost use Rattle.dk_inputs.specs.Reads.{file_at, programs_at};
 ghost use Rattle.dk_inputs.specs.Follows.{Finds, Gives};
-ghost use Rattle.dk_inputs.specs.Plan.{certified, config_at, config_in, process_in};
+ghost use Rattle.dk_inputs.specs.Jobs.{certified, config_at, config_in, process_in};
 ghost use Rattle.dk_inputs.specs.Inputs.{CanBoot, heading};
 
 use crate::Refusal;
@@ -65,7 +65,7 @@ fn config_in(alloc: Global, bytes: &[u8]) -> Result<Config, Refusal>
 }
 
 /// The configuration in the file of this name.
-#[tactic(auto, unfolding(crate::specs::Plan::config_at))]
+#[tactic(auto, unfolding(crate::specs::Jobs::config_at))]
 pub fn config_at<D: Depot>(alloc: Global, depot: &mut D, name: &str) -> Result<Config, Refusal>
     requires { (D.seen depot.old).given + (MAX_CONFIG_BYTES + 1) < 2 ^ 64 }
     ensures found { Finds (λ c. c) (D.seen depot.old) (D.seen depot.new) result

@@ -168,15 +168,7 @@ module _ (executor : Executor) (cost : ℕ) (old : Dispatched) (states : List St
 after-open : (o : Option Event) (e : Entry) (p : Past) → opened (closed e (after_told o e (charged p))) ≡ record { config = p.config; entries = e ∷ p.entries; tick = Ready }
 after-open None e p = refl
 after-open (Some Event.Wait) e p = refl
-after-open (Some Event.Exit) e p = refl
-after-open (Some (Event.Fault kind)) e p = refl
-after-open (Some (Event.Create serial level quota)) e p = refl
-after-open (Some (Event.Delete serial)) e p = refl
-after-open (Some (Event.Lock m)) e p = refl
-after-open (Some (Event.Unlock m)) e p = refl
-after-open (Some (Event.Slack amount)) e p = refl
-after-open (Some (Event.Put value)) e p = refl
-after-open (Some (Event.Refused why)) e p = refl
+after-open (Some event) e p = refl
 
 module _ (old booked shut next : Dispatched) (states written : List State) (entry : Entry) (before between : ℕ) (running : IsRunning old states)
     (is : HasBooked (snapshot old states before) (snapshot booked written between) entry) (close : shut.past ≡ closed entry booked.past) (open_next : next.past ≡ opened shut.past) where

@@ -1,23 +1,5 @@
 -- The header of an accepted configuration can be read.
-use Rattle.std.proofs.Common.{ℕ, zero, suc, ◌≡◌, ◌∙◌, ◌+◌, ◌<◌, ◌≤◌, true, false, List, [], ◌∷◌, length, map, refl, sym, ap, subst, arith}
-use Rattle.std.specs.Prelude.{slice_get}
-use Rattle.std.specs.List.{AllByRecursion, list_all}
-use Rattle.std.specs.Option.{option_map_or}
-use Rattle.std.specs.Str.{bytes_eq}
-use Rattle.std.proofs.lemmas.Bool.{and_parts}
-use Rattle.std.proofs.lemmas.List.{length-map}
-use Rattle.dk_config.specs.Configuration.{Configuration}
-use Rattle.dk_config.specs.Checked.{IsChecked, IsWithinLimits, IsAccepted}
-use Rattle.dk_config.specs.Sums.{numbers, below}
-use Rattle.dk_config.proofs.Counting.{length-numbers}
-use Rattle.dk_config.specs.Windows.{process_name}
-use Rattle.dk_config.specs.Rules.{is_name}
-use Rattle.dk_config.specs.declared.rows.ProcessRow.{ProcessRow}
-use Rattle.dk_trace.specs.Ranges.{size_of}
-use Rattle.dk_certify.specs.Verdicts.{row_of, rows_of}
-use Rattle.dk_ledger.specs.Heading.{heading_of, line_of_row, name_of}
-use Rattle.dk_ledger.specs.Readable.{IsLevelRow, IsProcessLine, HaveOwnNames, IsReadableHeading, size_in}
-use Rattle.std.proofs.lemmas.Bool.Decides.{nat_tests}
+use Rattle.dk_ledger.proofs.Names.{ℕ, zero, suc, ◌≡◌, ◌∙◌, ◌+◌, ◌<◌, ◌≤◌, true, false, List, [], ◌∷◌, length, map, refl, sym, ap, subst, arith, slice_get, AllByRecursion, list_all, option_map_or, bytes_eq, and_parts, length-map, Configuration, IsChecked, IsWithinLimits, IsAccepted, numbers, below, length-numbers, process_name, is_name, ProcessRow, size_of, row_of, rows_of, heading_of, line_of_row, name_of, IsLevelRow, IsProcessLine, HaveOwnNames, IsReadableHeading, size_in, nat_tests}
 
 -- the table of a configuration has a row for each level
 pub length-rows_of : (c : Configuration) → length (rows_of c) ≡ length c.levels

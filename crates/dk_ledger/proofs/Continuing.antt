@@ -1,20 +1,5 @@
 -- What comes next in a ledger that begins with what has been read.
-use Rattle.std.proofs.Common.{inl, inr, ◌≡◌, ◌∙◌, sym, ap, refl, subst, ◌<◌, ◌≤◌, ◌+◌, ℕ, suc, Bool, true, false, List, [], ◌∷◌, ◌++◌, length, arith, append_assoc, append-nil, map, length-append, add-zero, zero-add}
-use Rattle.std.specs.Prelude.{◌⊎◌, slice_get, flat_map, if◌then◌else◌}
-use Rattle.std.specs.List.{AllByRecursion}
-use Rattle.std.specs.Option.{option_map_or}
-use Rattle.std.specs.Str.{bytes_eq}
-use Rattle.dk_trace.specs.Ranges.{HasEntry}
-use Rattle.dk_certify.specs.declared.table.TableRow.{TableRow}
-use Rattle.dk_ledger.specs.declared.header.ProcessLine.{ProcessLine}
-use Rattle.dk_ledger.specs.declared.line.LedgerLine.{LedgerLine}
-use Rattle.dk_ledger.specs.Heading.{level_body, process_body, name_of}
-use Rattle.dk_ledger.specs.Lines.{lines_of}
-use Rattle.dk_ledger.specs.LineText.{line_body}
-use Rattle.dk_ledger.specs.Cuts.{entries_of, IsCut}
-use Rattle.dk_ledger.specs.Ledgers.{last_of}
-use Rattle.dk_ledger.specs.Readable.{Journal, IsReadable, IsLevelRow, IsProcessLine, size_in}
-use Rattle.dk_ledger.specs.ReadSoFar.{Part, Item, IsPart, Fits, kept, IsApart, item_body, end_body, end_bodies, level_bodies, bodies_of, whole}
+use Rattle.dk_ledger.proofs.Names.{inl, inr, ◌≡◌, ◌∙◌, sym, ap, refl, subst, ◌<◌, ◌≤◌, ◌+◌, ℕ, suc, Bool, true, false, List, [], ◌∷◌, ◌++◌, length, arith, append_assoc, append-nil, map, length-append, add-zero, zero-add, ◌⊎◌, slice_get, flat_map, if◌then◌else◌, AllByRecursion, option_map_or, bytes_eq, HasEntry, TableRow, ProcessLine, LedgerLine, level_body, process_body, name_of, lines_of, line_body, entries_of, IsCut, last_of, Journal, IsReadable, IsLevelRow, IsProcessLine, size_in, Part, Item, IsPart, Fits, kept, IsApart, item_body, end_body, end_bodies, level_bodies, bodies_of, whole}
 use Rattle.dk_ledger.proofs.OneCut.{is_cut}
 use Rattle.dk_ledger.proofs.OneText.{one_level, one_process, one_line}
 use Rattle.dk_ledger.proofs.Heads.{level_is_no_process, process_is_no_line, process_is_no_end, line_is_no_end}

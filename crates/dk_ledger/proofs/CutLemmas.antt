@@ -1,16 +1,6 @@
 -- How the lines of a list of entries, and their text, change with one more entry.
-use Rattle.std.proofs.Common.{◌≡◌, ◌∙◌, sym, ap, refl, subst, ◌<◌, ◌+◌, ℕ, suc, zero-add, Bool, true, false, List, [], ◌∷◌, ◌++◌, length, length-append, append_assoc, append-nil, arith}
-use Rattle.std.specs.Prelude.{Option, Some, if◌then◌else◌}
-use Rattle.dk_trace.specs.declared.Label.{Label}
-use Rattle.dk_trace.specs.declared.Event.{Event}
-use Rattle.dk_trace.specs.declared.Entry.{Entry}
-use Rattle.dk_ledger.specs.declared.line.LedgerLine.{LedgerLine}
-use Rattle.dk_ledger.specs.Heading.{Heading}
-use Rattle.dk_ledger.specs.Lines.{same_label, has_none, joins, single, put_before, lines_from, lines_of}
-use Rattle.dk_ledger.specs.LineText.{ledger_line, lines_text}
-use Rattle.dk_ledger.specs.Ledgers.{Progress, IsAfter, last_of, all_but_last, closed_text, last_after, closing_text, last_text, entries_text, end_line}
+use Rattle.dk_ledger.proofs.Names.{◌≡◌, ◌∙◌, sym, ap, refl, subst, ◌<◌, ◌+◌, ℕ, suc, zero-add, Bool, true, false, List, [], ◌∷◌, ◌++◌, length, length-append, append_assoc, append-nil, arith, Option, Some, if◌then◌else◌, Label, Event, Entry, LedgerLine, Heading, same_label, has_none, joins, single, put_before, lines_from, lines_of, ledger_line, lines_text, Progress, IsAfter, last_of, all_but_last, closed_text, last_after, closing_text, last_text, entries_text, end_line, nat_tests}
 use Rattle.dk_ledger.proofs.NameLemmas.{both_right}
-use Rattle.std.proofs.lemmas.Bool.Decides.{nat_tests}
 
 pub same_label-true : (a b : Label) → same_label a b ≡ true → a ≡ b
 same_label-true a b h = grind (arith, nat_tests)

@@ -1,10 +1,5 @@
 -- A line whose tick is counted up where it stands.
-use Rattle.std.proofs.Common.{ℕ, ◌≡◌, ◌∙◌, List, ◌++◌, ◌∷◌, [], length, take, drop, ap, sym}
-use Rattle.std.specs.Prelude.{codes, decimal}
-use Rattle.std.proofs.Math.Seq.{take-append_seam, drop-append_seam}
-use Rattle.dk_ledger.specs.Heading.{Heading}
-use Rattle.dk_ledger.specs.declared.line.LedgerLine.{LedgerLine}
-use Rattle.dk_ledger.specs.LineText.{label_text, event_part, ledger_line}
+use Rattle.dk_ledger.proofs.Names.{ℕ, ◌≡◌, ◌∙◌, List, ◌++◌, ◌∷◌, [], length, take, drop, ap, sym, codes, decimal, take-append_seam, drop-append_seam, Heading, LedgerLine, label_text, event_part, ledger_line}
 use Rattle.dk_ledger.proofs.NumberText.{in_front}
 
 -- what comes after the tick, with the line feed

@@ -1,16 +1,5 @@
 -- Facts on lists, and on the lines of entries.
-use Rattle.std.proofs.Common.{◌≡◌, ◌∙◌, ap, refl, ◌<◌, ◌≤◌, ◌+◌, ◌-◌, ℕ, zero, suc, List, [], ◌∷◌, ◌++◌, length, arith, length-append}
-use Rattle.std.specs.Prelude.{Some, None, flat_map, replicate, slice_get}
-use Rattle.std.specs.List.{AllByRecursion}
-use Rattle.std.proofs.lemmas.List.{length-replicate, replicate_more}
-use Rattle.dk_trace.specs.Ranges.{HasLabel, HasOwnEvent, HasEntry}
-use Rattle.dk_ledger.specs.declared.line.LedgerLine.{LedgerLine}
-use Rattle.dk_ledger.specs.Heading.{Heading}
-use Rattle.dk_ledger.specs.Cuts.{entries_of, AreFilled, AreInTurn, AreApart}
-use Rattle.dk_ledger.specs.Ledgers.{last_of}
-use Rattle.dk_ledger.specs.Readable.{size_in}
-use Rattle.dk_ledger.specs.ReadSoFar.{IsApart}
-use Rattle.std.proofs.lemmas.Bool.Decides.{nat_tests}
+use Rattle.dk_ledger.proofs.Names.{◌≡◌, ◌∙◌, ap, refl, ◌<◌, ◌≤◌, ◌+◌, ◌-◌, ℕ, zero, suc, List, [], ◌∷◌, ◌++◌, length, arith, length-append, Some, None, flat_map, replicate, slice_get, AllByRecursion, length-replicate, replicate_more, HasLabel, HasOwnEvent, HasEntry, LedgerLine, Heading, entries_of, AreFilled, AreInTurn, AreApart, last_of, size_in, IsApart, nat_tests}
 
 module _ {A : Type 0} (P : A → Type 0) where
   pub all_front : (xs ys : List A) → AllByRecursion P (xs ++ ys) → AllByRecursion P xs

@@ -1,16 +1,5 @@
 -- The first word of a line tells what kind of item it is.
-use Rattle.std.proofs.Common.{◌≡◌, ◌∙◌, ◌≤◌, sym, refl, arith, ℕ, Bool, false, List, [], ◌∷◌, length, append-nil}
-use Rattle.std.specs.Prelude.{codes, decimal, Result, Ok, Err, IfOk}
-use Rattle.std.specs.Borrow.{Bor}
-use Rattle.std.specs.Char.{is_ascii_digit}
-use Rattle.std.proofs.lemmas.Bool.{eqb-false}
-use Rattle.dk_certify.specs.declared.table.TableRow.{TableRow}
-use Rattle.dk_ledger.specs.declared.header.ProcessLine.{ProcessLine}
-use Rattle.dk_ledger.specs.declared.line.LedgerLine.{LedgerLine}
-use Rattle.dk_ledger.specs.Heading.{level_body, process_body}
-use Rattle.dk_ledger.specs.LineText.{line_body}
-use Rattle.dk_ledger.specs.ReadSoFar.{Kept, Item, IsKept, TakesNone, LevelFits, ProcessFits, TicksFit, EndFits, end_body}
-use Rattle.dk_ledger.specs.Words.{texts, words_of, first_word}
+use Rattle.dk_ledger.proofs.Names.{◌≡◌, ◌∙◌, ◌≤◌, sym, refl, arith, ℕ, Bool, false, List, [], ◌∷◌, length, append-nil, codes, decimal, Result, Ok, Err, IfOk, Bor, is_ascii_digit, eqb-false, TableRow, ProcessLine, LedgerLine, level_body, process_body, line_body, Kept, Item, IsKept, TakesNone, LevelFits, ProcessFits, TicksFit, EndFits, end_body, texts, words_of, first_word}
 use Rattle.dk_ledger.proofs.Heads.{heads, begins_with_digit}
 use Rattle.dk_ledger.proofs.NextItem.{level_found, process_found, ticks_found, end_found}
 

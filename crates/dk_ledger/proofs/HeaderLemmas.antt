@@ -1,11 +1,5 @@
 -- The text of the lines of a header, taken apart at the first one.
-use Rattle.std.proofs.Common.{◌≡◌, ◌∙◌, sym, ap, ◌≤◌, ◌+◌, ◌-◌, ℕ, suc, add-one, List, [], ◌∷◌, ◌++◌, length, take, drop, get_or, arith, true}
-use Rattle.std.proofs.lemmas.List.{take_rest}
-use Rattle.std.specs.List.{list_all}
-use Rattle.dk_config.specs.Rules.{is_name}
-use Rattle.dk_certify.specs.declared.table.TableRow.{TableRow}
-use Rattle.dk_ledger.specs.declared.header.ProcessLine.{ProcessLine}
-use Rattle.dk_ledger.specs.Heading.{level_body, level_lines, process_body, process_lines, ended}
+use Rattle.dk_ledger.proofs.Names.{◌≡◌, ◌∙◌, sym, ap, ◌≤◌, ◌+◌, ◌-◌, ℕ, suc, add-one, List, [], ◌∷◌, ◌++◌, length, take, drop, get_or, arith, true, take_rest, list_all, is_name, TableRow, ProcessLine, level_body, level_lines, process_body, process_lines, ended}
 use Rattle.dk_ledger.proofs.NameLemmas.{both_left, both_right}
 
 -- all but the first, as a slice of the rest is seen

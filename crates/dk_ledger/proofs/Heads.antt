@@ -1,16 +1,5 @@
 -- Lines of different kinds are written differently.
-use Rattle.std.proofs.Common.{◌≡◌, ◌∙◌, sym, ap, refl, ◌<◌, ◌^◌, ◌++◌, ℕ, true, false, List, [], ◌∷◌, length, arith}
-use Rattle.std.specs.Prelude.{decimal}
-use Rattle.std.specs.Str.{all_ascii_digits}
-use Rattle.std.specs.Char.{is_ascii_digit}
-use Rattle.std.proofs.lemmas.Bool.{eqb-false}
-use Rattle.std.proofs.lemmas.Fmt.{digits_decimal, decimal_nonempty}
-use Rattle.dk_certify.specs.declared.table.TableRow.{TableRow}
-use Rattle.dk_ledger.specs.declared.header.ProcessLine.{ProcessLine}
-use Rattle.dk_ledger.specs.declared.line.LedgerLine.{LedgerLine}
-use Rattle.dk_ledger.specs.Heading.{Heading, level_body, process_body}
-use Rattle.dk_ledger.specs.LineText.{line_body}
-use Rattle.dk_ledger.specs.ReadSoFar.{end_body}
+use Rattle.dk_ledger.proofs.Names.{◌≡◌, ◌∙◌, sym, ap, refl, ◌<◌, ◌^◌, ◌++◌, ℕ, true, false, List, [], ◌∷◌, length, arith, decimal, all_ascii_digits, is_ascii_digit, eqb-false, digits_decimal, decimal_nonempty, TableRow, ProcessLine, LedgerLine, Heading, level_body, process_body, line_body, end_body}
 use Rattle.dk_ledger.proofs.NameLemmas.{both_left}
 use Rattle.dk_ledger.proofs.WordBytes.{own}
 use Rattle.dk_ledger.proofs.Split.{line_parted}

@@ -1,9 +1,6 @@
 -- What lies first in bytes, and what comes behind it.
-use Rattle.std.proofs.Common.{ℕ, ◌≡◌, ◌∙◌, ◌+◌, ◌*◌, ◌<◌, ◌^◌, ◌++◌, ◌∷◌, [], List, Option, sym, ap, arith, append_assoc}
-use Rattle.std.specs.Prelude.{decimal, IfSome, MatchOption}
-use Rattle.std.specs.Borrow.{Bor}
-use Rattle.std.proofs.lemmas.Fmt.{decimal_step}
-use Rattle.std.proofs.lemmas.Bool.Decides.{nat_tests}
+use Rattle.dk_ledger.proofs.Names.{ℕ, ◌≡◌, ◌∙◌, ◌+◌, ◌*◌, ◌<◌, ◌^◌, ◌++◌, ◌∷◌, [], List, sym, ap, arith, append_assoc, decimal, IfSome, MatchOption, Bor, decimal_step, nat_tests}
+use Rattle.std.proofs.Common.{Option}
 
 -- what lies behind a word that is the same as another
 pub behind_word : (r : Option (Bor (List ℕ))) (bytes word same : List ℕ) (P : Type 0) → word ≡ same → MatchOption r P (λ rest. bytes ≡ word ++ rest.now)

@@ -1,3 +1,4 @@
+pub mod Names
 pub mod NameLemmas
 pub mod HeaderLemmas
 pub mod AcceptedHeading

@@ -1,20 +1,6 @@
 -- The lines of a ledger's text are those of its items.
-use Rattle.std.proofs.Common.{◌≡◌, ◌∙◌, sym, ap, refl, ◌<◌, ℕ, suc, Bool, true, false, List, [], ◌∷◌, ◌++◌, length, arith, append_assoc, append-nil, map}
-use Rattle.std.specs.Prelude.{◌==◌, All}
-use Rattle.std.specs.List.{AllByRecursion, list_all}
-use Rattle.std.proofs.lemmas.List.Splits.{slice_split_at, slice_split_none, length-slice_split}
-use Rattle.std.proofs.lemmas.Grind.{flat_map-append}
-use Rattle.dk_certify.specs.declared.table.TableRow.{TableRow}
-use Rattle.dk_ledger.specs.declared.header.ProcessLine.{ProcessLine}
-use Rattle.dk_ledger.specs.declared.line.LedgerLine.{LedgerLine}
-use Rattle.dk_ledger.specs.Heading.{Heading, level_body, process_body, level_lines, process_lines, ended}
-use Rattle.dk_ledger.specs.LineText.{line_body, lines_text}
-use Rattle.dk_ledger.specs.Lines.{lines_of}
-use Rattle.dk_ledger.specs.Ledgers.{end_line}
-use Rattle.dk_ledger.specs.Readable.{Journal, text_of, lines_in, without_last}
-use Rattle.dk_ledger.specs.ReadSoFar.{end_body, level_bodies, bodies_of, whole, fed}
+use Rattle.dk_ledger.proofs.Names.{◌≡◌, ◌∙◌, sym, ap, refl, ◌<◌, ℕ, suc, Bool, true, false, List, [], ◌∷◌, ◌++◌, length, arith, append_assoc, append-nil, map, ◌==◌, All, AllByRecursion, list_all, slice_split_at, slice_split_none, length-slice_split, flat_map-append, TableRow, ProcessLine, LedgerLine, Heading, level_body, process_body, level_lines, process_lines, ended, line_body, lines_text, lines_of, end_line, Journal, text_of, lines_in, without_last, end_body, level_bodies, bodies_of, whole, fed, nat_tests}
 use Rattle.dk_ledger.proofs.PrintedLines.{is_plain, no_feeds}
-use Rattle.std.proofs.lemmas.Bool.Decides.{nat_tests}
 
 levels_fed : (j : ℕ) (rows : List TableRow) → level_lines j rows ≡ fed (level_bodies j rows)
 levels_fed j [] = refl

@@ -1,18 +1,6 @@
 -- The names of a header are short, and those of a checked configuration make a printable header.
-use Rattle.std.proofs.Common.{◌≡◌, ◌∙◌, ◌<◌, ◌≤◌, ℕ, zero, suc, Bool, true, List, [], ◌∷◌, length, map, get_or, arith, refl, ap, sym, subst, take, ◌++◌, ◌+◌, add-one}
-use Rattle.std.specs.Prelude.{◌&&◌, Some, slice_get, All}
-use Rattle.std.specs.List.{list_all}
-use Rattle.std.specs.Option.{option_map_or}
+use Rattle.dk_ledger.proofs.Names.{◌≡◌, ◌∙◌, ◌<◌, ◌≤◌, ℕ, zero, suc, Bool, true, List, [], ◌∷◌, length, map, get_or, arith, refl, ap, sym, subst, take, ◌++◌, ◌+◌, add-one, ◌&&◌, slice_get, All, list_all, option_map_or, slice_get-get_or, Configuration, IsChecked, IsWithinLimits, is_name, ProcessRow, TableRow, ProcessLine, Heading, IsPrintable, heading_of, line_of_row, nat_tests}
 pub use Rattle.std.proofs.lemmas.Bool.{and_from as both}
-use Rattle.std.proofs.lemmas.Option.{slice_get-get_or}
-use Rattle.dk_config.specs.Configuration.{Configuration}
-use Rattle.dk_config.specs.Checked.{IsChecked, IsWithinLimits}
-use Rattle.dk_config.specs.Rules.{is_name}
-use Rattle.dk_config.specs.declared.rows.ProcessRow.{ProcessRow}
-use Rattle.dk_certify.specs.declared.table.TableRow.{TableRow}
-use Rattle.dk_ledger.specs.declared.header.ProcessLine.{ProcessLine}
-use Rattle.dk_ledger.specs.Heading.{Heading, IsPrintable, heading_of, line_of_row}
-use Rattle.std.proofs.lemmas.Bool.Decides.{nat_tests}
 
 pub both_left : (a b : Bool) → (a && b) ≡ true → a ≡ true
 both_left a b h = grind (arith, nat_tests)
@@ -44,15 +32,6 @@ levels_fit c checked limits k d below = grind (arith, nat_tests, slice_get-get_o
 
 pub is_printable_as : (h : Heading) (c : Configuration) (table : List TableRow) → h ≡ heading_of c table → IsWithinLimits c → length table ≡ length c.levels → IsPrintable h
 is_printable_as h c table is limits one_each = subst IsPrintable (sym is) (is_printable c table limits one_each)
-
--- one more element of a list
-pub take_row : {A : Type 0} (xs : List A) (i : ℕ) (x : A) → slice_get xs i ≡ Some x → take (i + 1) xs ≡ take i xs ++ x ∷ []
-take_row xs i x is = ap (λ n. take n xs) (add-one i) ∙ go xs i is
-  where
-    go : (ys : List _) (j : ℕ) → slice_get ys j ≡ Some x → take (suc j) ys ≡ take j ys ++ x ∷ []
-    go [] j h = absurd (cc)
-    go (y ∷ ys) zero h = let same : y ≡ x = cc in ap (λ z. z ∷ []) same
-    go (y ∷ ys) (suc j) h = ap (λ zs. y ∷ zs) (go ys j h)
 
 pub take_all : {A : Type 0} (xs : List A) → take (length xs) xs ≡ xs
 take_all [] = refl

@@ -1,23 +1,7 @@
 -- What the words of a line tell of the item that may come next.
-use Rattle.std.proofs.Common.{◌≡◌, ◌∙◌, ◌<◌, ◌≤◌, ◌+◌, ap, refl, subst, arith, ℕ, zero, suc, Bool, true, false, List, [], ◌∷◌, length}
-use Rattle.std.specs.Prelude.{Some, None, Result, Ok, Err, IfOk, ◌||◌, slice_get, not, cond}
-use Rattle.std.proofs.lemmas.Bool.{ltb-true, ltb-false, or_parts}
-use Rattle.std.specs.Borrow.{Bor}
-use Rattle.std.specs.List.{list_any, list_all, position, prefix_len, AllByRecursion}
-use Rattle.std.specs.Option.{option_map_or}
-use Rattle.std.specs.Str.{bytes_eq}
-use Rattle.dk_config.specs.Rules.{is_name}
-use Rattle.dk_certify.specs.declared.table.TableRow.{TableRow}
-use Rattle.dk_ledger.specs.declared.header.ProcessLine.{ProcessLine}
-use Rattle.dk_ledger.specs.declared.line.LedgerLine.{LedgerLine}
-use Rattle.dk_ledger.specs.Heading.{IsPrintable, level_body, process_body}
-use Rattle.dk_ledger.specs.LineText.{line_body}
-use Rattle.dk_ledger.specs.Readable.{IsProcessLine}
-use Rattle.dk_ledger.specs.ReadSoFar.{Kept, IsKept, LevelFits, ProcessFits, TicksFit, end_body}
-use Rattle.dk_ledger.specs.Words.{texts, words_of, level_words, process_words, line_words, end_words}
+use Rattle.dk_ledger.proofs.Names.{◌≡◌, ◌∙◌, ◌<◌, ◌≤◌, ◌+◌, ap, refl, subst, arith, ℕ, zero, suc, Bool, true, false, List, [], ◌∷◌, length, Some, None, Result, Ok, Err, IfOk, ◌||◌, slice_get, not, cond, ltb-true, ltb-false, or_parts, Bor, list_any, list_all, position, prefix_len, AllByRecursion, option_map_or, bytes_eq, is_name, TableRow, ProcessLine, LedgerLine, IsPrintable, level_body, process_body, line_body, IsProcessLine, Kept, IsKept, LevelFits, ProcessFits, TicksFit, end_body, texts, words_of, level_words, process_words, line_words, end_words, nat_tests}
 use Rattle.dk_ledger.proofs.NameLemmas.{both}
 use Rattle.dk_ledger.proofs.Split.{cut_level, cut_process, cut_line, cut_end}
-use Rattle.std.proofs.lemmas.Bool.Decides.{nat_tests}
 
 pub nothing : {A : Type 0} {x : A} → None ≡ Some x → ⊥
 nothing e = cc

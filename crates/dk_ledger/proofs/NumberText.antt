@@ -1,11 +1,5 @@
 -- How long a number is in decimal, and what a buffer holds after one was written into it.
-use Rattle.std.proofs.Common.{ℕ, ◌≡◌, ◌∙◌, ◌+◌, ◌-◌, ◌/◌, ◌%◌, ◌<◌, ◌≤◌, ◌^◌, List, [], ◌∷◌, ◌++◌, length, take, drop, get_or, arith, ap, sym, length-append, append_assoc}
-use Rattle.std.specs.Prelude.{decimal, slice_set}
-use Rattle.std.proofs.Math.Seq.{take-add, take-append_seam, take-append-add, get_or-append_seam}
-use Rattle.std.proofs.lemmas.Fmt.{decimal_step}
-use Rattle.std.proofs.lemmas.List.{take_more_set, length-take, length-take-le, drop-take, get_or-take}
-use Rattle.itoa.proofs.Decimal.{length_one, length_two, length_pair, length_four}
-use Rattle.std.proofs.lemmas.Bool.Decides.{nat_tests}
+use Rattle.dk_ledger.proofs.Names.{ℕ, ◌≡◌, ◌∙◌, ◌+◌, ◌-◌, ◌/◌, ◌%◌, ◌<◌, ◌≤◌, ◌^◌, List, [], ◌∷◌, ◌++◌, length, take, drop, get_or, arith, ap, sym, length-append, append_assoc, decimal, slice_set, take-add, take-append_seam, take-append-add, get_or-append_seam, decimal_step, take_more_set, length-take, length-take-le, drop-take, get_or-take, length_one, length_two, length_pair, length_four, nat_tests}
 
 pub length_three : (n : ℕ) → 100 ≤ n → n < 1000 → length (decimal n) ≡ 3
 length_three n low high = omega (arith, length_pair n low (omega arith), length_one (n / 100) (omega arith))

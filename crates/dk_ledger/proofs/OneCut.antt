@@ -1,13 +1,5 @@
 -- There is exactly one cut of a list of entries into lines.
-use Rattle.std.proofs.Common.{◌≡◌, ◌∙◌, sym, ap, refl, ◌<◌, ◌+◌, ◌-◌, ℕ, zero, suc, Bool, true, false, List, [], ◌∷◌, ◌++◌, arith}
-use Rattle.std.specs.Prelude.{Option, None, if◌then◌else◌, flat_map, replicate}
-use Rattle.dk_trace.specs.declared.Label.{Label}
-use Rattle.dk_trace.specs.declared.Event.{Event}
-use Rattle.dk_trace.specs.declared.Entry.{Entry}
-use Rattle.dk_ledger.specs.declared.line.LedgerLine.{LedgerLine}
-use Rattle.dk_ledger.specs.Lines.{same_label, joins, single, put_before, lines_from, lines_of}
-use Rattle.dk_ledger.specs.Cuts.{entries_of, AreFilled, AreInTurn, AreApart, IsCutFrom, IsCut}
-use Rattle.std.proofs.lemmas.Bool.Decides.{nat_tests}
+use Rattle.dk_ledger.proofs.Names.{◌≡◌, ◌∙◌, sym, ap, refl, ◌<◌, ◌+◌, ◌-◌, ℕ, zero, suc, Bool, true, false, List, [], ◌∷◌, ◌++◌, arith, Option, None, if◌then◌else◌, flat_map, replicate, Label, Event, Entry, LedgerLine, same_label, joins, single, put_before, lines_from, lines_of, entries_of, AreFilled, AreInTurn, AreApart, IsCutFrom, IsCut, nat_tests}
 
 pub same_label-self : (l : Label) → same_label l l ≡ true
 same_label-self l = grind (arith, nat_tests)

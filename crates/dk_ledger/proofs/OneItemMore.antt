@@ -1,27 +1,7 @@
 -- With one item more, what has been read is again what may have been read, and its line comes last.
-use Rattle.std.proofs.Common.{◌≡◌, ◌∙◌, sym, ap, refl, subst, ◌<◌, ◌≤◌, ◌+◌, ℕ, suc, Bool, true, false, List, [], ◌∷◌, ◌++◌, length, arith, append_assoc, append-nil, zero-add, map, length-append, inl, inr, ◌-◌}
-use Rattle.std.specs.Prelude.{codes, Some, None, flat_map, replicate, if◌then◌else◌}
-use Rattle.std.specs.List.{AllByRecursion}
-use Rattle.std.specs.Option.{option_map_or}
-use Rattle.std.specs.Str.{bytes_eq}
-use Rattle.std.proofs.lemmas.Bool.{cases_order}
-use Rattle.std.proofs.lemmas.Grind.{flat_map-append}
-use Rattle.std.proofs.lemmas.List.{map-append, nil_from_length}
-use Rattle.dk_certify.specs.declared.table.TableRow.{TableRow}
-use Rattle.dk_trace.specs.declared.Entry.{Entry}
-use Rattle.dk_trace.specs.Ranges.{HasEntry, HasLabel, HasOwnEvent}
-use Rattle.dk_ledger.specs.declared.header.ProcessLine.{ProcessLine}
-use Rattle.dk_ledger.specs.declared.line.LedgerLine.{LedgerLine}
-use Rattle.dk_ledger.specs.Heading.{Heading, level_body, process_body, name_of}
-use Rattle.dk_ledger.specs.LineText.{line_body}
-use Rattle.dk_ledger.specs.Lines.{lines_of}
-use Rattle.dk_ledger.specs.Cuts.{entries_of, IsCut}
-use Rattle.dk_ledger.specs.Ledgers.{last_of}
-use Rattle.dk_ledger.specs.Readable.{Journal, IsReadable, IsLevelRow, IsProcessLine, HaveOwnNames, size_in}
-use Rattle.dk_ledger.specs.ReadSoFar.{Part, Item, IsPart, IsKept, Fits, TicksFit, IsApart, item_body, end_body, level_bodies, bodies_of, kept, keeping, with_item, with_level, with_process, whole}
+use Rattle.dk_ledger.proofs.Names.{◌≡◌, ◌∙◌, sym, ap, refl, subst, ◌<◌, ◌≤◌, ◌+◌, ℕ, suc, Bool, true, false, List, [], ◌∷◌, ◌++◌, length, arith, append_assoc, append-nil, zero-add, map, length-append, inl, inr, ◌-◌, codes, Some, None, flat_map, replicate, if◌then◌else◌, AllByRecursion, option_map_or, bytes_eq, cases_order, flat_map-append, map-append, nil_from_length, TableRow, Entry, HasEntry, HasLabel, HasOwnEvent, ProcessLine, LedgerLine, Heading, level_body, process_body, name_of, line_body, lines_of, entries_of, IsCut, last_of, Journal, IsReadable, IsLevelRow, IsProcessLine, HaveOwnNames, size_in, Part, Item, IsPart, IsKept, Fits, TicksFit, IsApart, item_body, end_body, level_bodies, bodies_of, kept, keeping, with_item, with_level, with_process, whole, nat_tests}
 use Rattle.dk_ledger.proofs.OneCut.{is_cut, only_cut}
 use Rattle.dk_ledger.proofs.EntryLists.{all_both, all_same, get_front, get_seam, filled_more, in_turn_more, apart_more, length-entries}
-use Rattle.std.proofs.lemmas.Bool.Decides.{nat_tests}
 
 levels_more : (j : ℕ) (rows : List TableRow) (row : TableRow) → level_bodies j (rows ++ row ∷ []) ≡ level_bodies j rows ++ level_body (j + length rows) row ∷ []
 levels_more j [] row = grind (arith, nat_tests)

@@ -1,36 +1,9 @@
 -- Lines that are written alike are the same.
-use Rattle.std.proofs.Common.{inl, inr, ◌≡◌, ◌∙◌, sym, ap, refl, ◌<◌, ◌≤◌, ◌^◌, ℕ, Bool, true, false, List, [], ◌∷◌, length, arith, append_assoc}
-use Rattle.std.specs.Prelude.{◌==◌, if◌then◌else◌, Option, Some, None, codes, decimal, All}
-use Rattle.std.specs.List.{list_all, slice_split}
-use Rattle.std.specs.Str.{bytes_eq}
-use Rattle.std.proofs.lemmas.List.Splits.{slice_split_at, slice_split_none}
-use Rattle.std.proofs.lemmas.Fmt.{decimal_injective}
-use Rattle.std.proofs.lemmas.Slice.Eq.{bytes_eq-Decides}
-use Rattle.std.proofs.lemmas.Bool.{eqb-false, cases_order}
-use Rattle.dk_config.specs.Rules.{is_name}
-use Rattle.dk_isa.specs.declared.FaultKind.{FaultKind}
-use Rattle.dk_trace.specs.declared.ThreadId.{ThreadId}
-use Rattle.dk_trace.specs.declared.Source.{Source}
-use Rattle.dk_trace.specs.declared.Work.{Work}
-use Rattle.dk_trace.specs.declared.Label.{Label}
-use Rattle.dk_trace.specs.declared.Event.{Event}
-use Rattle.dk_trace.specs.declared.Refusal.{Refusal}
-use Rattle.dk_trace.specs.Refusals.{number}
-use Rattle.dk_trace.specs.Says.{word_of}
-use Rattle.dk_trace.specs.Ranges.{HasThread, HasSource, HasLabel, HasOwnEvent}
-use Rattle.dk_trace.proofs.Same.{make-id}
-use Rattle.dk_certify.specs.declared.table.TableRow.{TableRow}
-use Rattle.dk_ledger.specs.declared.header.ProcessLine.{ProcessLine}
-use Rattle.dk_ledger.specs.declared.line.LedgerLine.{LedgerLine}
-use Rattle.dk_ledger.specs.Heading.{Heading, level_body, process_body, name_of}
-use Rattle.dk_ledger.specs.LineText.{thread_text, work_text, fault_text, line_body}
-use Rattle.dk_ledger.specs.Readable.{IsLevelRow, IsProcessLine, HaveOwnNames, size_in}
-use Rattle.dk_ledger.specs.Words.{level_words, process_words, source_words, label_words, event_words, words_of}
+use Rattle.dk_ledger.proofs.Names.{inl, inr, ◌≡◌, ◌∙◌, sym, ap, refl, ◌<◌, ◌≤◌, ◌^◌, ℕ, Bool, true, false, List, [], ◌∷◌, length, arith, append_assoc, ◌==◌, if◌then◌else◌, Option, Some, None, codes, decimal, All, list_all, slice_split, bytes_eq, slice_split_at, slice_split_none, decimal_injective, bytes_eq-Decides, eqb-false, cases_order, is_name, FaultKind, ThreadId, Source, Work, Label, Event, Refusal, number, word_of, HasThread, HasSource, HasLabel, HasOwnEvent, make-id, TableRow, ProcessLine, LedgerLine, Heading, level_body, process_body, name_of, thread_text, work_text, fault_text, line_body, IsLevelRow, IsProcessLine, HaveOwnNames, size_in, level_words, process_words, source_words, label_words, event_words, words_of, nat_tests}
 use Rattle.dk_ledger.proofs.WordBytes.{is_no_dot, all_no_dots, decimal_no_dots, name_at_no_dots}
 use Rattle.dk_ledger.proofs.Split.{cut_level, cut_process, cut_line, refusal_small}
 use Rattle.dk_ledger.proofs.EntryLists.{IsReadableLine}
 use Rattle.dk_ledger.proofs.NextItem.{one_side}
-use Rattle.std.proofs.lemmas.Bool.Decides.{nat_tests}
 
 same_number : (m n : ℕ) → m < 2 ^ 32 → n < 2 ^ 32 → decimal m ≡ decimal n → m ≡ n
 same_number m n hm hn e = decimal_injective m n (omega arith) (omega arith) e

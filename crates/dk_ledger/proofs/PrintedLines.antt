@@ -1,19 +1,5 @@
 -- The lines of a ledger are printed bytes, without line feeds.
-use Rattle.std.proofs.Common.{◌≡◌, ◌∙◌, ◌<◌, ap, refl, arith, ℕ, zero, suc, Bool, true, false, List, [], ◌∷◌, length, get_or}
-use Rattle.std.specs.Prelude.{◌&&◌, ◌==◌, nat_lt, All}
-use Rattle.std.specs.List.{list_all}
-use Rattle.std.specs.Str.{IsUtf8}
-use Rattle.std.proofs.lemmas.Str.{IsUtf8-from_ascii}
-use Rattle.std.proofs.lemmas.Bool.Decides.{nat_tests}
-use Rattle.dk_config.specs.Rules.{is_name}
-use Rattle.dk_certify.specs.declared.table.TableRow.{TableRow}
-use Rattle.dk_ledger.specs.declared.header.ProcessLine.{ProcessLine}
-use Rattle.dk_ledger.specs.declared.line.LedgerLine.{LedgerLine}
-use Rattle.dk_ledger.specs.Heading.{Heading, level_body, process_body}
-use Rattle.dk_ledger.specs.LineText.{line_body}
-use Rattle.dk_ledger.specs.Parted.{parted}
-use Rattle.dk_ledger.specs.ReadSoFar.{Kept, Item, IsKept, Fits, item_body, end_body}
-use Rattle.dk_ledger.specs.Words.{AreSpelled, end_words, is_spelled, level_words, line_words, process_words}
+use Rattle.dk_ledger.proofs.Names.{◌≡◌, ◌∙◌, ◌<◌, ap, refl, arith, ℕ, zero, suc, Bool, true, false, List, [], ◌∷◌, length, get_or, ◌&&◌, ◌==◌, nat_lt, All, list_all, IsUtf8, IsUtf8-from_ascii, nat_tests, is_name, TableRow, ProcessLine, LedgerLine, Heading, level_body, process_body, line_body, parted, Kept, Item, IsKept, Fits, item_body, end_body, AreSpelled, end_words, is_spelled, level_words, line_words, process_words}
 use Rattle.dk_ledger.proofs.NameLemmas.{both_left, both_right}
 use Rattle.dk_ledger.proofs.Spelled.{end_spelled, level_spelled, line_spelled, parted_all, process_line_spelled}
 use Rattle.dk_ledger.proofs.Split.{level_parted, process_parted, end_parted, line_parted}
@@ -42,10 +28,7 @@ pub end_plain : (n : ℕ) → list_all is_plain (end_body n) ≡ true
 end_plain n = ap (list_all is_plain) (end_parted n) ∙ words_plain (end_words n) (end_spelled n)
 
 pub item_plain : (p : Kept) (i : Item) → IsKept p → Fits p i → list_all is_plain (item_body p i) ≡ true
-item_plain p (Item.Level row) part fits = level_plain (length p.heading.levels) row
-item_plain p (Item.Process q) part fits = process_plain q fits.readable.name
-item_plain p (Item.Ticks l) part fits = line_plain p.heading (part_printable p part).names l
-item_plain p Item.End part fits = end_plain p.ticks
+item_plain p i part fits = grind (arith, nat_tests, level_plain, process_plain, line_plain, part_printable, end_plain)
 
 plain_at : (bs : List ℕ) → list_all is_plain bs ≡ true → (i : ℕ) → get_or bs i 0 < 128
 plain_at [] h i = omega arith

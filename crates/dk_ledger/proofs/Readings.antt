@@ -1,25 +1,5 @@
 -- What a reader has found when it stops.
-use Rattle.std.proofs.Common.{inl, inr, ◌≡◌, ◌∙◌, sym, ap, refl, subst, ◌<◌, ◌≤◌, ◌+◌, ℕ, zero, suc, Bool, true, false, List, [], ◌∷◌, ◌++◌, length, arith, append_assoc, append-nil, map, take, drop, get_or, length-append}
-use Rattle.std.proofs.lemmas.List.{length-map, get_or-take, length-take, take-append-le}
-use Rattle.std.proofs.lemmas.Grind.{flat_map-append}
-use Rattle.std.proofs.lemmas.Bool.{eqb-true, ltb-false}
-use Rattle.std.proofs.lemmas.List.Quantifiers.{position-Some}
-use Rattle.std.specs.Prelude.{Option, Some, None, IfSome, Result, Err, IsErrOf, MatchOption, ◌==◌, not, All, if◌then◌else◌, flat_map}
-use Rattle.std.specs.Result.{IsErrAnd}
-use Rattle.std.specs.Borrow.{Bor}
-use Rattle.std.specs.List.{AllByRecursion, list_all, position, prefix_len}
-use Rattle.std.proofs.lemmas.List.{append_cancel_left}
-use Rattle.dk_config.specs.Rules.{is_name}
-use Rattle.dk_trace.specs.declared.Entry.{Entry}
-use Rattle.dk_certify.specs.declared.table.TableRow.{TableRow}
-use Rattle.dk_ledger.specs.declared.header.ProcessLine.{ProcessLine}
-use Rattle.dk_ledger.specs.declared.line.LedgerLine.{LedgerLine}
-use Rattle.dk_ledger.specs.Heading.{Heading, IsPrintable, process_body, ended}
-use Rattle.dk_ledger.specs.LineText.{line_body}
-use Rattle.dk_ledger.specs.Lines.{lines_of}
-use Rattle.dk_ledger.specs.Cuts.{entries_of, AreFilled}
-use Rattle.dk_ledger.specs.Readable.{Journal, IsReadable, IsProcessLine, ShareLines, IsWrongLine, IsNoText, lines_in, text_of}
-use Rattle.dk_ledger.specs.ReadSoFar.{Part, Kept, Item, IsPart, Takes, TakesNone, Reading, HasRead, HasReadAll, GoesFurther, IsGiven, ComesNext, IsFrontOf, TicksFit, kept, part_of, keeping, entries_in, item_body, Fits, with_item, end_body, end_bodies, level_bodies, bodies_of, whole, fed}
+use Rattle.dk_ledger.proofs.Names.{inl, inr, ◌≡◌, ◌∙◌, sym, ap, refl, subst, ◌<◌, ◌≤◌, ◌+◌, ℕ, zero, suc, Bool, true, false, List, [], ◌∷◌, ◌++◌, length, arith, append_assoc, append-nil, map, take, drop, get_or, length-append, length-map, get_or-take, length-take, take-append-le, flat_map-append, eqb-true, ltb-false, position-Some, Option, Some, None, IfSome, Result, Err, IsErrOf, MatchOption, ◌==◌, not, All, if◌then◌else◌, flat_map, IsErrAnd, Bor, AllByRecursion, list_all, position, prefix_len, append_cancel_left, is_name, Entry, TableRow, ProcessLine, LedgerLine, Heading, IsPrintable, process_body, ended, line_body, lines_of, entries_of, AreFilled, Journal, IsReadable, IsProcessLine, ShareLines, IsWrongLine, IsNoText, lines_in, text_of, Part, Kept, Item, IsPart, Takes, TakesNone, Reading, HasRead, HasReadAll, GoesFurther, IsGiven, ComesNext, IsFrontOf, TicksFit, kept, part_of, keeping, entries_in, item_body, Fits, with_item, end_body, end_bodies, level_bodies, bodies_of, whole, fed, nat_tests}
 use Rattle.dk_ledger.proofs.NameLemmas.{take_all}
 use Rattle.dk_ledger.proofs.OneCut.{is_cut}
 use Rattle.dk_ledger.proofs.EntryLists.{all_both, length-entries}
@@ -28,7 +8,6 @@ use Rattle.dk_ledger.proofs.NextItem.{names_fit, nothing, one_side, part_printab
 use Rattle.dk_ledger.proofs.Continuing.{Goes, continues, first_of}
 use Rattle.dk_ledger.proofs.LineCuts.{text_fed, lines_before, no_line, one_line_before}
 use Rattle.dk_ledger.proofs.OneItemMore.{goes_on, as_journal, is_part, is_kept, bodies_more, kept_more}
-use Rattle.std.proofs.lemmas.Bool.Decides.{nat_tests}
 
 no_cons : {A : Type 0} {x : A} {xs : List A} → x ∷ xs ≡ [] → ⊥
 no_cons e = cc
@@ -57,14 +36,7 @@ module _ (p : Part) (part : IsPart p) where
   plain_end b = grind (arith, nat_tests, end_plain)
 
   pub bodies_plain : ArePlain (bodies_of p)
-  bodies_plain =
-      let P = λ (b : List ℕ). list_all is_plain b ≡ true in
-      let levels = level_bodies 0 p.heading.levels in
-      let processes = map process_body p.heading.processes in
-      let lines = map (line_body p.heading) (lines_of p.entries) in
-      all_both P levels (processes ++ (lines ++ end_bodies p)) (plain_levels 0 p.heading.levels)
-      (all_both P processes (lines ++ end_bodies p) (plain_processes (length p.heading.levels) p.heading.processes part.processes)
-      (all_both P lines (end_bodies p) (plain_lines p.heading (names_fit (length p.heading.levels) p.heading.processes part.processes) (lines_of p.entries)) (plain_end p.ended)))
+  bodies_plain = grind (arith, nat_tests, is_plain, all_both, plain_levels, plain_processes, plain_lines, names_fit, plain_end)
 
 lines_of_text : (j : Journal) → IsReadable j → lines_in (text_of j) ≡ bodies_of (whole j)
 lines_of_text j is =

@@ -1,27 +1,6 @@
 -- The lines of a ledger, cut at their blanks.
-use Rattle.std.proofs.Common.{◌≡◌, ◌∙◌, sym, ap, refl, ◌<◌, ◌≤◌, ℕ, zero, suc, Bool, true, false, List, [], ◌∷◌, ◌++◌, length, get_or, arith, append_assoc, append-nil, take}
-use Rattle.std.specs.Prelude.{◌==◌, Option, Some, None, codes, decimal, All}
-use Rattle.std.specs.List.{list_all, slice_split}
-use Rattle.std.proofs.lemmas.List.Splits.{slice_split_at, slice_split_none}
-use Rattle.std.proofs.lemmas.Bool.Decides.{nat_tests}
-use Rattle.std.proofs.lemmas.List.{take_all}
-use Rattle.dk_trace.specs.declared.ThreadId.{ThreadId}
-use Rattle.dk_trace.specs.declared.Source.{Source}
-use Rattle.dk_trace.specs.declared.Work.{Work}
-use Rattle.dk_trace.specs.declared.Label.{Label}
-use Rattle.dk_trace.specs.declared.Event.{Event}
-use Rattle.dk_trace.specs.declared.Refusal.{Refusal}
-use Rattle.dk_trace.specs.Refusals.{number}
-use Rattle.dk_certify.specs.declared.table.TableRow.{TableRow}
-use Rattle.dk_ledger.specs.declared.header.ProcessLine.{ProcessLine}
-use Rattle.dk_ledger.specs.declared.line.LedgerLine.{LedgerLine}
-use Rattle.dk_ledger.specs.Heading.{Heading, level_body, process_body}
-use Rattle.dk_ledger.specs.LineText.{thread_text, work_text, slack_text, label_text, event_part, line_body}
-use Rattle.dk_ledger.specs.Parted.{behind, parted}
-use Rattle.dk_ledger.specs.ReadSoFar.{end_body}
-use Rattle.dk_ledger.specs.Words.{level_words, process_words, end_words, source_words, label_words, event_words, line_words, words_of, AreSpelled, IsSpelled, is_spelled}
+use Rattle.dk_ledger.proofs.Names.{◌≡◌, ◌∙◌, sym, ap, refl, ◌<◌, ◌≤◌, ℕ, zero, suc, Bool, true, false, List, [], ◌∷◌, ◌++◌, length, get_or, arith, append_assoc, append-nil, take, ◌==◌, Option, codes, decimal, All, list_all, slice_split, slice_split_at, slice_split_none, nat_tests, take_all, ThreadId, Source, Work, Label, Event, Refusal, number, TableRow, ProcessLine, LedgerLine, Heading, level_body, process_body, thread_text, work_text, slack_text, label_text, event_part, line_body, behind, parted, end_body, level_words, process_words, end_words, source_words, label_words, event_words, line_words, words_of, AreSpelled, IsSpelled, is_spelled, is_name}
 use Rattle.dk_ledger.proofs.NameLemmas.{both_left, both_right}
-use Rattle.dk_config.specs.Rules.{is_name}
 use Rattle.dk_ledger.proofs.Spelled.{end_spelled, level_spelled, line_spelled, process_line_spelled}
 
 abbrev is_blank : ℕ → Bool
@@ -41,8 +20,7 @@ cut_parted w [] all = ap (slice_split is_blank) (append-nil w) ∙ slice_split_n
 cut_parted w (v ∷ ws) all = slice_split_at is_blank w 32 (parted 32 (v ∷ ws)) (no_blanks w all.0) refl ∙ ap (λ rest. w ∷ rest) (cut_parted v ws all.1)
 
 cut_words : (ws : List (List ℕ)) → 0 < length ws → AreSpelled ws → slice_split (λ b. b == 32) (parted 32 ws) ≡ ws
-cut_words [] some all = absurd (omega arith)
-cut_words (w ∷ ws) some all = cut_parted w ws all
+cut_words ws some all = grind (arith, nat_tests, cut_parted)
 
 pub level_parted : (j : ℕ) (row : TableRow) → level_body j row ≡ parted 32 (level_words j row)
 level_parted j row = simp (append_assoc, append-nil)
@@ -67,12 +45,10 @@ slack_behind h x (Source.Reclaimed j) work more =
     ∙ words_behind ((codes "slack reclaimed " ++ decimal j) ++ 32 ∷ []) (work_text work) (thread_text h x) (behind 32 more)
 
 label_behind : (h : Heading) (label : Label) (more : List (List ℕ)) → behind 32 (label_words h label more) ≡ 32 ∷ (label_text h label ++ behind 32 more)
-label_behind h (Label.Slack x source work) more = ap (λ t. 32 ∷ t) (slack_behind h x source work more)
-label_behind h label more = grind (arith, nat_tests)
+label_behind h label more = grind (arith, nat_tests, slack_behind)
 
 event_behind : (event : Option Event) → event_part event ≡ behind 32 (event_words event)
-event_behind None = refl
-event_behind (Some event) = refl
+event_behind event = grind (arith, nat_tests)
 
 pub line_parted : (h : Heading) (l : LedgerLine) → line_body h l ≡ parted 32 (line_words h l)
 line_parted h l =

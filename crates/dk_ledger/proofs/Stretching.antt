@@ -1,15 +1,6 @@
 -- What entries of one label do to the last line, and to the text.
-use Rattle.std.proofs.Common.{◌≡◌, ◌∙◌, sym, ap, subst, ◌≤◌, ◌+◌, ◌-◌, ℕ, zero, suc, List, [], ◌∷◌, ◌++◌, append_assoc, append-nil, add-zero, arith}
-use Rattle.std.specs.Prelude.{Option, Some, None, replicate}
-use Rattle.std.proofs.lemmas.List.{replicate_more}
-use Rattle.dk_trace.specs.declared.Entry.{Entry}
-use Rattle.dk_trace.specs.Entries.{quiet}
-use Rattle.dk_ledger.specs.declared.line.LedgerLine.{LedgerLine}
-use Rattle.dk_ledger.specs.Heading.{Heading}
-use Rattle.dk_ledger.specs.Ledgers.{Progress, IsAfter, closed_text, last_after, closing_text}
-use Rattle.dk_ledger.specs.Stretches.{last_after_stretch, lengthened, stretch_of}
+use Rattle.dk_ledger.proofs.Names.{◌≡◌, ◌∙◌, sym, ap, subst, ◌≤◌, ◌+◌, ◌-◌, ℕ, zero, suc, List, [], ◌∷◌, ◌++◌, append_assoc, append-nil, add-zero, arith, Option, Some, None, replicate, replicate_more, Entry, quiet, LedgerLine, Heading, Progress, IsAfter, closed_text, last_after, closing_text, last_after_stretch, lengthened, stretch_of, nat_tests}
 use Rattle.dk_ledger.proofs.CutLemmas.{closed_text-append, is_after_next}
-use Rattle.std.proofs.lemmas.Bool.Decides.{nat_tests}
 
 -- the last line after an entry has its label
 last_label : (o : Option LedgerLine) (n : ℕ) (e : Entry) → (last_after o n e).label ≡ e.label

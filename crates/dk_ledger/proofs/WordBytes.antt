@@ -1,19 +1,5 @@
 -- Which bytes the words of a line have, and where a name stands in a header.
-use Rattle.std.proofs.Common.{◌≡◌, ◌≢◌, ◌∙◌, sym, ap, refl, subst, ◌<◌, ◌≤◌, ◌+◌, ◌^◌, ℕ, zero, suc, Bool, true, false, List, [], ◌∷◌, length, get_or, arith}
-use Rattle.std.specs.Prelude.{◌==◌, not, cond, nat_lt, Option, Some, None, slice_get, decimal}
-use Rattle.std.specs.List.{list_all, position, prefix_len}
-use Rattle.std.specs.Option.{option_map_or}
-use Rattle.std.specs.Str.{bytes_eq, all_ascii_digits}
-use Rattle.std.proofs.lemmas.Bool.{lt-ltb}
-use Rattle.std.proofs.lemmas.Bool.Decides.{nat_tests}
-use Rattle.std.proofs.lemmas.Slice.Eq.{bytes_eq-Decides}
-use Rattle.std.proofs.lemmas.Fmt.{digits_decimal}
-use Rattle.std.proofs.lemmas.Str.Parse.{IsNumeralModel, numerals_by_value, tells_all_ascii_digits}
-use Rattle.std.specs.Str.Parse.{digits_value}
-use Rattle.dk_config.specs.Rules.{is_name, is_word}
-use Rattle.dk_ledger.specs.declared.header.ProcessLine.{ProcessLine}
-use Rattle.dk_ledger.specs.Heading.{Heading, name_of}
-use Rattle.dk_ledger.specs.Readable.{HaveOwnNames}
+use Rattle.dk_ledger.proofs.Names.{◌≡◌, ◌≢◌, ◌∙◌, sym, ap, refl, subst, ◌<◌, ◌≤◌, ◌+◌, ◌^◌, ℕ, zero, suc, Bool, true, false, List, [], ◌∷◌, length, get_or, arith, ◌==◌, not, cond, nat_lt, Option, Some, None, slice_get, decimal, list_all, position, prefix_len, option_map_or, bytes_eq, all_ascii_digits, lt-ltb, nat_tests, bytes_eq-Decides, digits_decimal, IsNumeralModel, numerals_by_value, tells_all_ascii_digits, digits_value, is_name, is_word, ProcessLine, Heading, name_of, HaveOwnNames}
 use Rattle.dk_ledger.proofs.NameLemmas.{both_left, both_right}
 
 abbrev pub is_no_dot : ℕ → Bool

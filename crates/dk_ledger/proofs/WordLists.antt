@@ -1,20 +1,6 @@
 -- The words of an entry, and those of its label.
-use Rattle.std.proofs.Common.{◌≡◌, ◌∙◌, sym, ap, refl, ◌<◌, ◌≤◌, ◌-◌, ℕ, zero, suc, List, [], ◌∷◌, length, get_or, take, drop, arith}
-use Rattle.std.specs.Prelude.{Option, Some, None, decimal, codes}
-use Rattle.std.specs.Borrow.{Bor}
-use Rattle.std.proofs.lemmas.List.{length-map, take_rest}
-use Rattle.dk_trace.specs.declared.ThreadId.{ThreadId}
-use Rattle.dk_trace.specs.declared.Source.{Source}
-use Rattle.dk_trace.specs.declared.Work.{Work}
-use Rattle.dk_trace.specs.declared.Label.{Label}
-use Rattle.dk_trace.specs.declared.Event.{Event}
-use Rattle.dk_trace.specs.Ranges.{HasThread, HasLabel}
-use Rattle.dk_ledger.specs.Heading.{Heading}
-use Rattle.dk_ledger.specs.LineText.{thread_text, work_text}
-use Rattle.dk_ledger.specs.Readable.{size_in}
-use Rattle.dk_ledger.specs.Words.{texts, first_word, label_words, event_words}
+use Rattle.dk_ledger.proofs.Names.{◌≡◌, ◌∙◌, sym, ap, refl, ◌<◌, ◌≤◌, ◌-◌, ℕ, zero, suc, List, [], ◌∷◌, length, get_or, take, drop, arith, Option, Some, None, decimal, codes, Bor, length-map, take_rest, ThreadId, Source, Work, Label, Event, HasThread, HasLabel, Heading, thread_text, work_text, size_in, texts, first_word, label_words, event_words, nat_tests}
 use Rattle.dk_ledger.proofs.OneText.{word_rank, head_of, label_rank, label_ranked}
-use Rattle.std.proofs.lemmas.Bool.Decides.{nat_tests}
 
 -- the word at a place is that of the texts
 pub word_at : (words : List (Bor (List ℕ))) (i : ℕ) (d : Bor (List ℕ)) → (get_or words i d).now ≡ get_or (texts words) i d.now

@@ -1,20 +1,9 @@
 -- A document has not many more rows than bytes.
-use Rattle.std.proofs.Common.{ℕ, zero, suc, ◌≡◌, ◌≤◌, ◌<◌, ◌+◌, ◌^◌, true, false, List, [], ◌∷◌, length, drop, ◌++◌, Ordering, Less, Equal, Greater, nat_cmp, refl, ap, subst, arith}
-use Rattle.std.specs.Prelude.{codes, ◌==◌, ◌&&◌, slice_index, Option, Some, None, IfSome, option_map, option_and_then, if◌then◌else◌}
-use Rattle.std.specs.Str.{is_utf8}
-use Rattle.std.specs.Option.{option_map_or}
-use Rattle.std.specs.Ordering.{match_ordering}
-use Rattle.std.specs.Cmp.Lexicographic.{slice_cmp}
-use Rattle.toml_parser.specs.Lexical.{Read, first, left_brace, left_bracket, right_bracket, skip_blank}
-use Rattle.toml_parser.specs.Strings.{Key, recursion_limit}
-use Rattle.toml.specs.Data.{Data, Items, Members, array, get_member, no_items, item, push_item, same_key, table}
-use Rattle.toml.specs.Parse.{after_byte, atom, expression, header_key, items, key_equals, keyval, line, lines, members, parse_document, read_map, skip_bom, val}
-use Rattle.toml.specs.Tables.{Definition, Document, Edit, Expression, Node, Nodes, along_dots, along_header, array_table, at_found, at_key, by_dot, by_header, close, close_node, define, dot_node, dotted, get_node, header, header_node, implicit, insert, key_value, new_node, no_nodes, node, open_array, open_table, put, redefine, replace, std_table, value}
-use Rattle.dk_loader.specs.Keys.{HasFewRows}
-use Rattle.dk_loader.specs.Look.{elements, items_list, rows_at}
+use Rattle.dk_loader.proofs.Names.{ℕ, zero, suc, ◌≡◌, ◌≤◌, ◌<◌, ◌+◌, ◌^◌, true, false, List, [], ◌∷◌, length, drop, ◌++◌, Ordering, Less, Equal, Greater, nat_cmp, refl, ap, subst, arith, codes, ◌==◌, ◌&&◌, slice_index, Option, Some, None, IfSome, option_map, option_and_then, if◌then◌else◌, is_utf8, option_map_or, match_ordering, slice_cmp, Read, first, left_brace, left_bracket, right_bracket, skip_blank, Key, recursion_limit, Data, Items, Members, array, get_member, no_items, item, push_item, same_key, table, after_byte, header_key, key_equals, keyval, members, read_map, Definition, Document, Edit, Expression, Node, Nodes, array_table, at_found, by_dot, by_header, close, close_node, dot_node, dotted, get_node, header, header_node, implicit, insert, key_value, new_node, no_nodes, node, open_array, open_table, put, redefine, replace, std_table, value, HasFewRows, elements, items_list, rows_at, nat_tests}
+use Rattle.toml.specs.Parse.{atom, expression, items, line, lines, parse_document, skip_bom, val}
+use Rattle.toml.specs.Tables.{along_dots, along_header, at_key, define}
 use Rattle.dk_loader.specs.Reading.{document}
 use Rattle.dk_loader.proofs.Shortening.{after_byte_short, dropped, either, every, header_key_short, key_equals_short, over, passed, skip_from_short, val_short, weaker}
-use Rattle.std.proofs.lemmas.Bool.Decides.{nat_tests}
 
 -- ---- the rows of a value
 

@@ -1,3 +1,4 @@
+pub mod Names
 pub mod AllBroken
 pub mod FewRows
 pub mod PrintedLemmas

@@ -1,23 +1,5 @@
 -- The table of a configuration reads back as that configuration.
-use Rattle.std.proofs.Common.{◌≡◌, ◌∙◌, ◌≤◌, ◌<◌, ◌+◌, ℕ, suc, Bool, true, List, [], ◌∷◌, ◌++◌, map, length, take, get_or, String, Global, Vec, string_bytes, Ordering, Less, Equal, Greater, refl, ap, sym, arith}
-use Rattle.std.specs.Prelude.{None}
-use Rattle.std.specs.List.{list_all}
-use Rattle.std.specs.Ordering.{match_ordering}
-use Rattle.std.specs.String.{string_cmp}
-use Rattle.std.specs.BTreeMap.{insert_entry}
-use Rattle.std.proofs.lemmas.Bool.{and_parts}
-use Rattle.std.proofs.lemmas.List.{map-append, map_more, take_all}
-use Rattle.std.proofs.lemmas.List.Folds.{list_all_more}
-use Rattle.toml.specs.Data.{Data, string, table, array, Members, depth, items_depth}
-use Rattle.toml.specs.View.{view, members_view, items_of}
-use Rattle.toml.specs.declared.value.Value.{Value, Array}
-use Rattle.toml.proofs.Views.{view-Array}
-use Rattle.dk_config.specs.Tests.{Test, first_broken, each_row}
-use Rattle.dk_config.proofs.FirstBroken.{append_none}
-use Rattle.dk_loader.specs.Look.{items_list, all_texts}
-use Rattle.dk_loader.specs.Reading.{text_of, table_of}
-use Rattle.dk_loader.specs.Printed.{insert_member}
-use Rattle.std.proofs.lemmas.Bool.Decides.{nat_tests}
+use Rattle.dk_loader.proofs.Names.{◌≡◌, ◌∙◌, ◌≤◌, ◌<◌, ◌+◌, ℕ, suc, Bool, true, List, [], ◌∷◌, ◌++◌, map, length, take, get_or, String, Global, Vec, string_bytes, Ordering, Less, Equal, Greater, refl, ap, sym, arith, None, list_all, match_ordering, string_cmp, insert_entry, and_parts, map-append, map_more, take_all, list_all_more, Data, string, table, array, Members, depth, items_depth, view, members_view, items_of, Value, Array, view-Array, Test, first_broken, each_row, append_none, items_list, all_texts, text_of, table_of, insert_member, nat_tests}
 
 match_members : (o : Ordering) (a b c : List (String Global × Value)) → members_view (match_ordering o a b c) ≡ match_ordering o (members_view a) (members_view b) (members_view c)
 match_members Less a b c = refl

@@ -1,20 +1,7 @@
 -- What one program that is read, or that isn't, says of all of them.
-use Rattle.std.proofs.Common.{◌≡◌, ◌≢◌, ◌∙◌, ◌<◌, ◌≤◌, ◌+◌, ◌*◌, ◌^◌, ℕ, suc, List, [], ◌∷◌, ◌++◌, length, take, drop, get_or, refl, ap, arith, sym, subst, cond, length-append}
-use Rattle.std.specs.Prelude.{Option, Some, None, Result, Ok, Err, IfSome, IsErrOf, nat_lt, sum_by}
-use Rattle.std.proofs.lemmas.Bool.Decides.{nat_tests}
-use Rattle.std.proofs.lemmas.List.{length-take, take_all, drop_more, drop_all, append-nil, append_assoc}
-use Rattle.std.proofs.lemmas.List.Elements.{All-push}
-use Rattle.std.proofs.lemmas.List.Sums.{sum_by-append}
-use Rattle.dk_outside.specs.Counts.{Rises}
-use Rattle.dk_outside.specs.Views.{DepotView}
-use Rattle.dk_outside.specs.Files.{IsReading, CountsStray}
-use Rattle.dk_config.specs.declared.TheConstants.{MAX_PROGRAM_BYTES, MAX_PROCESSES}
-use Rattle.dk_config.specs.declared.rows.ProcessRow.{ProcessRow}
-use Rattle.dk_config.specs.Configuration.{Configuration}
-use Rattle.dk_loader.specs.Workload.{Workload}
-use Rattle.dk_loader.specs.declared.fault.LoadFault.{LoadFault}
+use Rattle.dk_loader.proofs.Names.{◌≡◌, ◌≢◌, ◌∙◌, ◌<◌, ◌≤◌, ◌+◌, ◌*◌, ℕ, suc, List, [], ◌∷◌, ◌++◌, length, take, drop, get_or, refl, ap, arith, sym, subst, cond, length-append, Option, Some, None, Result, Ok, Err, IfSome, nat_lt, sum_by, nat_tests, length-take, take_all, drop_more, drop_all, append-nil, All-push, sum_by-append, DepotView, IsReading, CountsStray, MAX_PROGRAM_BYTES, ProcessRow, Configuration, LoadFault, Gives, Took, TakesOne, TakesAll, bytes_before, bytes_read, before_others, CountsReads, program_in, program_from, programs_from, ReadsOne, ReadsAll}
+use Rattle.std.proofs.lemmas.List.{append_assoc}
 use Rattle.dk_loader.specs.declared.fault.LoadFault.TheVariants as fault
-use Rattle.dk_loader.specs.Programs.{Gives, Took, TakesOne, TakesAll, bytes_before, bytes_read, before_others, CountsReads, program_in, program_from, programs_from, loading, ReadsOne, ReadsAll}
 
 -- what was read so far, before the rest
 abbrev pub with_front : List (List ℕ) → Result (List (List ℕ)) LoadFault → Result (List (List ℕ)) LoadFault
@@ -184,11 +171,6 @@ pub record AreRead (rows : List ProcessRow) (i : ℕ) (front : List (List ℕ)) 
 pub none_read : (rows : List ProcessRow) (depot : DepotView) → AreRead rows 0 [] depot depot
 none_read rows depot = grind (arith, nat_tests)
 
--- the next one fits
-pub next_fits : (rows : List ProcessRow) (i : ℕ) (front : List (List ℕ)) (old new : DepotView) → AreRead rows i front old new → i < length rows → length rows ≤ MAX_PROCESSES → old.given < 2 ^ 63
-    → new.given + (MAX_PROGRAM_BYTES + 1) < 2 ^ 64
-next_fits rows i front old new front_read h few small = omega (arith, front_read.bounded)
-
 -- the read for process i, in the file that its row names, after the reads before it
 module _ (rows : List ProcessRow) (i : ℕ) (row : ProcessRow) (name : List ℕ) (front : List (List ℕ)) (old mid new : DepotView)
     (inside : i < length rows) (is : row ≡ get_or rows i row) (named : name ≡ row.program) (before : AreRead rows i front old mid) where
@@ -287,87 +269,3 @@ bytes_came p name bytes r old new held gives takes fits rose faults counts stray
   strays = strays;
   same = same;
 }
-
--- no bytes came
-none_told : (files : Option (List ℕ → Option (List ℕ))) → IfSome files (λ at. Unit {0})
-none_told None = tt
-none_told (Some at) = tt
-
-module _ (p : ℕ) (name : List ℕ) (old new : DepotView) (still : new.given ≡ old.given) (faults : old.faults ≤ new.faults)
-    (counts : IfSome old.files (λ at. CountsStray at name old.strays new.strays)) (strays : old.strays ≤ new.strays) (same : new.files ≡ old.files) where
-  pub read_failed : Rises old.faults new.faults → ReadsOne p name (Err fault.Depot) old new
-  read_failed rises = record {
-    told = none_told old.files;
-    given = still;
-    depot = λ failed. rises;
-    stays = λ other. absurd (other refl);
-    faults = faults;
-    stray = stray_one old.files p name old.strays new.strays counts;
-    strays = strays;
-    same = same;
-  }
-
-  pub memory_failed : new.faults ≡ old.faults → ReadsOne p name (Err fault.NoMemory) old new
-  memory_failed stays = record {
-    told = none_told old.files;
-    given = still;
-    depot = λ failed. cc;
-    stays = λ other. stays;
-    faults = faults;
-    stray = stray_one old.files p name old.strays new.strays counts;
-    strays = strays;
-    same = same;
-  }
-
--- ---- with the configuration
-
-pub loaded_told : {X : Type 0} (view : X → List (List ℕ)) (files : Option (List ℕ → Option (List ℕ))) (config : Configuration) (x : X)
-    → IfSome files (λ at. Gives view (Ok x) (programs_from at 0 config.processes))
-    → IfSome files (λ at. Gives (λ (l : Workload). l) (Ok (record { config = config; programs = view x })) (loading at config))
-loaded_told view None config x read = tt
-loaded_told view (Some at) config x read = rw read refl
-
-told_of : {X : Type 0} (view : X → List (List ℕ)) (files : Option (List ℕ → Option (List ℕ))) (config : Configuration) (e : LoadFault)
-    → IfSome files (λ at. Gives view (Err e) (programs_from at 0 config.processes)) → IfSome files (λ at. Gives (λ (l : Workload). l) (Err e) (loading at config))
-told_of view None config e read = tt
-told_of view (Some at) config fault.NotToml read = rw read refl
-told_of view (Some at) config (fault.Config f) read = rw read refl
-told_of view (Some at) config fault.Depot read = tt
-told_of view (Some at) config (fault.TooLong p) read = rw read refl
-told_of view (Some at) config fault.NoMemory read = tt
-
-given_of : {X Y : Type 0} (view : X → List (List ℕ)) (view' : Y → List (List ℕ)) (count : ℕ) (e : LoadFault) (old new : ℕ) → TakesAll view count (Err e) old new → TakesAll view' count (Err e) old new
-given_of view view' count fault.NotToml old new took = took
-given_of view view' count (fault.Config f) old new took = took
-given_of view view' count fault.Depot old new took = took
-given_of view view' count (fault.TooLong p) old new took = took
-given_of view view' count fault.NoMemory old new took = took
-
-counted_of : (X Y : Type 0) (files : Option (List ℕ → Option (List ℕ))) (rows : List ProcessRow) (e : LoadFault) (old new : ℕ)
-    → IfSome files (λ at. CountsReads {X = X} (Err e) old new (bytes_read at rows)) → IfSome files (λ at. CountsReads {X = Y} (Err e) old new (bytes_read at rows))
-counted_of X Y None rows e old new counted = tt
-counted_of X Y (Some at) rows fault.NotToml old new counted = tt
-counted_of X Y (Some at) rows (fault.Config f) old new counted = tt
-counted_of X Y (Some at) rows fault.Depot old new counted = tt
-counted_of X Y (Some at) rows (fault.TooLong p) old new counted = counted
-counted_of X Y (Some at) rows fault.NoMemory old new counted = tt
-
-module _ (config : Configuration) {X : Type 0} {view : X → List (List ℕ)} {e : LoadFault} {old new : DepotView} (all : ReadsAll view config.processes (Err e) old new) where
-  pub refusal_told : IfSome old.files (λ at. Gives (λ (l : Workload). l) (Err e) (loading at config))
-  refusal_told = told_of view old.files config e all.told
-
-  pub refusal_given : TakesAll (λ (l : Workload). l.programs) (length config.processes) (Err e) old.given new.given
-  refusal_given = given_of view (λ (l : Workload). l.programs) (length config.processes) e old.given new.given all.given
-
-  pub refusal_counted : IfSome old.files (λ at. CountsReads {X = Workload} (Err e) old.given new.given (bytes_read at config.processes))
-  refusal_counted = counted_of X Workload old.files config.processes e old.given new.given all.counted
-
-  pub refusal_depot : IsErrOf {T = Workload} (Err e) fault.Depot → Rises old.faults new.faults
-  refusal_depot failed = let same : e ≡ fault.Depot = cc in all.depot (ap Err same)
-
-  pub refusal_stays : (r : Result Workload LoadFault) → r ≡ Err e → r ≢ Err fault.Depot → new.faults ≡ old.faults
-  refusal_stays r is other = all.stays (λ failed. other (let same : e ≡ fault.Depot = cc in is ∙ ap Err same))
-
-pub loading_stray : (files : Option (List ℕ → Option (List ℕ))) (config : Configuration) (before after : ℕ)
-    → IfSome files (λ at. programs_from at 0 config.processes ≢ Err fault.Depot → after ≡ before) → IfSome files (λ at. loading at config ≢ Err fault.Depot → after ≡ before)
-loading_stray config before after is stays = grind (arith, nat_tests)

@@ -1,19 +1,7 @@
 -- What the tests of a table say of its reading.
-use Rattle.std.proofs.Common.{◌≡◌, ◌<◌, ◌^◌, length, refl, ap, sym}
-use Rattle.std.specs.Prelude.{Some, None, Ok, Err, codes}
-use Rattle.toml.specs.Data.{Members}
-use Rattle.dk_config.specs.Configuration.{Configuration}
-use Rattle.dk_config.specs.declared.fault.ConfigFault.{ConfigFault}
-use Rattle.dk_config.specs.Rules.{all_tests}
-use Rattle.dk_config.specs.Tests.{first_broken}
-use Rattle.dk_config.proofs.FirstBroken.{append_some, append_none}
+use Rattle.dk_loader.proofs.Names.{◌≡◌, ◌<◌, ◌^◌, length, refl, ap, sym, Some, None, Ok, Err, codes, Members, Configuration, ConfigFault, all_tests, first_broken, append_some, append_none, shape_tests, answer_of, HasCountedRows, rows_at, length-map, nat_tests, arith}
 use Rattle.dk_loader.specs.declared.fault.LoadFault.TheVariants as fault
-use Rattle.dk_loader.specs.Shape.{shape_tests}
-use Rattle.dk_loader.specs.Reading.{config_of, answer_of, reading_of, shaped_of, HasCountedRows}
-use Rattle.dk_loader.specs.Look.{rows_at}
-use Rattle.std.proofs.lemmas.List.{length-map}
-use Rattle.std.proofs.lemmas.Bool.Decides.{nat_tests}
-use Rattle.std.proofs.Common.{arith}
+use Rattle.dk_loader.specs.Reading.{config_of, reading_of, shaped_of}
 
 pub faulty_reading : (ms : Members) (f : ConfigFault) → Some f ≡ first_broken (shape_tests ms) → Err (fault.Config f) ≡ reading_of ms
 unfolding reading_of

@@ -1,15 +1,5 @@
 -- The rows of a table, as the program has them and as the definitions see them.
-use Rattle.std.proofs.Common.{◌≡◌, ℕ, suc, Bool, ◌||◌, List, [], ◌∷◌, ◌++◌, map, refl, ap, String, Global, string_bytes}
-use Rattle.std.specs.List.{list_any}
-use Rattle.std.specs.Map.{keys_of as map_keys}
-use Rattle.std.specs.Prelude.{Some}
-use Rattle.toml.specs.Data.{Data, Items, as_array}
-use Rattle.toml.specs.View.{view, items_view, members_view}
-use Rattle.toml.specs.declared.value.Value.{Value}
-use Rattle.dk_config.specs.Tests.{Test, each_row}
-use Rattle.dk_loader.specs.Look.{items_list, keys_of, elements}
-use Rattle.std.proofs.lemmas.Bool.Decides.{nat_tests}
-use Rattle.std.proofs.Common.{arith}
+use Rattle.dk_loader.proofs.Names.{◌≡◌, ℕ, suc, Bool, ◌||◌, List, [], ◌∷◌, ◌++◌, map, refl, ap, String, Global, string_bytes, list_any, map_keys, Some, Data, Items, as_array, view, items_view, members_view, Value, Test, each_row, items_list, keys_of, elements, nat_tests, arith}
 
 pub items_list-items_view : (vs : List Value) → items_list (items_view vs) ≡ map view vs
 items_list-items_view [] = refl

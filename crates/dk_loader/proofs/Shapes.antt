@@ -1,20 +1,9 @@
 -- The tests by one rule and one section are the tests of the shape.
-use Rattle.std.proofs.Common.{◌≡◌, ◌∙◌, ◌++◌, List, refl, ap, sym}
-use Rattle.std.specs.Prelude.{Option, Some, None}
-use Rattle.toml.specs.Data.{Members}
-use Rattle.dk_config.specs.declared.fault.ConfigFault.{ConfigFault}
-use Rattle.dk_config.specs.declared.fault.Section.{Section}
+use Rattle.dk_loader.proofs.Names.{◌≡◌, ◌∙◌, ◌++◌, List, refl, ap, sym, Option, Some, None, Members, ConfigFault, Section, Test, first_broken, append_some, append_none, Version, Rule, version_of, section_tests, nat_tests, arith}
 use Rattle.dk_config.specs.declared.fault.Section.TheVariants as section
-use Rattle.dk_config.specs.Tests.{Test, first_broken}
-use Rattle.dk_config.proofs.FirstBroken.{append_some, append_none}
-use Rattle.dk_loader.specs.declared.keys.Version.{Version}
-use Rattle.dk_loader.specs.declared.shape.Rule.{Rule}
 use Rattle.dk_loader.specs.declared.shape.Rule.TheVariants as rule
-use Rattle.dk_loader.specs.Look.{version_of}
 use Rattle.dk_loader.specs.Shape.{unknown_tests, missing_tests, wrong_tests, top_wrong, shape_tests}
-use Rattle.dk_loader.specs.Keys.{section_tests, rule_tests}
-use Rattle.std.proofs.lemmas.Bool.Decides.{nat_tests}
-use Rattle.std.proofs.Common.{arith}
+use Rattle.dk_loader.specs.Keys.{rule_tests}
 
 -- the first of two lists of tests has a fault, or has none
 here : (ts us : List Test) (f : ConfigFault) → Some f ≡ first_broken ts → Some f ≡ first_broken (ts ++ us)
@@ -55,8 +44,7 @@ module _ (r : Rule) (v : Version) (ms : Members) where
 
   pub mutexes_decide : (x : Option ConfigFault) → None ≡ broken section.Top → None ≡ broken section.Costs → None ≡ broken section.Level → None ≡ broken section.Process
       → x ≡ broken section.Mutex → x ≡ first_broken (rule_tests r v ms)
-  mutexes_decide x t c l p m =
-      from_levels x t c (after (tests section.Level) (tests section.Process ++ tests section.Mutex) x l (after (tests section.Process) (tests section.Mutex) x p m))
+  mutexes_decide x t c l p m = grind (arith, nat_tests, from_levels, after)
 
 unknown_same : (ms : Members) → rule_tests rule.Unknown (version_of ms) ms ≡ unknown_tests ms
 unfolding rule_tests unknown_tests

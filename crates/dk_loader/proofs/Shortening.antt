@@ -1,18 +1,9 @@
 -- What a reader of TOML leaves of a text is no longer than the text.
-use Rattle.std.proofs.Common.{ℕ, zero, suc, ◌≤◌, Bool, true, false, List, [], ◌∷◌, ◌++◌, length, take, drop, arith}
-use Rattle.std.proofs.lemmas.List.{length-drop}
-use Rattle.std.specs.Prelude.{◌==◌, ◌&&◌, nat_lt, nat_le, slice_index, encode_utf8, is_some, unwrap_or, Option, Some, None, IfSome, option_map, option_and_then, if◌then◌else◌}
-use Rattle.std.specs.List.{prefix_len, list_all}
-use Rattle.std.specs.Char.{is_digit}
-use Rattle.std.specs.Str.Parse.{digits_value}
-use Rattle.toml_parser.specs.declared.scalar.Scalar.{Scalar}
-use Rattle.toml_parser.specs.Lexical.{Read, backslash, comma, dot, equals, first, is_bare, is_ws, left_brace, left_bracket, right_brace, right_bracket, skip_blank, skip_from, skip_lines, skip_turn, skip_ws, split_while, starts_newline}
-use Rattle.toml_parser.specs.Numbers.{unquoted, word_len, word_value}
-use Rattle.toml_parser.specs.Strings.{Key, after_piece, at_delims, body, escape, escape_char, hex_escape, hex_len, is_plain, is_scalar, key, key_after, one_line, prepend, quoted, recursion_limit, simple_escape, simple_key, special, starts_string, trim_newline}
-use Rattle.toml.specs.Data.{Data, Items, Members, array, push_item, string, table, no_items}
-use Rattle.toml.specs.Parse.{after_byte, after_element, atom, header_key, items, key_equals, keyval, members, read_map, scalar_data, val}
-use Rattle.toml.specs.Tables.{Nodes, close, no_nodes, put}
-use Rattle.std.proofs.lemmas.Bool.Decides.{nat_tests}
+use Rattle.dk_loader.proofs.Names.{ℕ, zero, suc, ◌≤◌, Bool, true, false, List, [], ◌∷◌, ◌++◌, length, take, drop, arith, length-drop, ◌==◌, ◌&&◌, nat_lt, nat_le, slice_index, encode_utf8, unwrap_or, Option, Some, None, IfSome, option_map, option_and_then, if◌then◌else◌, prefix_len, list_all, is_digit, digits_value, Scalar, Read, backslash, comma, dot, equals, first, is_bare, is_ws, left_brace, left_bracket, right_brace, right_bracket, skip_blank, skip_lines, skip_turn, split_while, starts_newline, word_len, word_value, Key, after_piece, at_delims, hex_len, is_plain, is_scalar, key, prepend, recursion_limit, simple_escape, starts_string, trim_newline, Data, Items, Members, array, push_item, string, table, no_items, after_byte, keyval, read_map, scalar_data, Nodes, close, no_nodes, put, nat_tests}
+use Rattle.toml_parser.specs.Lexical.{skip_from, skip_ws}
+use Rattle.toml_parser.specs.Numbers.{unquoted}
+use Rattle.toml_parser.specs.Strings.{body, escape, escape_char, hex_escape, key_after, one_line, quoted, simple_key, special}
+use Rattle.toml.specs.Parse.{after_element, atom, header_key, items, key_equals, members, val}
 
 -- a reader leaves no more than the text
 abbrev pub Short : {A : Type 0} → List ℕ → Read A → Type 0
@@ -67,10 +58,7 @@ skip_ws_short text = dropped (prefix_len is_ws text) text
 pub skip_from_short : (comments inside : Bool) (text : List ℕ) → length (skip_from comments inside text) ≤ length text
 unfolding skip_from
 skip_from_short comments inside [] = omega arith
-skip_from_short comments inside (c ∷ cs) =
-    let more = skip_from_short comments (unwrap_or (skip_turn comments inside c (first cs)) false) cs in
-    either (λ (r : List ℕ). length r ≤ length (c ∷ cs)) (is_some (skip_turn comments inside c (first cs)))
-    (skip_from comments (unwrap_or (skip_turn comments inside c (first cs)) false) cs) (c ∷ cs) (omega (arith, more)) (omega arith)
+skip_from_short comments inside (c ∷ cs) = grind (arith, nat_tests, skip_from_short comments (unwrap_or (skip_turn comments inside c (first cs)) false) cs)
 
 pub after_byte_short : (byte : ℕ) (text : List ℕ) → IfSome (after_byte byte text) (λ rest. length rest ≤ length text)
 after_byte_short byte text = grind (arith, nat_tests)

@@ -1,24 +1,12 @@
 -- The printed configuration reads as that configuration: its table passes every test, and each row reads back.
-use Rattle.std.proofs.Common.{◌≡◌, ◌∙◌, ◌≤◌, ◌-◌, ℕ, Bool, true, List, ◌++◌, map, length, refl, ap, codes, arith}
-use Rattle.std.specs.Prelude.{None, Result, Ok, Some, IfOk, ◌==◌, if◌then◌else◌}
-use Rattle.std.specs.List.{list_all}
-use Rattle.std.proofs.lemmas.Bool.{and_parts}
-use Rattle.toml.specs.Data.{Data, string, table, Members, depth, members_depth}
-use Rattle.dk_config.specs.declared.rows.Costs.{Costs}
-use Rattle.dk_config.specs.declared.rows.LevelRow.{LevelRow}
-use Rattle.dk_config.specs.declared.rows.ProcessRow.{ProcessRow}
-use Rattle.dk_config.specs.Mutex.{Mutex}
-use Rattle.dk_config.specs.Configuration.{Configuration}
-use Rattle.dk_config.specs.Checked.{BreaksNoRule}
-use Rattle.dk_config.specs.Tests.{Test, first_broken, each_row}
-use Rattle.dk_config.proofs.Passing.{both_pass}
+use Rattle.dk_loader.proofs.Names.{◌≡◌, ◌∙◌, ◌≤◌, ◌-◌, ℕ, Bool, true, List, ◌++◌, map, length, refl, ap, arith, None, Result, Ok, Some, IfOk, ◌==◌, if◌then◌else◌, list_all, and_parts, Data, string, table, Members, depth, members_depth, Costs, LevelRow, ProcessRow, Mutex, Configuration, BreaksNoRule, Test, first_broken, each_row, both_pass, rows_at, number_at, table_of, table_at, costs_in, level_in, process_in, mutex_in, document, in_table, in_table_at, top_unknown, costs_unknown, level_unknown, process_unknown, mutex_unknown, costs_wrong, level_row_wrong, process_row_wrong, mutex_row_wrong, costs_members, level_members, process_members, mutex_members, are_small_costs, is_small_level, is_small_process, is_small_mutex, IsSmall, nat_tests}
+use Rattle.std.proofs.Common.{codes}
 use Rattle.dk_loader.specs.declared.keys.Version.TheVariants as version
-use Rattle.dk_loader.specs.Look.{rows_at, number_at, version_of}
-use Rattle.dk_loader.specs.Reading.{table_of, table_at, costs_in, level_in, process_in, mutex_in, config_of, document, reading_of, reading}
-use Rattle.dk_loader.specs.Shape.{in_table, in_table_at, top_unknown, costs_unknown, level_unknown, process_unknown, mutex_unknown, top_wrong, costs_wrong, level_row_wrong, process_row_wrong, mutex_row_wrong, unknown_tests, missing_tests, wrong_tests, shape_tests}
-use Rattle.dk_loader.specs.Printed.{costs_members, level_members, process_members, mutex_members, config_members, are_small_costs, is_small_level, is_small_process, is_small_mutex, IsSmall}
+use Rattle.dk_loader.specs.Look.{version_of}
+use Rattle.dk_loader.specs.Reading.{config_of, reading_of, reading}
+use Rattle.dk_loader.specs.Shape.{top_wrong, unknown_tests, missing_tests, wrong_tests, shape_tests}
+use Rattle.dk_loader.specs.Printed.{config_members}
 use Rattle.dk_loader.proofs.PrintedLemmas.{items_list-items_of, rows_back, rows_pass, items_depth-map, text_of-map, all_texts-string}
-use Rattle.std.proofs.lemmas.Bool.Decides.{nat_tests}
 
 -- each row reads back
 

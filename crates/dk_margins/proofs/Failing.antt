@@ -1,11 +1,5 @@
 -- The first level that fails, where the levels before it are known to fit.
-use Rattle.std.proofs.Common.{ℕ, ◌≡◌, ◌+◌, ◌<◌, ◌≤◌, inl, inr, subst, sym, length, arith}
-use Rattle.std.specs.Prelude.{Some, None}
-use Rattle.dk_plan.proofs.Accepting.{before_or_here}
-use Rattle.dk_config.specs.Configuration.{Configuration}
-use Rattle.dk_config.specs.Windows.{period}
-use Rattle.dk_config.specs.Certification.{level_demand, level_blocking, first_failing}
-use Rattle.dk_certify.proofs.VerdictLemmas.{accepted, fails_first}
+use Rattle.dk_margins.proofs.Names.{ℕ, ◌≡◌, ◌+◌, ◌<◌, ◌≤◌, inl, inr, subst, sym, length, arith, Some, None, before_or_here, Configuration, period, level_demand, level_blocking, first_failing, accepted, fails_first}
 
 pub one_fits : (P : ℕ → Type 0) (level : ℕ) → ((j : ℕ) → j < level → P j) → P level → (j : ℕ) → j < level + 1 → P j
 one_fits P level before here j below = elim (before_or_here j level below) [ inl earlier ↦ before j earlier | inr same ↦ subst P (sym same) here ]

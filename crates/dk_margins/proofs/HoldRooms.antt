@@ -1,41 +1,23 @@
 -- How long a level waits with another hold for a mutex.
-use Rattle.std.proofs.Common.{◌≡◌, ◌∙◌, ap, refl, ℕ, zero, suc, ◌+◌, ◌<◌, inl, inr, max, Bool, true, false, cond, List, [], ◌∷◌, length, take, drop, arith}
-use Rattle.std.specs.Prelude.{Some, slice_get, map, filter}
-use Rattle.std.proofs.lemmas.Bool.{cases_Bool}
-use Rattle.dk_config.specs.Configuration.{Configuration}
-use Rattle.dk_config.specs.Mutex.{Mutex}
-use Rattle.dk_config.specs.Sums.{greatest}
-use Rattle.dk_config.specs.Windows.{period}
-use Rattle.dk_config.specs.Certification.{level_demand, level_blocking, can_block}
-use Rattle.dk_config.proofs.Passing.{row_at}
-use Rattle.dk_margins.specs.Margins.{rows_with_hold, with_hold, HoldFits}
+use Rattle.dk_margins.proofs.Names.{◌≡◌, refl, ℕ, zero, suc, ◌+◌, ◌<◌, max, cond, List, [], ◌∷◌, length, take, drop, arith, Some, slice_get, map, filter, Configuration, Mutex, greatest, period, level_demand, level_blocking, can_block, row_at, rows_with_hold, with_hold, HoldFits, nat_tests}
+use Rattle.std.proofs.Common.{Bool}
 
 -- the greatest hold of the rows that a test passes
 abbrev pub longest : (Mutex → Bool) → List Mutex → ℕ
 longest test rows = greatest (map (λ mutex. mutex.hold) (filter test rows))
 
 longest-cons : (test : Mutex → Bool) (row : Mutex) (rows : List Mutex) → longest test (row ∷ rows) ≡ max (cond (test row) row.hold 0) (longest test rows)
-longest-cons test row rows =
-    elim (cases_Bool (test row)) [ inl passes ↦ rw passes refl | inr fails ↦ rw fails (omega arith) ]
+longest-cons test row rows = grind (arith, nat_tests)
 
 module _ (test : Mutex → Bool) (same : (row : Mutex) (h : ℕ) → test (record row { hold = h }) ≡ test row) (h : ℕ) where
   pub longest-with : (rows : List Mutex) (m : ℕ) (row : Mutex) → slice_get rows m ≡ Some row
       → longest test (rows_with_hold rows m h) ≡ max (max (longest test (take m rows)) (longest test (drop (suc m) rows))) (cond (test row) h 0)
   longest-with [] m row there = absurd (cc)
-  longest-with (first ∷ rows) zero row there =
-      let is : first ≡ row = cc in
-      let new = longest-cons test (record first { hold = h }) rows in
-      let passes : cond (test (record first { hold = h })) h 0 ≡ cond (test row) h 0 = ap (λ b. cond b h 0) (same first h ∙ ap test is) in
-      omega (arith, new, passes)
-  longest-with (first ∷ rows) (suc m) row there =
-      let new = longest-cons test first (rows_with_hold rows m h) in
-      let old = longest-cons test first (take m rows) in
-      let rest = longest-with rows m row there in
-      omega (arith, new, old, rest)
+  longest-with (first ∷ rows) zero row there = grind (arith, nat_tests)
+  longest-with (first ∷ rows) (suc m) row there = grind (arith, nat_tests, longest-with rows m)
 
 none-of : (b : Bool) → cond b zero zero ≡ zero
-none-of true = refl
-none-of false = refl
+none-of b = grind (arith, nat_tests)
 
 module _ (c : Configuration) (m j : ℕ) (row : Mutex) (there : slice_get c.mutexes m ≡ Some row) where
   -- the longest hold of the others, and of the mutex where it can delay the level

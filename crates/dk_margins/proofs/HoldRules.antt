@@ -1,20 +1,8 @@
 -- A configuration that breaks no rule breaks none with another hold from 1 to 1,000,000.
-use Rattle.std.proofs.Common.{◌≡◌, sym, ap, refl, subst, ℕ, zero, suc, ◌+◌, ◌≤◌, ◌||◌, List, [], ◌∷◌, ◌++◌, length, take, arith}
-use Rattle.std.specs.Prelude.{None, Some, slice_get, Bool}
-use Rattle.std.specs.List.{list_any}
-use Rattle.std.specs.Str.{bytes_eq}
-use Rattle.std.proofs.lemmas.Bool.Decides.{nat_tests}
-use Rattle.dk_plan.proofs.Unbroken.{each_row-same}
-use Rattle.dk_config.specs.declared.TheConstants.{MAX_SPAN}
+use Rattle.dk_margins.proofs.Names.{◌≡◌, sym, ap, refl, subst, ℕ, zero, suc, ◌+◌, ◌≤◌, ◌||◌, List, [], ◌∷◌, ◌++◌, length, take, arith, None, Some, slice_get, Bool, list_any, bytes_eq, nat_tests, each_row-same, MAX_SPAN, Configuration, Mutex, Test, first_broken, each_row, test_of, version_tests, count_tests, period_tests, budget_tests, slowest_tests, cost_ranges, level_ranges, process_ranges, mutex_ranges, process_names, mutex_names, process_again, mutex_again, process_level, mutex_ceiling, mutex_users, BreaksNoRule, parts_pass, row_passes, rows_with_hold, with_hold}
 use Rattle.dk_config.specs.declared.fault.Section.TheVariants as section
 use Rattle.dk_config.specs.declared.fault.Field.TheVariants as field
-use Rattle.dk_config.specs.Configuration.{Configuration}
-use Rattle.dk_config.specs.Mutex.{Mutex}
-use Rattle.dk_config.specs.Tests.{Test, first_broken, each_row, test_of}
-use Rattle.dk_config.specs.Rules.{all_tests, version_tests, count_tests, range_tests, period_tests, name_tests, again_tests, level_tests, budget_tests, user_tests, slowest_tests, cost_ranges, level_ranges, process_ranges, mutex_ranges, process_names, mutex_names, process_again, mutex_again, process_level, mutex_ceiling, mutex_users}
-use Rattle.dk_config.specs.Checked.{BreaksNoRule}
-use Rattle.dk_config.proofs.Passing.{parts_pass, row_passes}
-use Rattle.dk_margins.specs.Margins.{rows_with_hold, with_hold}
+use Rattle.dk_config.specs.Rules.{all_tests, range_tests, name_tests, again_tests, level_tests, user_tests}
 use Rattle.dk_margins.proofs.Keeping.{Keeps, keeps_both, keeps_same}
 
 module _ (h : ℕ) where

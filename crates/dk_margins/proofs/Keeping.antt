@@ -1,8 +1,5 @@
 -- Tests that pass where other tests pass.
-use Rattle.std.proofs.Common.{◌≡◌, refl, subst, ℕ, suc, ◌+◌, List, [], ◌∷◌, ◌++◌, arith}
-use Rattle.std.specs.Prelude.{None, Some, slice_get}
-use Rattle.dk_config.specs.Tests.{Test, first_broken, each_row}
-use Rattle.dk_config.proofs.Passing.{both_pass, parts_pass}
+use Rattle.dk_margins.proofs.Names.{◌≡◌, refl, subst, ℕ, suc, ◌+◌, List, [], ◌∷◌, ◌++◌, arith, None, Some, slice_get, Test, first_broken, each_row, both_pass, parts_pass}
 
 -- where the first tests pass, the second do
 abbrev pub Keeps : List Test → List Test → Type 0

@@ -1,8 +1,5 @@
 -- A number with which each level fits, level by level.
-use Rattle.std.proofs.Common.{ℕ, ◌≡◌, ◌+◌, ◌≤◌, inl, inr, min, subst, sym, arith}
-use Rattle.dk_plan.proofs.Accepting.{before_or_here}
-use Rattle.dk_config.specs.declared.TheConstants.{MAX_SPAN}
-use Rattle.dk_margins.specs.Limits.{HoldsUpTo, AtEach}
+use Rattle.dk_margins.proofs.Names.{ℕ, ◌≡◌, ◌+◌, ◌≤◌, inl, inr, min, subst, sym, arith, before_or_here, MAX_SPAN, HoldsUpTo, AtEach}
 
 -- the levels before this one fit with the numbers up to this one
 pub record FitsSoFar (Fits : ℕ → ℕ → Type 0) (level most : ℕ) : Type 0 where

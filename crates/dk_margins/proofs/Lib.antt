@@ -1,3 +1,4 @@
+pub mod Names
 pub mod Failing
 pub mod SwitchRooms
 pub mod Keeping

@@ -1,21 +1,8 @@
 -- The rows of levels with another release in one of them, and the rules that they don't break.
-use Rattle.std.proofs.Common.{◌≡◌, sym, ap, refl, subst, ℕ, zero, suc, ◌-◌, ◌<◌, ◌≤◌, ◌&&◌, List, [], ◌∷◌, ◌++◌, length, arith}
-use Rattle.std.specs.Prelude.{None, slice_get, false, nat_lt, not}
-use Rattle.std.specs.Option.{option_map_or}
-use Rattle.std.proofs.lemmas.Bool.Decides.{nat_tests}
-use Rattle.dk_plan.proofs.Unbroken.{each_row-same}
-use Rattle.dk_config.specs.declared.TheConstants.{MAX_SPAN}
-use Rattle.dk_config.specs.declared.rows.LevelRow.{LevelRow}
+use Rattle.dk_margins.proofs.Names.{◌≡◌, sym, ap, refl, subst, ℕ, zero, suc, ◌-◌, ◌<◌, ◌≤◌, ◌&&◌, List, [], ◌∷◌, ◌++◌, length, arith, None, slice_get, false, nat_lt, not, option_map_or, nat_tests, each_row-same, MAX_SPAN, LevelRow, Configuration, release, Test, first_broken, each_row, test_of, version_tests, count_tests, name_tests, again_tests, level_tests, budget_tests, user_tests, slowest_tests, cost_ranges, level_ranges, process_ranges, mutex_ranges, period_order, follows, BreaksNoRule, IsAccepted, within_limits, AtEach, rows_with_release, with_release, ReleaseFits}
 use Rattle.dk_config.specs.declared.fault.Section.TheVariants as section
 use Rattle.dk_config.specs.declared.fault.Field.TheVariants as field
-use Rattle.dk_config.specs.Configuration.{Configuration}
-use Rattle.dk_config.specs.Windows.{release}
-use Rattle.dk_config.specs.Tests.{Test, first_broken, each_row, test_of}
-use Rattle.dk_config.specs.Rules.{all_tests, version_tests, count_tests, range_tests, period_tests, name_tests, again_tests, level_tests, budget_tests, user_tests, slowest_tests, cost_ranges, level_ranges, process_ranges, mutex_ranges, period_order, follows}
-use Rattle.dk_config.specs.Checked.{BreaksNoRule, IsAccepted}
-use Rattle.dk_config.proofs.CheckedConfig.{within_limits}
-use Rattle.dk_margins.specs.Limits.{AtEach}
-use Rattle.dk_margins.specs.Margins.{rows_with_release, with_release, ReleaseFits}
+use Rattle.dk_config.specs.Rules.{all_tests, range_tests, period_tests}
 use Rattle.dk_margins.proofs.Keeping.{Keeps, keeps_both, keeps_same}
 
 module _ (r : ℕ) where

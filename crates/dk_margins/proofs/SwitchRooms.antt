@@ -1,21 +1,6 @@
 -- Which costs of a switch a configuration can have.
-use Rattle.std.proofs.Common.{◌≡◌, ◌∙◌, sym, ap, ℕ, ◌+◌, ◌*◌, ◌<◌, ◌≤◌, inl, inr, min, List, ◌++◌, length, get_or, arith}
-use Rattle.std.specs.Prelude.{None, Some, slice_get}
-use Rattle.std.specs.Option.{option_map_or}
-use Rattle.std.proofs.lemmas.Option.{slice_get-get_or, slice_get_within}
-use Rattle.dk_config.proofs.Passing.{row_at}
-use Rattle.std.proofs.lemmas.Bool.Decides.{nat_tests}
-use Rattle.dk_config.specs.declared.TheConstants.{MAX_COST}
-use Rattle.dk_config.specs.declared.rows.ProcessRow.{ProcessRow}
-use Rattle.dk_config.specs.Configuration.{Configuration}
-use Rattle.dk_config.specs.Tests.{first_broken, each_row}
-use Rattle.dk_config.specs.Rules.{all_tests, version_tests, count_tests, range_tests, period_tests, name_tests, again_tests, level_tests, budget_tests, user_tests, slowest_tests, cost_ranges, level_ranges, process_ranges, mutex_ranges, budget_room}
-use Rattle.dk_config.specs.Windows.{budget}
-use Rattle.dk_config.specs.Checked.{BreaksNoRule, IsAccepted}
-use Rattle.dk_config.proofs.CheckedConfig.{checked, within_limits}
-use Rattle.dk_plan.proofs.Accepting.{certified_from, before_or_here}
-use Rattle.dk_margins.specs.Margins.{Stands, IsGreatest, with_switch}
-use Rattle.dk_margins.specs.Limits.{LimitsSwitch, room_of}
+use Rattle.dk_margins.proofs.Names.{◌≡◌, ◌∙◌, sym, ap, ℕ, ◌+◌, ◌*◌, ◌<◌, ◌≤◌, inl, inr, min, List, ◌++◌, length, get_or, arith, None, Some, slice_get, option_map_or, slice_get-get_or, slice_get_within, row_at, nat_tests, MAX_COST, ProcessRow, Configuration, first_broken, each_row, version_tests, count_tests, period_tests, name_tests, again_tests, level_tests, user_tests, slowest_tests, cost_ranges, level_ranges, process_ranges, mutex_ranges, budget_room, budget, BreaksNoRule, IsAccepted, checked, within_limits, certified_from, before_or_here, Stands, IsGreatest, with_switch, LimitsSwitch, room_of}
+use Rattle.dk_config.specs.Rules.{all_tests, range_tests, budget_tests}
 use Rattle.dk_margins.proofs.Keeping.{Keeps, keeps_both, each_passes}
 
 -- one more row

@@ -26,7 +26,7 @@ module _ {X : Type 0} where
   got-within (y ∷ xs) zero x is = omega arith
   got-within (y ∷ xs) (suc n) x is = let rest = got-within xs n x is in omega (arith, rest)
 
-abbrev paid : ThreadId → Option Entry → Bool
+abbrev pub paid : ThreadId → Option Entry → Bool
 paid x o = option_map_or (is_budget_of x) o false
 
 module _ (x : ThreadId) (es : List Entry) where

@@ -1,3 +1,4 @@
 pub mod LastTicks
 pub mod Counting
 pub mod Rows
+pub mod Paid

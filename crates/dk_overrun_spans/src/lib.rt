@@ -7,7 +7,7 @@ mod overrun;
 mod reading;
 mod scanning;
 
-pub use laws::all_counted_law;
+pub use laws::{all_counted_law, last_paid_law};
 pub use marks::Marks;
 pub use overrun::Overrun;
 pub use reading::read_overruns;

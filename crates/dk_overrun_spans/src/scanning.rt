@@ -6,26 +6,14 @@ ghost use Rattle.dk_trace.specs.Entries.{is_budget_of};
 ghost use Rattle.dk_window_report.specs.Windows.{done_in};
 ghost use Rattle.dk_overrun_spans.specs.Overruns.{last_in};
 
-use dk_trace::{Entry, Label, ThreadId};
+use dk_trace::{Entry, ThreadId};
 
-/// Whether the thread's budget paid for the entry.
-fn is_budget_of(thread: ThreadId, entry: Entry) -> bool
-    ensures { result ≡ is_budget_of thread entry }
-{
-    match entry.label {
-        Label::In(payer) | Label::Run(payer) | Label::Call(payer) | Label::Out(payer) => {
-            thread.is_same(payer)
-        }
-        Label::Slack { .. } | Label::Kernel(_) | Label::Idle => false,
-    }
-}
-
-/// Whether it paid for this tick.
+/// Whether the thread's budget paid for this tick.
 fn is_paid_at(entries: &[Entry], thread: ThreadId, tick: u64) -> bool
     ensures { result ≡ option_map_or (is_budget_of thread) (slice_get entries.now tick) false }
 {
     match entries.get(tick as usize) {
-        Some(entry) => is_budget_of(thread, *entry),
+        Some(entry) => entry.label.is_paid_by(thread),
         None => false,
     }
 }

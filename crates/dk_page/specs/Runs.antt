@@ -4,8 +4,8 @@ use Rattle.dk_html.specs.Checksums.{file_row}
 use Rattle.dk_html.specs.Escaping.{escaped}
 use Rattle.dk_html.specs.Outputs.{output}
 use Rattle.dk_html.specs.Parts.{joined}
-use Rattle.dk_html.specs.Tables.{rows}
-use Rattle.dk_page.specs.declared.template.TheConstants.{AUDIT, FAILED_TILE, PASSED_TILE, PICTURE, PICTURE_END, RUN, RUN_END, TEXT_END}
+use Rattle.dk_html.specs.Tables.{rows, word_rows}
+use Rattle.dk_page.specs.declared.template.TheConstants.{AUDIT, FAILED_TILE, PASSED_TILE, PICTURE, PICTURE_END, RUN, RUN_END, TEXT_END, TOTALS, TOTALS_END}
 use Rattle.dk_page.specs.declared.running.Drawing.{Drawing}
 use Rattle.dk_page.specs.declared.running.Drawing.TheVariants.{Drawn, TooMany}
 use Rattle.dk_page.specs.declared.running.Run.{Run}
@@ -18,31 +18,33 @@ audit_tile false = FAILED_TILE.now
 
 -- how far a picture may go
 unfoldable pub undrawn : ℕ → List ℕ
-undrawn tick = joined (codes "<p class=\"note\">The ledger has too many lines for a picture: the ticks up to " ∷ decimal tick
-    ∷ codes " fit. <code>deosk-show svg</code> draws a range of ticks.</p>\n" ∷ [])
+undrawn tick = joined (codes "<p class=\"note\">There are too many lines for a picture: a range that ends by tick " ∷ decimal tick
+    ∷ codes " fits. Choose one for this page, FROM and TO behind the name of the ledger.</p>\n" ∷ [])
 
 -- the picture as it is, or how far one may go
 abbrev pub drawing_text : Drawing → List ℕ
 drawing_text (Drawn picture) = picture.items
 drawing_text (TooMany tick) = undrawn tick
 
--- what the audit finds, the picture, and what each thread did in its windows
-unfoldable pub run_sections : List ℕ → List ℕ → List ℕ → List ℕ
-run_sections audit drawing windows = joined (AUDIT.now ∷ escaped audit ∷ TEXT_END.now ∷ PICTURE.now ∷ drawing ∷ PICTURE_END.now
-    ∷ RUN.now ∷ rows windows ∷ RUN_END.now ∷ [])
+-- what the audit finds, the picture, what each thread did in its windows, and the totals, a row for each line
+unfoldable pub run_sections : List ℕ → List ℕ → List ℕ → List ℕ → List ℕ
+run_sections audit drawing windows totals = joined (AUDIT.now ∷ escaped audit ∷ TEXT_END.now ∷ PICTURE.now ∷ drawing
+    ∷ PICTURE_END.now ∷ RUN.now ∷ rows windows ∷ RUN_END.now ∷ TOTALS.now ∷ word_rows totals ∷ TOTALS_END.now ∷ [])
 
 -- the names of two files
 unfoldable pub both_names : List ℕ → List ℕ → List ℕ
 both_names file ledger = joined (file ∷ codes " " ∷ ledger ∷ [])
 
 -- what the commands write of the ledger
-unfoldable pub run_outputs : List ℕ → List ℕ → List ℕ → List ℕ → List ℕ
-run_outputs both ledger audit windows = joined (output (codes "deosk audit ") both audit
-    ∷ output (codes "deosk-show windows --csv ") ledger windows ∷ [])
+unfoldable pub run_outputs : List ℕ → List ℕ → List ℕ → List ℕ → List ℕ → List ℕ
+run_outputs both ledger audit windows report = joined (output (codes "deosk audit ") both audit
+    ∷ output (codes "deosk-show windows --csv ") ledger windows
+    ∷ output (codes "deosk ledger --report ") ledger report ∷ [])
 
 -- by the ledger of the one name in these bytes, to the page of the configuration in the file of the other
 pub record IsAddedBy (name ledger bytes : List ℕ) (run : Run) (a : Additions) : Type 0 where
   pub tile : a.tile.items ≡ audit_tile run.passed
   pub file : a.file.items ≡ joined (file_row (codes "ledger") ledger bytes ∷ [])
-  pub sections : a.sections.items ≡ run_sections run.audit.items (drawing_text run.drawing) run.windows.items
+  pub sections : a.sections.items ≡ run_sections run.audit.items (drawing_text run.drawing) run.windows.items run.totals.items
   pub outputs : a.outputs.items ≡ run_outputs (both_names name ledger) ledger run.audit.items run.windows.items
+      run.report.items

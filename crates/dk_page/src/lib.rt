@@ -5,6 +5,7 @@
 #![tactic(auto)]
 
 mod findings;
+mod needing;
 mod outputs;
 mod running;
 mod template;
@@ -12,6 +13,7 @@ mod told;
 mod top;
 mod whole;
 
+pub use needing::{Standing, Wants, needs_additions};
 pub use running::{Drawing, Run, additions};
 pub use told::{Additions, Certification, Told};
 pub use whole::{faults_page, page};

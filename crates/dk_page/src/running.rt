@@ -5,7 +5,8 @@ ghost use Rattle.dk_html.specs.Parts.{joined};
 ghost use Rattle.dk_page.specs.Runs.{IsAddedBy, audit_tile, both_names, drawing_text, run_outputs, run_sections, undrawn};
 
 use crate::template::{
-    AUDIT, FAILED_TILE, PASSED_TILE, PICTURE, PICTURE_END, RUN, RUN_END, TEXT_END,
+    AUDIT, FAILED_TILE, PASSED_TILE, PICTURE, PICTURE_END, RUN, RUN_END, TEXT_END, TOTALS,
+    TOTALS_END,
 };
 use crate::told::Additions;
 use dk_html::{Part, add_parts};
@@ -16,7 +17,7 @@ use std::alloc::{AllocError, Global};
 pub enum Drawing {
     /// As `svg` draws it, an element that stands by itself.
     Drawn(Vec<u8>),
-    /// It has too many lines; the ticks up to this one fit.
+    /// There are too many lines; a range up to this tick has as many as fit.
     TooMany(u32),
 }
 
@@ -29,6 +30,10 @@ pub struct Run {
     pub drawing: Drawing,
     /// What `windows` writes of it as a table.
     pub windows: Vec<u8>,
+    /// What `deosk ledger --report` writes of it: the lines of its header, and its totals.
+    pub report: Vec<u8>,
+    /// The totals alone.
+    pub totals: Vec<u8>,
 }
 
 fn tile_of(alloc: Global, passed: bool) -> Result<Vec<u8>, AllocError>
@@ -67,10 +72,12 @@ fn add_undrawn(alloc: Global, out: &mut Vec<u8>, tick: u32) -> Result<(), AllocE
 {
     let parts = [
         Part::Words(
-            "<p class=\"note\">The ledger has too many lines for a picture: the ticks up to ",
+            "<p class=\"note\">There are too many lines for a picture: a range that ends by tick ",
         ),
         Part::Number(tick as u64),
-        Part::Words(" fit. <code>deosk-show svg</code> draws a range of ticks.</p>\n"),
+        Part::Words(
+            " fits. Choose one for this page, FROM and TO behind the name of the ledger.</p>\n",
+        ),
     ];
     add_parts(alloc, out, &parts)
 }
@@ -94,8 +101,9 @@ fn add_sections<'x>(
     audit: &'x [u8],
     drawing: &'x [u8],
     windows: &'x [u8],
+    totals: &'x [u8],
 ) -> Result<(), AllocError>
-    ensures { OnOk result (out.new.items ≡ out.old.items ++ run_sections audit.now drawing.now windows.now) }
+    ensures { OnOk result (out.new.items ≡ out.old.items ++ run_sections audit.now drawing.now windows.now totals.now) }
 {
     let parts = [
         Part::Words(AUDIT),
@@ -107,12 +115,16 @@ fn add_sections<'x>(
         Part::Words(RUN),
         Part::Rows(windows),
         Part::Words(RUN_END),
+        Part::Words(TOTALS),
+        Part::Lines(totals),
+        Part::Words(TOTALS_END),
     ];
     add_parts(alloc, out, &parts)
 }
 
 fn sections_of(alloc: Global, run: &Run) -> Result<Vec<u8>, AllocError>
-    ensures { IfOk result (λ v. v.items ≡ run_sections run.now.audit.items (drawing_text run.now.drawing) run.now.windows.items) }
+    ensures { IfOk result (λ v. v.items ≡ run_sections run.now.audit.items (drawing_text run.now.drawing) run.now.windows.items
+        run.now.totals.items) }
 {
     let drawing = drawing_of(alloc, &run.drawing)?;
     let mut out = Vec::new(alloc);
@@ -122,11 +134,12 @@ fn sections_of(alloc: Global, run: &Run) -> Result<Vec<u8>, AllocError>
         run.audit.as_slice(),
         drawing.as_slice(),
         run.windows.as_slice(),
+        run.totals.as_slice(),
     )?;
     Ok(out)
 }
 
-fn add_both<'x>(
+pub(crate) fn add_both<'x>(
     alloc: Global,
     out: &mut Vec<u8>,
     file: &'x [u8],
@@ -145,8 +158,10 @@ fn add_outputs<'x>(
     ledger: &'x [u8],
     audit: &'x [u8],
     windows: &'x [u8],
+    report: &'x [u8],
 ) -> Result<(), AllocError>
-    ensures { OnOk result (out.new.items ≡ out.old.items ++ run_outputs both.now ledger.now audit.now windows.now) }
+    ensures { OnOk result (out.new.items
+        ≡ out.old.items ++ run_outputs both.now ledger.now audit.now windows.now report.now) }
 {
     let parts = [
         Part::Output {
@@ -159,12 +174,18 @@ fn add_outputs<'x>(
             name: ledger,
             text: windows,
         },
+        Part::Output {
+            command: "deosk ledger --report ",
+            name: ledger,
+            text: report,
+        },
     ];
     add_parts(alloc, out, &parts)
 }
 
 fn outputs_of(alloc: Global, file: &[u8], ledger: &[u8], run: &Run) -> Result<Vec<u8>, AllocError>
-    ensures { IfOk result (λ v. v.items ≡ run_outputs (both_names file.now ledger.now) ledger.now run.now.audit.items run.now.windows.items) }
+    ensures { IfOk result (λ v. v.items ≡ run_outputs (both_names file.now ledger.now) ledger.now
+        run.now.audit.items run.now.windows.items run.now.report.items) }
 {
     let mut both = Vec::new(alloc);
     add_both(alloc, &mut both, file, ledger)?;
@@ -176,6 +197,7 @@ fn outputs_of(alloc: Global, file: &[u8], ledger: &[u8], run: &Run) -> Result<Ve
         ledger,
         run.audit.as_slice(),
         run.windows.as_slice(),
+        run.report.as_slice(),
     )?;
     Ok(out)
 }

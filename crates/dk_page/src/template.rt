@@ -76,10 +76,22 @@ td.fill{width:24%;min-width:9rem}
 #certification :is(td,th):nth-child(n+4):nth-child(-n+11),#by-when :is(td,th):nth-child(n+3):nth-child(-n+8),#room :is(td,th):nth-child(n+5):nth-child(-n+10),#run :is(td,th):nth-child(n+3):nth-child(-n+20),#inputs :is(td,th):nth-child(3){text-align:right}
 #run :is(td,th):is(:nth-child(8),:nth-child(9),:nth-child(16),:nth-child(18),:nth-child(20)){display:none}
 #run :is(td,th){padding-left:.35rem;padding-right:.35rem}
+#needs tr[data-kind=missed] td:first-child{color:var(--alert);font-weight:700}#needs tr[data-kind=open] td:first-child{color:var(--amber-ink);font-weight:700}#needs tr[data-kind=met] td:first-child{color:var(--good);font-weight:600}
+#needs :is(td,th):nth-child(n+5):nth-child(-n+6){text-align:right}#needs .fill{display:none}
+#totals td:is(:nth-child(odd),.fill){color:var(--soft)}#totals td:nth-child(even){text-align:right}
+#totals tr:not([data-kind=process]) .fill{display:none}
+#totals tr[data-kind=process] td:nth-child(2){text-align:left;font-weight:600}
+#totals tr[data-kind=kernel] td:is(:nth-child(2),:nth-child(4)){color:var(--soft);text-align:left}#totals tr[data-kind=kernel] td:is(:nth-child(3),:nth-child(5)){color:var(--ink);text-align:right}
+#totals table{font-size:.84rem}#totals td{padding-left:.25rem;padding-right:.25rem}#totals td.fill{width:auto;min-width:5rem}
+#totals tr{--whole:max(1,var(--c3) + var(--c5) + var(--c7) + var(--c9) + var(--c11) + var(--c13))}
+#totals .bar i:nth-child(1){background:var(--amber);width:calc((var(--c3) + var(--c9))/var(--whole)*100%)}
+#totals .bar i:nth-child(2){background:var(--blue);left:calc((var(--c3) + var(--c9))/var(--whole)*100%);width:calc((var(--c5) + var(--c7))/var(--whole)*100%)}
+#totals .bar i:nth-child(3){background:var(--blue-soft);left:calc((var(--c3) + var(--c5) + var(--c7) + var(--c9))/var(--whole)*100%);width:calc((var(--c11) + var(--c13))/var(--whole)*100%)}
 .picture{overflow-x:auto}.picture svg{display:block;min-width:60rem}
 .legend{display:flex;flex-wrap:wrap;gap:.2rem 1rem;margin:.5rem 0 0;padding:0;list-style:none;font-size:.8rem;color:var(--soft)}
 .legend i{display:inline-block;width:14px;height:11px;margin-right:.35em;vertical-align:-1px;box-shadow:inset 0 0 0 1px var(--line)}
 .legend .demand,.legend .work,.legend .now{background:var(--blue)}
+.legend .switching{background:var(--amber)}
 .legend .most{background:var(--blue-soft)}
 .legend .blocking{background:repeating-linear-gradient(45deg,var(--amber) 0 5px,var(--warn-soft) 5px 9px)}
 .legend .wait{background:repeating-linear-gradient(135deg,var(--blue-soft) 0 4px,transparent 4px 8px)}
@@ -236,6 +248,37 @@ pub(crate) const FAULTS: &str = "<section id=\"faults\" aria-labelledby=\"faults
 <pre tabindex=\"0\">
 ";
 
+/// The tile of needs that are all met.
+pub(crate) const MET_TILE: &str =
+    "<li class=\"tile good\"><span class=\"what\">Requirements</span><b>all met</b><span>in every run</span></li>
+";
+
+/// The tile of needs that aren't.
+pub(crate) const UNMET_TILE: &str =
+    "<li class=\"tile bad\"><span class=\"what\">Requirements</span><b>not all met</b><span>some are missed, or open</span></li>
+";
+
+/// The tile of a document that isn't one of needs of the configuration.
+pub(crate) const REFUSED_TILE: &str =
+    "<li class=\"tile bad\"><span class=\"what\">Requirements</span><b>refused</b><span>nothing is decided</span></li>
+";
+
+/// What stands before the needs.
+pub(crate) const NEEDS: &str = "<section id=\"needs\" aria-labelledby=\"needs-title\">
+<div class=\"head\"><h2 id=\"needs-title\">Requirements</h2><span class=\"scope every\">holds for every run</span></div>
+<p class=\"why\">What is needed of the layout, need by need, with the number that is promised of every run, or how far a number of the configuration can go, and what is asked of it. What the programs or a ledger decide is open here: <code>deosk-show check</code> asks them.</p>
+<div class=\"scroll\"><table><caption class=\"hidden\">What is needed, and whether it is met</caption>
+<thead><tr><th scope=\"col\">Verdict</th><th scope=\"col\">Name</th><th scope=\"col\">Of</th><th scope=\"col\">Measure</th><th scope=\"col\">Number</th><th scope=\"col\">Asked</th><th scope=\"col\">Reason</th><th class=\"fill\" aria-hidden=\"true\"></th></tr></thead>
+<tbody>
+";
+
+/// What stands before why nothing is decided of needs.
+pub(crate) const NEEDS_REFUSED: &str = "<section id=\"needs\" aria-labelledby=\"needs-title\">
+<div class=\"head\"><h2 id=\"needs-title\">Requirements</h2><span class=\"scope given\">of the document</span></div>
+<p class=\"why\">The document isn’t one of needs of this configuration, so nothing is decided.</p>
+<pre tabindex=\"0\">
+";
+
 /// The tile of a ledger that passed.
 pub(crate) const PASSED_TILE: &str =
     "<li class=\"tile good\"><span class=\"what\">Audit</span><b>passed</b><span>this ledger follows the rules</span></li>
@@ -277,6 +320,20 @@ pub(crate) const RUN: &str = "<section id=\"run\" aria-labelledby=\"run-title\">
 /// What stands behind that: what its bars show.
 pub(crate) const RUN_END: &str = "</tbody></table></div>
 <ul class=\"legend\" aria-hidden=\"true\"><li><i class=\"now\"></i>used least</li><li><i class=\"most\"></i>used most</li><li><i></i>budget</li></ul>
+</section>
+";
+
+/// What stands before the totals.
+pub(crate) const TOTALS: &str = "<section id=\"totals\" aria-labelledby=\"totals-title\">
+<div class=\"head\"><h2 id=\"totals-title\">Totals</h2><span class=\"scope one\">of this ledger</span></div>
+<p class=\"why\">Whose the ticks of the ledger are: of all of them, of the kernel level by level, and of each process, whose bar has its switches, its work and its slack side by side; then the threads that it created, its refused calls and its faults.</p>
+<div class=\"scroll\"><table><caption class=\"hidden\">Totals, line by line</caption>
+<tbody>
+";
+
+/// What stands behind them: what their bars show.
+pub(crate) const TOTALS_END: &str = "</tbody></table></div>
+<ul class=\"legend\" aria-hidden=\"true\"><li><i class=\"switching\"></i>switches</li><li><i class=\"work\"></i>work</li><li><i class=\"most\"></i>slack</li></ul>
 </section>
 ";
 

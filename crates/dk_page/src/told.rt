@@ -1,6 +1,6 @@
 //! What commands tell of a configuration and of a ledger.
 
-use std::alloc::Global;
+use std::alloc::{AllocError, Global};
 
 /// Whether a configuration is certified.
 #[derive(Drop)]
@@ -34,7 +34,8 @@ pub struct Additions {
 }
 
 impl Additions {
-    ghost use Rattle.std.specs.Prelude.{◌≡◌, []};
+    ghost use Rattle.std.specs.Prelude.{◌≡◌, [], IfOk};
+    ghost use Rattle.dk_page.specs.Needs.{IsBoth};
 
     /// Nothing, where there is no ledger.
     pub fn none(alloc: Global) -> Additions
@@ -49,5 +50,27 @@ impl Additions {
             sections: Vec::new(alloc),
             outputs: Vec::new(alloc),
         }
+    }
+
+    /// What these add, and what others add behind it. `Err` is want of memory.
+    pub fn with(self, more: &Additions) -> Result<Additions, AllocError>
+        ensures { IfOk result (IsBoth self more.now) }
+    {
+        let Additions {
+            mut tile,
+            mut file,
+            mut sections,
+            mut outputs,
+        } = self;
+        tile.extend_from_slice(more.tile.as_slice())?;
+        file.extend_from_slice(more.file.as_slice())?;
+        sections.extend_from_slice(more.sections.as_slice())?;
+        outputs.extend_from_slice(more.outputs.as_slice())?;
+        Ok(Additions {
+            tile,
+            file,
+            sections,
+            outputs,
+        })
     }
 }

@@ -1,3 +1,3 @@
-pub mod ExitLemmas
 pub mod Faults
+pub mod Numerals
 pub mod Reading

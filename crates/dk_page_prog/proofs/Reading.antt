@@ -1,12 +1,13 @@
 -- A file that was read up to one byte more than it may have.
-use Rattle.std.proofs.Common.{◌≤◌, ◌+◌, ℕ, List, inl, inr, length, take, arith, subst}
+use Rattle.std.proofs.Common.{◌≤◌, ◌+◌, ◌≡◌, ℕ, List, [], inl, inr, length, refl, take, arith, subst}
 use Rattle.std.proofs.lemmas.List.{length-take, take_all}
 use Rattle.std.specs.Prelude.{IfOk, IfSome, Option, Some, None, Result, Ok, Err}
 use Rattle.dk_config.specs.declared.TheConstants.{MAX_CONFIG_BYTES, MAX_LEDGER_BYTES}
-use Rattle.dk_outside.specs.Files.{IsReading}
 use Rattle.dk_outside.specs.declared.depot.DepotError.{DepotError}
-use Rattle.dk_page_prog.specs.Answers.{IsLongConfig, IsLongLedger, IsOfBoth, IsOfDocument, IsOfFile, IsOfFiles, IsOfLedger, IsOfName, IsOfNames, IsWithLedger, IsWithin}
+use Rattle.dk_review.specs.declared.drawing.Range.{Range}
+use Rattle.dk_page_prog.specs.Answers.{AreRead, IsAsked, IsLongConfig, IsLongLedger, IsLongNeeds, IsOfAll, IsOfFiles, IsOfLedger, IsOfNeeds, IsReadAt, IsWithin}
 use Rattle.dk_page_prog.specs.declared.answers.Answer.{Answer}
+use Rattle.dk_page_prog.specs.declared.answers.Held.{Held}
 
 -- what its beginning comes to is what it comes to
 of_whole : (most : ℕ) (Long : Type 0) (Short : List ℕ → Type 0) (file : List ℕ)
@@ -19,45 +20,67 @@ of_whole most Long Short file (inr short) =
     let few : length file ≤ most = (let less = short.0 in omega (arith, counted, less)) in
     inr (few, subst Short (take_all (most + 1) file (omega (arith, few))) short.1)
 
--- and so is it of the file of a name
-pub of_named : (files : Option (List ℕ → Option (List ℕ))) (name bytes : List ℕ) (result : Result Answer DepotError)
-    → IfSome files (λ at. IsReading at name MAX_CONFIG_BYTES bytes) → IfOk result (λ a. IsOfFile name a bytes)
-    → IfSome files (λ at. IfOk result (IsOfName at name))
-of_named None name bytes result held is = tt
-of_named (Some at) name bytes (Ok a) held is = (
-  held.0,
-  held.1,
-  of_whole MAX_CONFIG_BYTES (IsLongConfig a) (λ d. IsOfDocument name d a) held.0 (subst (λ b. IsOfFile name a b) held.2 is),
-)
-of_named (Some at) name bytes (Err e) held is = tt
+-- what a file comes to by one reading of it is so by another
+mapped : (most : ℕ) (Long : Type 0) (S T : List ℕ → Type 0) (file : List ℕ) → ((f : List ℕ) → S f → T f)
+    → IsWithin most Long S file → IsWithin most Long T file
+mapped most Long S T file further (inl long) = inl long
+mapped most Long S T file further (inr short) = inr (short.0, further file short.1)
 
--- of that of a ledger beside a document
-ledger_whole : (name ledger document file : List ℕ) (a : Answer)
-    → IsOfFiles name ledger a document (take (MAX_LEDGER_BYTES + 1) file) → IsOfFiles name ledger a document file
-ledger_whole name ledger document file a (inl long) = inl long
-ledger_whole name ledger document file a (inr short) =
-    inr (short.0, of_whole MAX_LEDGER_BYTES (IsLongLedger a) (λ b. IsOfBoth name document ledger b a) file short.1)
+-- of all files
+files_whole : (name : List ℕ) (needs ledger : Option (List ℕ)) (range : Option Range) (a : Answer) (document held bytes : List ℕ)
+    → IsOfFiles name needs ledger range a (take (MAX_CONFIG_BYTES + 1) document) (take (MAX_CONFIG_BYTES + 1) held)
+    (take (MAX_LEDGER_BYTES + 1) bytes)
+    → IsOfFiles name needs ledger range a document held bytes
+files_whole name needs ledger range a document held bytes is =
+    let few = take (MAX_LEDGER_BYTES + 1) bytes in
+    let short = take (MAX_CONFIG_BYTES + 1) held in
+    let of_bytes = λ (d h : List ℕ) (b : IsOfLedger name d needs h ledger range a few).
+    of_whole MAX_LEDGER_BYTES (IsLongLedger a) (λ x. IsOfAll name d needs h ledger range a x) bytes b in
+    let of_held = λ (d : List ℕ) (n : IsOfNeeds name d needs ledger range a few short).
+    of_whole MAX_CONFIG_BYTES (IsLongNeeds a) (λ h. IsOfLedger name d needs h ledger range a bytes) held
+    (mapped MAX_CONFIG_BYTES (IsLongNeeds a) (λ h. IsOfLedger name d needs h ledger range a few)
+    (λ h. IsOfLedger name d needs h ledger range a bytes) short (of_bytes d) n) in
+    of_whole MAX_CONFIG_BYTES (IsLongConfig a) (λ d. IsOfNeeds name d needs ledger range a bytes held) document
+    (mapped MAX_CONFIG_BYTES (IsLongConfig a) (λ d. IsOfNeeds name d needs ledger range a few short)
+    (λ d. IsOfNeeds name d needs ledger range a bytes held) (take (MAX_CONFIG_BYTES + 1) document) of_held is)
 
-pub of_ledger_named : (files : Option (List ℕ → Option (List ℕ))) (name ledger document bytes : List ℕ)
-    (result : Result Answer DepotError) → IfSome files (λ at. IsReading at ledger MAX_LEDGER_BYTES bytes)
-    → IfOk result (λ a. IsOfFiles name ledger a document bytes)
-    → IfSome files (λ at. IfOk result (λ a. IsWithLedger at name ledger a document))
-of_ledger_named None name ledger document bytes result held is = tt
-of_ledger_named (Some at) name ledger document bytes (Ok a) held is =
-    (held.0, held.1, ledger_whole name ledger document held.0 a (subst (λ b. IsOfFiles name ledger a document b) held.2 is))
-of_ledger_named (Some at) name ledger document bytes (Err e) held is = tt
+same_files : (name : List ℕ) (needs ledger : Option (List ℕ)) (range : Option Range) (a : Answer) (d h b e i c : List ℕ)
+    → d ≡ e → h ≡ i → b ≡ c → IsOfFiles name needs ledger range a d h b → IsOfFiles name needs ledger range a e i c
+same_files name needs ledger range a d h b e i c ds hs bs is =
+    subst (λ x. IsOfFiles name needs ledger range a e i x) bs
+    (subst (λ x. IsOfFiles name needs ledger range a e x b) hs (subst (λ x. IsOfFiles name needs ledger range a x h b) ds is))
 
--- and of that of a document beside a ledger
-pub of_both_named : (files : Option (List ℕ → Option (List ℕ))) (name ledger document : List ℕ) (result : Result Answer DepotError)
-    → IfSome files (λ at. IsReading at name MAX_CONFIG_BYTES document)
-    → IfSome files (λ at. IfOk result (λ a. IsWithLedger at name ledger a document))
-    → IfSome files (λ at. IfOk result (IsOfNames at name ledger))
-of_both_named None name ledger document result held is = tt
-of_both_named (Some at) name ledger document (Ok a) held is =
-    let bytes = is.0 in
-    let whole = of_whole MAX_CONFIG_BYTES (IsLongConfig a) (λ d. IsOfLedger name d ledger a bytes) held.0 (subst (λ d. IsOfFiles name ledger a d bytes) held.2 is.2) in
-    (held.0, held.1, (bytes, is.1, whole))
-of_both_named (Some at) name ledger document (Err e) held is = tt
+-- so what was read comes to what the files come to
+pub of_read : (files : Option (List ℕ → Option (List ℕ))) (name : List ℕ) (needs ledger : Option (List ℕ)) (range : Option Range)
+    (h : Held) (result : Result Answer DepotError) → IfSome files (λ at. AreRead at name needs ledger h)
+    → IfOk result (λ a. IsOfFiles name needs ledger range a h.document.items h.needs.items h.ledger.items)
+    → IfSome files (λ at. IfOk result (IsAsked at name needs ledger range))
+of_read None name needs ledger range h result read is = tt
+of_read (Some at) name needs ledger range h (Ok a) read is = record {
+  document = read.document.0;
+  held = read.needs_are.0;
+  bytes = read.ledger_is.0;
+  has_document = read.document.1;
+  has_needs = read.needs_are.1;
+  has_ledger = read.ledger_is.1;
+  comes = files_whole name needs ledger range a read.document.0 read.needs_are.0 read.ledger_is.0
+      (same_files name needs ledger range a _ _ _ _ _ _ read.document.2 read.needs_are.2 read.ledger_is.2 is);
+}
+of_read (Some at) name needs ledger range h (Err e) read is = tt
+
+-- three files that were read
+pub all_read : (files : Option (List ℕ → Option (List ℕ))) (name : List ℕ) (needs ledger : Option (List ℕ)) (h : Held)
+    → IfSome files (λ at. IsReadAt at (Some name) MAX_CONFIG_BYTES h.document.items)
+    → IfSome files (λ at. IsReadAt at needs MAX_CONFIG_BYTES h.needs.items)
+    → IfSome files (λ at. IsReadAt at ledger MAX_LEDGER_BYTES h.ledger.items)
+    → IfSome files (λ at. AreRead at name needs ledger h)
+all_read None name needs ledger h d n l = tt
+all_read (Some at) name needs ledger h d n l = record { document = d; needs_are = n; ledger_is = l }
+
+-- nothing was read where no file is named
+pub none_read : (files : Option (List ℕ → Option (List ℕ))) (limit : ℕ) → IfSome files (λ at. IsReadAt at None limit [])
+none_read None limit = tt
+none_read (Some at) limit = ([], refl, refl)
 
 pub wider : {E : Type 0} (P Q : Answer → Type 0) (r : Result Answer E) → ((a : Answer) → P a → Q a) → IfOk r P → IfOk r Q
 wider P Q (Ok a) all is = all a is

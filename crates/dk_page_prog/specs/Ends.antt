@@ -3,6 +3,8 @@ use Rattle.std.specs.Prelude.{ℕ, ◌≡◌, ◌≢◌, List, IfSome}
 use Rattle.dk_outside.specs.Counts.{Rises}
 use Rattle.dk_outside.specs.Views.{DepotView, SinkView}
 use Rattle.dk_outside.specs.Written.{Appends, AppendsPrefix}
+use Rattle.dk_edge.specs.declared.running.EdgeFault.{EdgeFault}
+use Rattle.dk_edge.specs.declared.running.EdgeFault.TheVariants.{NoMemory, Output}
 use Rattle.dk_page_prog.specs.Answers.{IsAnswered}
 use Rattle.dk_page_prog.specs.declared.answers.Answer.{Answer}
 use Rattle.dk_page_prog.specs.declared.status.Answered.{Answered}
@@ -24,3 +26,8 @@ pub record Ends (words : List (List ℕ)) (depot_old depot_new : DepotView) (sin
   pub no_read_failed : ended ≢ status.DepotFault → depot_new.faults ≡ depot_old.faults
   pub no_write_failed : ended ≢ status.SinkFault → sink_new.faults ≡ sink_old.faults
   pub same : depot_new.files ≡ depot_old.files
+
+-- the status for what ends the program at the edge
+abbrev pub status_of : EdgeFault → Status
+status_of NoMemory = status.NoMemory
+status_of Output = status.SinkFault

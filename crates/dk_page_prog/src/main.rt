@@ -2,16 +2,19 @@
 #![tactic(auto)]
 
 mod answers;
+mod asking;
+mod numbers;
 mod page;
 mod program;
 mod status;
 
-use crate::program::run_program;
-use dk_edge::{FileDepot, ProcessWords, StandardOutput, SystemFiles};
+use crate::program::DeoskPage;
+use dk_edge::{FileDepot, ProcessWords, StandardOutput, SystemFiles, run_program};
 use std::process::ExitCode;
 
 fn main(rt: HostRuntime) -> ExitCode {
     run_program(
+        &DeoskPage,
         rt.alloc(),
         &ProcessWords::new(&rt),
         &mut FileDepot::new(SystemFiles::new(&rt)),

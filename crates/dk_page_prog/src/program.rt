@@ -1,25 +1,25 @@
-//! All that the program does over any words, files and output.
-ghost use Rattle.std.specs.Prelude.{◌^◌, ◌<◌};
-ghost use Rattle.std.specs.Process.{exit_status};
-ghost use Rattle.dk_page_prog.specs.Exits.{Exits};
-
+//! The call that the program makes.
 use crate::page::deosk_page;
 use crate::status::Status;
-use dk_edge::{Program, Words, final_status, run};
+use dk_edge::{EdgeFault, Program};
 use dk_outside::{Depot, Sink};
 use std::alloc::Global;
-use std::process::ExitCode;
 
 /// The call of `deosk_page`.
 #[derive(Clone, Copy)]
 pub struct DeoskPage;
 
 impl Program for DeoskPage {
-    ghost use Rattle.dk_page_prog.specs.Ends.{Ends};
+    ghost use Rattle.dk_page_prog.specs.Answers.{status_number};
+    ghost use Rattle.dk_page_prog.specs.Ends.{Ends, status_of};
 
     type Status = Status;
 
     ghost ends = { Ends };
+
+    ghost number_of = { status_number };
+
+    ghost status_of = { status_of };
 
     fn call<D: Depot, S: Sink>(
         &self,
@@ -30,20 +30,15 @@ impl Program for DeoskPage {
     ) -> Status {
         deosk_page(alloc, words, depot, sink)
     }
-}
 
-/// Makes the one call, and gives what the process ends with: the number of the call's status, or of what ended it at the
-/// edge.
-pub fn run_program<W: Words, D: Depot, S: Sink + Drop>(
-    alloc: Global,
-    given: &W,
-    depot: &mut D,
-    out: S,
-) -> (ExitCode, S)
-    requires { (D.seen depot.old).given < 2 ^ 62 }
-    ensures { Exits (W.told given.now) (D.seen depot.old) (D.seen depot.new) (S.seen out) (S.seen result.1) (exit_status result.0) }
-{
-    let (ended, out) = run(&DeoskPage, alloc, given, depot, out);
-    let status = final_status(Status::NoMemory, Status::SinkFault, ended);
-    (ExitCode::from(status.number()), out)
+    fn number(&self, status: Status) -> u8 {
+        status.number()
+    }
+
+    fn at_edge(&self, fault: EdgeFault) -> Status {
+        match fault {
+            EdgeFault::NoMemory => Status::NoMemory,
+            EdgeFault::Output => Status::SinkFault,
+        }
+    }
 }

@@ -3,15 +3,16 @@
 /// What the words and the files came to.
 #[derive(Clone, Copy)]
 pub enum Answered {
-    /// The page is that of a certified configuration, and of a ledger that follows the rules, where one is named.
+    /// The page is that of a certified configuration, of needs that are all met, and of a ledger that follows the rules, where
+    /// they are named.
     Done,
     /// The words are no command.
     Usage,
-    /// The document isn't that of a configuration.
+    /// The document isn't that of a configuration, or the needs are refused.
     Config,
     /// The configuration isn't certified.
     Uncertified,
-    /// The ledger breaks a rule, or is refused.
+    /// A need isn't met, or the ledger breaks a rule or is refused.
     Ledger,
 }
 

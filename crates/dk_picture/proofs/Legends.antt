@@ -1,6 +1,7 @@
 -- The legend of the code is that of the definitions, and names what is drawn.
 use Rattle.dk_picture.proofs.Names.{ℕ, ◌≡◌, ◌++◌, List, refl, sym, inl, inr, ◌⊎◌, Event, Label, Source, Work, Has, arguments_of, word_of, argument_words, event_text, behind, event_blanks, LEGEND, WINDOWS_HEAD, class_of, meaning_of, meanings, named_classes}
 use Rattle.std.specs.Fmt.{digits}
+use Rattle.std.proofs.Common.{rules}
 use Rattle.dk_picture.specs.Elements.{rect_head, words_at}
 use Rattle.dk_picture.specs.Legends.{legend_rows}
 use Rattle.dk_picture.specs.Windows.{windows_head}
@@ -29,15 +30,7 @@ classes_named Label.Idle = inl refl
 
 pub marks_named : (e : Event) → Has meanings (meaning_of e)
 marks_named Event.Wait = inl refl
-marks_named Event.Exit = inr (inl refl)
-marks_named (Event.Create serial level quota) = inr (inr (inl refl))
-marks_named (Event.Delete serial) = inr (inr (inr (inl refl)))
-marks_named (Event.Lock m) = inr (inr (inr (inr (inl refl))))
-marks_named (Event.Unlock m) = inr (inr (inr (inr (inr (inl refl)))))
-marks_named (Event.Slack amount) = inr (inr (inr (inr (inr (inr (inl refl))))))
-marks_named (Event.Put value) = inr (inr (inr (inr (inr (inr (inr (inl refl)))))))
-marks_named (Event.Refused refusal) = inr (inr (inr (inr (inr (inr (inr (inr (inl refl))))))))
-marks_named (Event.Fault kind) = inr (inr (inr (inr (inr (inr (inr (inr (inr (inl refl)))))))))
+marks_named event = search rules
 
 pub words_begin : (e : Event) → (rest : List ℕ) × (event_text e ≡ word_of e ++ rest)
 words_begin e = (behind 32 (argument_words (arguments_of e)), sym (event_blanks e))

@@ -12,5 +12,6 @@ pub mod Legends
 pub mod Pixels
 pub mod Overrun
 pub mod Plain
+pub mod Promised
 pub mod Shared
 pub mod Styles

@@ -19,7 +19,7 @@ pub use Rattle.dk_hold_spans.specs.HoldLists.{ended_hold, ended_holds, holds_beh
 pub use Rattle.dk_hold_spans.specs.declared.hold.Hold.{Hold}
 pub use Rattle.dk_holds.specs.Holds.{ended, holding}
 pub use Rattle.dk_holds.specs.declared.holding.Holding.{Holding}
-pub use Rattle.dk_ledger.proofs.EntryLists.{IsReadableLine, all_both, get_seam, length-entries, lines_readable}
+pub use Rattle.dk_ledger.proofs.EntryLists.{IsReadableLine, all_both, get_front, get_seam, length-entries, lines_readable}
 pub use Rattle.dk_ledger.proofs.NameLemmas.{both_right}
 pub use Rattle.dk_ledger.proofs.NextItem.{if_ok}
 pub use Rattle.dk_ledger.proofs.OneCut.{is_cut}
@@ -46,18 +46,22 @@ pub use Rattle.dk_picture.specs.Lines.{thread_part}
 pub use Rattle.dk_picture.specs.Makings.{is_line_before, making_of, makings, makings_in}
 pub use Rattle.dk_picture.specs.Marks.{Mark, is_before, is_in_way, is_urgent, mark_class, mark_text, mark_title, marks, marks_at, marks_of, owner_words, strip_weight}
 pub use Rattle.dk_picture.specs.Opening.{ground_text, head_text, levels_words, opening_text, process_words}
-pub use Rattle.dk_picture.specs.Pictures.{IsGreatestEnd, IsShown, IsTooMany, body_text, foot_text, framed_text, legend_head, legend_text, parts_text, picture_text, svg_text}
+pub use Rattle.dk_picture.specs.Pictures.{IsGreatestEnd, IsShown, IsTooMany, body_text, foot_text, framed_text, legend_head, legend_text, parts_text, picture_text, promised_svg, svg_text}
 pub use Rattle.dk_picture.specs.Pixels.{BeginsAt, IsInBar}
 pub use Rattle.dk_picture.specs.Places.{before, has_pixels, middle_of, place_of, ticks_in}
 pub use Rattle.dk_picture.specs.PlainWords.{ArePlain, IsPlain, is_plain}
+pub use Rattle.dk_picture.specs.PromiseMarks.{key_text, promise_marks}
+pub use Rattle.dk_picture.specs.Promises.{HasBound, IsBound, IsPromised, Promised, nothing_promised}
 pub use Rattle.dk_picture.specs.RowTexts.{quiet_names, row_name, rows_text}
 pub use Rattle.dk_picture.specs.Rows.{child_of, child_rows, children, is_seen, level_of, level_rows, main_rows, own_child, process_rows, quiet_main, rows_at_level, rows_of, takes, takes_thread, thread_of_process, with_child}
 pub use Rattle.dk_picture.specs.Scenes.{Scene, frame_of, scene_of}
-pub use Rattle.dk_picture.specs.Shares.{done_by, is_done_in, is_last, is_whole, main_of, overran_in, share_in, share_of, share_text, shares, shares_of, shares_of_process, shares_text, ticks_within, used_in, used_weight}
+pub use Rattle.dk_picture.specs.Shares.{done_by, is_done_in, is_last, is_whole, overran_in, share_in, share_of, share_text, shares, shares_of, shares_of_process, shares_text, ticks_within, used_in, used_weight}
 pub use Rattle.dk_picture.specs.Styles.{HasOneFill, bands_text, dark, dark_fills, fills_of, light, style_text}
 pub use Rattle.dk_picture.specs.Terms.{makes, period_of}
+pub use Rattle.dk_picture.specs.Waits.{holds_at, main_of, wait_text, waits_text}
 pub use Rattle.dk_picture.specs.Windows.{begin_line, levels_text, window_at, window_count, window_text, windows_head}
 pub use Rattle.dk_picture.specs.declared.frame.Frame.{Frame}
+pub use Rattle.dk_picture.specs.declared.promise.Bound.{Bound}
 pub use Rattle.dk_picture.specs.declared.reading.PictureFault.TheVariants.{TooMany}
 pub use Rattle.dk_picture.specs.declared.rows.Row.{Row}
 pub use Rattle.dk_picture.specs.declared.shares.Share.{Share}

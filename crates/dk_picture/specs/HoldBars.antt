@@ -1,5 +1,5 @@
 -- The rows of the mutexes that are held in the range, below those of the threads, and a bar for each hold.
-use Rattle.std.specs.Prelude.{ℕ, ◌+◌, ◌-◌, ◌++◌, ◌==◌, [], ◌∷◌, Bool, List, codes, decimal, flat_map, if◌then◌else◌, map, position, sum_by, unwrap_or}
+use Rattle.std.specs.Prelude.{ℕ, ◌+◌, ◌-◌, ◌++◌, ◌==◌, [], ◌∷◌, Bool, List, Option, Some, None, codes, decimal, flat_map, if◌then◌else◌, map, position, slice_get, sum_by, unwrap_or}
 use Rattle.std.specs.List.{list_any}
 use Rattle.dk_config.specs.Sums.{below}
 use Rattle.dk_config.specs.declared.TheConstants.{MAX_MUTEXES}
@@ -69,15 +69,21 @@ abbrev pub held_ticks : List Hold → ℕ → ℕ
 held_ticks ds m = sum_by (held_weight m) ds
 
 -- the line below the row's bars, the mutex, and its ticks
-unfoldable pub mutex_line : ℕ → ℕ → ℕ → ℕ → List ℕ
-mutex_line y foot m ticks = codes "<rect class='g' x='200' y='" ++ (decimal y
+unfoldable pub mutex_line : ℕ → ℕ → ℕ → List ℕ → ℕ → List ℕ
+mutex_line y foot m name ticks = codes "<rect class='g' x='200' y='" ++ (decimal y
     ++ (codes "' width='960' height='1'/>\n<text class='t' x='8' y='" ++ (decimal foot ++ (codes "'>mutex " ++ (decimal m
-    ++ (codes "</text>\n<text class='t x' x='1232' y='" ++ (decimal foot ++ (codes "'>" ++ (decimal ticks ++ codes "</text>\n")))))))))
+    ++ (name ++ (codes "</text>\n<text class='t x' x='1232' y='" ++ (decimal foot ++ (codes "'>" ++ (decimal ticks
+    ++ codes "</text>\n"))))))))))
 
-abbrev pub mutex_text : List Hold → ℕ → ℕ → List ℕ
-mutex_text ds top m = mutex_line (top + 10) (top + 9) m (held_ticks ds m)
+-- the mutex's name, where it is known
+abbrev pub name_part : Option (List ℕ) → List ℕ
+name_part None = []
+name_part (Some name) = codes " " ++ name
+
+abbrev pub mutex_text : List (List ℕ) → List Hold → ℕ → ℕ → List ℕ
+mutex_text names ds top m = mutex_line (top + 10) (top + 9) m (name_part (slice_get names m)) (held_ticks ds m)
 
 -- the rows from number i on
-abbrev pub mutexes_text : List Hold → Frame → ℕ → List ℕ → List ℕ
-mutexes_text ds f i [] = []
-mutexes_text ds f i (m ∷ ms) = mutex_text ds (mutex_top f i) m ++ mutexes_text ds f (i + 1) ms
+abbrev pub mutexes_text : List (List ℕ) → List Hold → Frame → ℕ → List ℕ → List ℕ
+mutexes_text names ds f i [] = []
+mutexes_text names ds f i (m ∷ ms) = mutex_text names ds (mutex_top f i) m ++ mutexes_text names ds f (i + 1) ms

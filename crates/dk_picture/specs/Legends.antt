@@ -91,7 +91,7 @@ begin_sample = rect_head (codes "w") (record { x = 738; y = 21; width = 1; heigh
 -- a main that used so many ticks of a budget of 15 in a window, and whether it overran it
 abbrev pub some_share : ℕ → Bool → Share
 some_share used overran =
-    record { row = 0; first = 0; end = 0; used = used; done = 0; overran = overran; budget = 15; shared = false }
+    record { process = 0; row = 0; first = 0; end = 0; used = used; done = 0; overran = overran; budget = 15; shared = false }
 
 abbrev pub share_sample : ℕ → Share → List ℕ
 share_sample x d = codes "<text class='" ++ share_class d ++ codes "' x='" ++ decimal x ++ codes "' y='56'>"
@@ -105,10 +105,16 @@ share_samples = share_sample 646 (some_share 9 false) ++ words_text 654 56 (code
 abbrev pub sum_sample : List ℕ
 sum_sample = codes "<text class='s' x='988' y='56'>7</text>" ++ words_text 1000 56 (codes "so many marks")
 
+-- a main that a slower thread's hold kept waiting
+abbrev pub wait_sample : List ℕ
+wait_sample = rect_head hold_class (record { x = 1104; y = 49; width = 24; height = 4 }) ++ codes "/>"
+    ++ rect_head (codes "e") (record { x = 1104; y = 53; width = 24; height = 1 }) ++ codes "/>\n"
+    ++ words_text 1136 56 (codes "a hold kept the main waiting")
+
 -- all of them, and the end of the picture
 unfoldable pub legend_rows : List ℕ
 legend_rows = flat_map colour_text colours ++ hold_sample ++ begin_sample ++ flat_map shape_text shapes ++ share_samples
-    ++ sum_sample ++ codes "</g>\n</svg>\n"
+    ++ sum_sample ++ wait_sample ++ codes "</g>\n</svg>\n"
 
 -- ---- what it names
 

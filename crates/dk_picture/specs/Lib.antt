@@ -8,8 +8,10 @@ pub mod Frames
 pub mod Bars
 pub mod HoldBars
 pub mod Makings
+pub mod Promises
 pub mod Scenes
 pub mod Terms
+pub mod Waits
 pub mod Columns
 pub mod Labels
 pub mod Windows
@@ -18,6 +20,7 @@ pub mod Axis
 pub mod Styles
 pub mod Opening
 pub mod Marks
+pub mod PromiseMarks
 pub mod Shares
 pub mod Legends
 pub mod Pictures

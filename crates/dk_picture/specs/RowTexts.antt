@@ -1,5 +1,5 @@
 -- The rows with their names and numbers.
-use Rattle.std.specs.Prelude.{ℕ, ◌+◌, ◌-◌, ◌*◌, ◌/◌, ◌%◌, ◌++◌, ◌==◌, [], ◌∷◌, List, Option, Some, None, codes, decimal, if◌then◌else◌, length}
+use Rattle.std.specs.Prelude.{ℕ, ◌+◌, ◌-◌, ◌*◌, ◌/◌, ◌%◌, ◌++◌, ◌==◌, [], ◌∷◌, Bool, true, false, List, Option, Some, None, codes, decimal, if◌then◌else◌, length, slice_get}
 use Rattle.dk_ledger.specs.declared.line.LedgerLine.{LedgerLine}
 use Rattle.dk_ledger.specs.Heading.{Heading, name_of}
 use Rattle.dk_ledger.specs.LineText.{thread_text}
@@ -10,8 +10,9 @@ use Rattle.dk_picture.specs.declared.rows.Row.TheVariants as row
 use Rattle.dk_picture.specs.declared.span.Span.{Span}
 use Rattle.dk_picture.specs.declared.terms.Terms.{Terms}
 use Rattle.dk_picture.specs.Columns.{column_sum}
-use Rattle.dk_picture.specs.Elements.{words_at}
+use Rattle.dk_picture.specs.Elements.{rect, words_at}
 use Rattle.dk_picture.specs.Frames.{quiet_foot, top_of}
+use Rattle.dk_picture.specs.Rows.{level_of}
 use Rattle.dk_picture.specs.Scenes.{Scene}
 use Rattle.dk_picture.specs.Terms.{period_of, terms_of}
 use Rattle.dk_picture.specs.Windows.{own_windows}
@@ -59,9 +60,26 @@ name_line lane high low foot name = codes "<rect class='" ++ (lane ++ (codes "' 
 abbrev pub name_text : Heading → ℕ → ℕ → Row → List ℕ
 name_text h i top r = name_line (lane_class i) (top - 10) (top + 12) (top + 10) (row_name h r)
 
+-- the level of the row's process; the kernel has none
+abbrev pub row_level : Heading → Row → Option ℕ
+row_level h row.Kernel = None
+row_level h (row.Thread x) = Some (level_of h x.process)
+row_level h (row.Children p) = Some (level_of h p)
+
+abbrev pub is_same_level : Option ℕ → Option ℕ → Bool
+is_same_level None None = true
+is_same_level (Some i) (Some j) = i == j
+is_same_level _ _ = false
+
+-- a line above the first row of a level, by the row before
+abbrev pub level_line : Heading → ℕ → Option Row → Row → List ℕ
+level_line h top None r = []
+level_line h top (Some before) r = if is_same_level (row_level h before) (row_level h r) then []
+    else rect (codes "w") (record { x = 0; y = top - 10; width = 1456; height = 1 })
+
 unfoldable pub row_text : Heading → Span → Scene → ℕ → ℕ → Row → List ℕ
-row_text h s c i top r = name_text h i top r
-    ++ (terms_part h s top (terms_of h c.makings r) ++ counts_text (top + 10) r c.groups)
+row_text h s c i top r = name_text h i top r ++ (level_line h top (slice_get c.rows (i - 1)) r
+    ++ (terms_part h s top (terms_of h c.makings r) ++ counts_text (top + 10) r c.groups))
 
 -- the rows from number i on
 abbrev pub rows_text : Heading → Frame → Span → Scene → ℕ → List Row → List ℕ

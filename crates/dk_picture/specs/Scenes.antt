@@ -6,10 +6,11 @@ use Rattle.dk_hold_spans.specs.declared.hold.Hold.{Hold}
 use Rattle.dk_picture.specs.declared.frame.Frame.{Frame}
 use Rattle.dk_picture.specs.declared.rows.Row.{Row}
 use Rattle.dk_picture.specs.HoldBars.{mutex_rows}
+use Rattle.dk_picture.specs.Promises.{Promised}
 use Rattle.dk_picture.specs.Rows.{quiet_mains, rows_of}
 
--- the rows of threads and of mutexes, the processes whose mains have no tick, the groups, the holds, and the lines up to
--- the range's end that make a child
+-- the rows of threads and of mutexes, the processes whose mains have no tick, the groups, the holds, the lines up to the
+-- range's end that make a child, and what a configuration promises
 pub record Scene : Type 0 where
   pub rows : List Row
   pub quiet : List ℕ
@@ -17,16 +18,18 @@ pub record Scene : Type 0 where
   pub groups : List LedgerLine
   pub holds : List Hold
   pub makings : List LedgerLine
+  pub promised : Promised
 
--- what is drawn of these groups, holds and lines
-abbrev pub scene_of : Heading → List LedgerLine → List Hold → List LedgerLine → Scene
-scene_of h gs ds ms = record {
+-- what is drawn of these groups, holds and lines, and of what is promised
+abbrev pub scene_of : Heading → Promised → List LedgerLine → List Hold → List LedgerLine → Scene
+scene_of h x gs ds ms = record {
   rows = rows_of h gs;
   quiet = quiet_mains h gs;
   mutexes = mutex_rows ds;
   groups = gs;
   holds = ds;
   makings = ms;
+  promised = x;
 }
 
 abbrev pub frame_of : Heading → Scene → Frame

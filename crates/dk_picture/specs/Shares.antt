@@ -18,13 +18,13 @@ use Rattle.dk_picture.specs.Frames.{top_of}
 use Rattle.dk_picture.specs.Labels.{room_in}
 use Rattle.dk_picture.specs.Makings.{has_made}
 use Rattle.dk_picture.specs.Places.{has_pixels, place_of}
+use Rattle.dk_picture.specs.PromiseMarks.{promise_marks}
 use Rattle.dk_picture.specs.Rows.{is_seen, level_of, row_at}
 use Rattle.dk_picture.specs.Scenes.{Scene}
 use Rattle.dk_picture.specs.Terms.{budget_of, period_of}
+pub use Rattle.dk_picture.specs.Waits.{main_of}
+use Rattle.dk_picture.specs.Waits.{waits_text}
 use Rattle.dk_picture.specs.Windows.{window_at, window_count}
-
-abbrev pub main_of : ℕ → ThreadId
-main_of p = record { process = p; serial = 0 }
 
 -- the ticks of a group in the window from tick `first` up to before tick `end`
 abbrev pub ticks_within : ℕ → ℕ → LedgerLine → ℕ
@@ -64,6 +64,7 @@ overran_in gs x first end = nat_lt 0 (used_in gs x first end) && not (list_any (
 -- what the main of process p used in the window
 abbrev pub share_in : Heading → Scene → ℕ → Window → Share
 share_in h c p w = record {
+  process = p;
   row = row_at c.rows (Label.Run (main_of p));
   first = w.first;
   end = w.end;
@@ -121,8 +122,10 @@ done_line f s d = if d.used == 0 then []
       height = 1;
     })
 
-abbrev pub share_text : Frame → Span → Share → List ℕ
-share_text f s d = done_line f s d ++ share_line f s d (share_words d)
+-- the line, where others' holds kept the main waiting, what it used, and what is promised of it
+unfoldable pub share_text : Heading → Frame → Span → Scene → Share → List ℕ
+share_text h f s c d = done_line f s d
+    ++ (waits_text h f s c d ++ (share_line f s d (share_words d) ++ promise_marks h f s c d))
 
-abbrev pub shares_text : Frame → Span → List Share → List ℕ
-shares_text f s ds = flat_map (share_text f s) ds
+abbrev pub shares_text : Heading → Frame → Span → Scene → List Share → List ℕ
+shares_text h f s c ds = flat_map (share_text h f s c) ds

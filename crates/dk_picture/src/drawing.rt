@@ -1,10 +1,11 @@
-//! What is drawn in a picture: the rows of threads and of mutexes, the mains without a tick, the groups, the holds, and the
-//! lines that make a child.
+//! What is drawn in a picture: the rows of threads and of mutexes, the mains without a tick, the groups, the holds, the lines
+//! that make a child, and what a configuration promises.
 ghost use Rattle.std.specs.Prelude.{◌≡◌, ◌≤◌, ◌<◌, ◌^◌, IfOk, length};
 ghost use Rattle.dk_picture.specs.Scenes.{frame_of, scene_of};
 
 use crate::frame::Frame;
 use crate::hold_bars::mutex_rows;
+use crate::promise::Promise;
 use crate::row_list::{quiet_mains, rows_of};
 use crate::rows::Rows;
 use dk_config::NoMemory;
@@ -22,6 +23,7 @@ pub(crate) struct Drawing {
     groups: Vec<LedgerLine>,
     holds: Vec<Hold>,
     makings: Vec<LedgerLine>,
+    promise: Promise,
 }
 
 impl Model for Drawing {
@@ -37,6 +39,7 @@ impl Model for Drawing {
       groups = d.groups.items;
       holds = d.holds.items;
       makings = d.makings.items;
+      promised = d.promise;
     } };
 
     ghost invariant = { λ d. (length d.quiet.items ≤ 32) × (length d.mutexes.items ≤ 16)
@@ -44,19 +47,20 @@ impl Model for Drawing {
 }
 
 impl Drawing {
-    /// These groups, holds and lines, with the rows of the first two and the mains without a tick.
+    /// These groups, holds, lines and promises, with the rows of the first two and the mains without a tick.
     pub(crate) fn of(
         alloc: Global,
         header: &Header,
         groups: Vec<LedgerLine>,
         holds: Vec<Hold>,
         makings: Vec<LedgerLine>,
+        promise: Promise,
     ) -> Result<Drawing, NoMemory>
         requires levels { length header.now.levels ≤ 12 }
         requires processes { length header.now.processes ≤ 32 }
         requires few { length groups.items < 2 ^ 16 }
         requires few_holds { length holds.items < 2 ^ 32 }
-        ensures { IfOk result (λ d. d ≡ scene_of header.now groups.items holds.items makings.items) }
+        ensures { IfOk result (λ d. d ≡ scene_of header.now promise groups.items holds.items makings.items) }
     {
         let rows = rows_of(alloc, header, groups.as_slice())?;
         let quiet = quiet_mains(alloc, header, groups.as_slice())?;
@@ -68,6 +72,7 @@ impl Drawing {
             groups,
             holds,
             makings,
+            promise,
         })
     }
 
@@ -111,6 +116,13 @@ impl Drawing {
         ensures { result.now ≡ self.now.makings }
     {
         self.makings.as_slice()
+    }
+
+    /// What a configuration promises.
+    pub(crate) fn promise(&self) -> &Promise
+        ensures { result.now ≡ self.now.promised }
+    {
+        &self.promise
     }
 
     /// How many levels and rows the picture has.

@@ -19,6 +19,8 @@ mod makings;
 mod marks;
 mod mutex_texts;
 mod opening;
+mod promise;
+mod promise_marks;
 mod quiet_texts;
 mod reading;
 mod row_list;
@@ -30,6 +32,7 @@ mod span;
 mod style;
 mod terms;
 mod threads;
+mod waits;
 mod whole;
 mod windows;
 
@@ -41,5 +44,6 @@ pub use laws::{
     bars_are_the_ticks, each_bar_has_a_row, each_hold_has_its_row, marks_are_the_events,
     shares_are_the_windows,
 };
+pub use promise::{Bound, Promise};
 pub use reading::{MAX_GROUPS, PictureFault};
-pub use whole::picture;
+pub use whole::{picture, promised_picture};

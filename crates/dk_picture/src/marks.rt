@@ -57,7 +57,7 @@ fn mark_y(top: u64, event: Event) -> u64
 }
 
 #[tactic(auto, unfolding(crate::specs::Marks::mark_line))]
-fn mark_line(
+pub(crate) fn mark_line(
     alloc: Global,
     class: &str,
     x: u64,
@@ -70,7 +70,12 @@ fn mark_line(
     format!(in alloc; "<path class='{class}' d='M{x} {y}{outline}'><title>{title}</title></path>\n")
 }
 
-fn titled(alloc: Global, tick: u64, thread: &str, event: &str) -> Result<String, AllocError>
+pub(crate) fn titled(
+    alloc: Global,
+    tick: u64,
+    thread: &str,
+    event: &str,
+) -> Result<String, AllocError>
     ensures { IfOk result (λ s. string_bytes s ≡ titled tick thread.now event.now) }
 {
     format!(in alloc; "{tick} {thread} {event}")

@@ -1,12 +1,13 @@
 //! The rows with their names and numbers.
 ghost use Rattle.std.specs.Prelude.{◌≡◌, ◌≤◌, ◌<◌, ◌^◌, ◌++◌, IfOk, OnOk, codes, length, string_bytes};
-ghost use Rattle.dk_picture.specs.RowTexts.{counted, counts_text, lane_class, name_line, name_text, pair_text, row_name, row_text, rows_head, rows_text, terms_part, terms_text};
+ghost use Rattle.dk_picture.specs.RowTexts.{counted, counts_text, is_same_level, lane_class, level_line, name_line, name_text, pair_text, row_level, row_name, row_text, rows_head, rows_text, terms_part, terms_text};
 
 use crate::columns::{Column, column_sum};
 use crate::drawing::Drawing;
-use crate::elements::{number_at, push_line};
+use crate::elements::{Place, number_at, push_line, rect};
 use crate::frame::Frame;
 use crate::lines::{name_of, thread_words};
+use crate::row_list::level_of;
 use crate::rows::Row;
 use crate::span::Span;
 use crate::terms::{Terms, period_of, terms_of};
@@ -163,6 +164,53 @@ fn name_text(
     name_line(alloc, lane, top - 10, top + 12, top + 10, name.as_str())
 }
 
+/// The level of the row's process. The kernel has none.
+fn row_level(header: &Header, row: Row) -> Option<u8>
+    ensures { result ≡ row_level header.now row }
+{
+    match row {
+        Row::Kernel => None,
+        Row::Thread(thread) => Some(level_of(header, thread.process)),
+        Row::Children(process) => Some(level_of(header, process)),
+    }
+}
+
+fn is_same_level(one: Option<u8>, other: Option<u8>) -> bool
+    ensures { result ≡ is_same_level one other }
+{
+    match (one, other) {
+        (None, None) => true,
+        (Some(one), Some(other)) => one == other,
+        _ => false,
+    }
+}
+
+/// A line above the first row of a level, by the row before.
+fn level_line(
+    alloc: Global,
+    header: &Header,
+    top: u64,
+    before: Option<Row>,
+    row: Row,
+) -> Result<String, AllocError>
+    requires low { 10 ≤ top }
+    ensures { IfOk result (λ s. string_bytes s ≡ level_line header.now top before row) }
+{
+    let Some(before) = before else {
+        return Ok(String::new(alloc));
+    };
+    if is_same_level(row_level(header, before), row_level(header, row)) {
+        return Ok(String::new(alloc));
+    }
+    let place = Place {
+        x: 0,
+        y: top - 10,
+        width: 1456,
+        height: 1,
+    };
+    rect(alloc, "w", place)
+}
+
 /// Adds a row.
 #[tactic(auto, unfolding(crate::specs::RowTexts::row_text))]
 fn add_row(
@@ -181,6 +229,8 @@ fn add_row(
         ≡ string_bytes text.old ++ row_text header.now span drawing.now place top row) }
 {
     push_line(text, name_text(alloc, header, place, top, row)?)?;
+    let before = drawing.rows().get(place.saturating_sub(1));
+    push_line(text, level_line(alloc, header, top, before, row)?)?;
     let terms = terms_of(header, drawing.makings(), row);
     add_terms_part(alloc, text, header, span, top, terms)?;
     add_counts(alloc, text, top + 10, row, drawing.groups())

@@ -1,15 +1,17 @@
 //! The words that tell what each main used of its budget, in each of its windows that lies in the range.
-ghost use Rattle.std.specs.Prelude.{◌≡◌, ◌<◌, ◌≤◌, ◌++◌, IfOk, OnOk, length, string_bytes};
+ghost use Rattle.std.specs.Prelude.{◌≡◌, ◌<◌, ◌≤◌, ◌+◌, ◌^◌, ◌++◌, IfOk, OnOk, length, string_bytes};
 ghost use Rattle.dk_picture.specs.Shares.{done_line, share_class, share_line, share_of, share_text, share_words, shares, shares_of, shares_of_process, shares_text};
 
 use crate::drawing::Drawing;
 use crate::elements::{Place, push_line, rect, words_at};
 use crate::frame::Frame;
 use crate::labels::room_in;
+use crate::promise_marks::promise_marks;
 use crate::row_list::{is_seen, level_of};
 use crate::shares::{Share, is_whole, share_in};
 use crate::span::Span;
 use crate::terms::period_of;
+use crate::waits::add_waits;
 use crate::windows::{Window, window_at, window_count};
 use dk_ledger::Header;
 use std::alloc::{AllocError, Global};
@@ -76,14 +78,29 @@ fn done_line(alloc: Global, frame: Frame, span: Span, share: Share) -> Result<St
     rect(alloc, "e", place)
 }
 
-fn share_text(alloc: Global, frame: Frame, span: Span, share: Share) -> Result<String, AllocError>
-    ensures { IfOk result (λ s. string_bytes s ≡ share_text frame span share) }
+/// The line of the window, where others' holds kept the main waiting, what it used, and what is promised of it.
+#[tactic(auto, unfolding(crate::specs::Shares::share_text))]
+fn share_text(
+    alloc: Global,
+    header: &Header,
+    frame: Frame,
+    span: Span,
+    drawing: &Drawing,
+    share: Share,
+) -> Result<String, AllocError>
+    requires { share.first + 2 ^ 32 ≤ 2 ^ 64 }
+    ensures { IfOk result (λ s. string_bytes s ≡ share_text header.now frame span drawing.now share) }
 {
     let words = share_words(alloc, share)?;
     let mut text = done_line(alloc, frame, span, share)?;
+    add_waits(alloc, &mut text, header, frame, span, drawing, share)?;
     push_line(
         &mut text,
         share_line(alloc, frame, span, share, words.as_str())?,
+    )?;
+    push_line(
+        &mut text,
+        promise_marks(alloc, header, frame, span, drawing, share)?,
     )?;
     Ok(text)
 }
@@ -98,12 +115,13 @@ fn share_of(
     process: u8,
     window: Window,
 ) -> Result<String, AllocError>
+    requires { window.first + 2 ^ 32 ≤ 2 ^ 64 }
     ensures { IfOk result (λ s. string_bytes s
-        ≡ shares_text frame span (share_of header.now span drawing.now process window)) }
+        ≡ shares_text header.now frame span drawing.now (share_of header.now span drawing.now process window)) }
 {
     if is_whole(span, window) {
         let share = share_in(header, drawing, process, window);
-        share_text(alloc, frame, span, share)
+        share_text(alloc, header, frame, span, drawing, share)
     } else {
         Ok(String::new(alloc))
     }
@@ -123,7 +141,7 @@ fn add_windows(
 ) -> Result<(), AllocError>
     requires { 0 < period }
     ensures { OnOk result (string_bytes text.new ≡ string_bytes text.old
-        ++ shares_text frame span (shares_of header.now span drawing.now process level period)) }
+        ++ shares_text header.now frame span drawing.now (shares_of header.now span drawing.now process level period)) }
 {
     let first = span.from / period;
     for number in 0..window_count(span, period) {
@@ -145,7 +163,7 @@ fn add_main(
     process: u8,
 ) -> Result<(), AllocError>
     ensures { OnOk result (string_bytes text.new ≡ string_bytes text.old
-        ++ shares_text frame span (shares_of_process header.now span drawing.now process)) }
+        ++ shares_text header.now frame span drawing.now (shares_of_process header.now span drawing.now process)) }
 {
     let level = level_of(header, process);
     let period = period_of(header, level);
@@ -172,7 +190,7 @@ pub(crate) fn add_shares(
 ) -> Result<(), AllocError>
     requires { length header.now.processes ≤ 32 }
     ensures { OnOk result (string_bytes text.new ≡ string_bytes text.old
-        ++ shares_text frame span (shares header.now span drawing.now)) }
+        ++ shares_text header.now frame span drawing.now (shares header.now span drawing.now)) }
 {
     for process in 0..header.processes.len() as u8 {
         add_main(alloc, text, header, frame, span, drawing, process)?;

@@ -2,7 +2,6 @@
 ghost use Rattle.std.specs.Prelude.{◌≡◌, ◌<◌, ◌^◌, false, length};
 ghost use Rattle.std.specs.List.{list_any};
 ghost use Rattle.std.specs.Option.{option_map_or};
-ghost use Rattle.dk_trace.specs.Entries.{is_budget_of, is_same, quiet};
 ghost use Rattle.dk_picture.specs.Shares.{done_by, done_weight, is_done_in, is_last, is_whole, main_of, share_in, ticks_within, used_in, used_weight};
 
 use crate::drawing::Drawing;
@@ -13,9 +12,11 @@ use crate::windows::Window;
 use dk_ledger::{Header, LedgerLine};
 use dk_trace::{Event, Label, ThreadId};
 
-/// What a main used of its budget in the window from tick `first` up to before tick `end`, and the number of its row.
+/// What the main of a process used of its budget in the window from tick `first` up to before tick `end`, and the number of
+/// its row.
 #[derive(Clone, Copy)]
 pub(crate) struct Share {
+    pub(crate) process: u8,
     pub(crate) row: u16,
     pub(crate) first: u64,
     pub(crate) end: u64,
@@ -28,7 +29,7 @@ pub(crate) struct Share {
     pub(crate) shared: bool,
 }
 
-fn main_of(process: u8) -> ThreadId
+pub(crate) fn main_of(process: u8) -> ThreadId
     ensures { result ≡ main_of process }
 {
     ThreadId { process, serial: 0 }
@@ -43,23 +44,11 @@ fn ticks_within(first: u64, end: u64, group: &LedgerLine) -> u64
     behind.saturating_sub((group.start as u64).max(first))
 }
 
-/// Whether the thread's budget paid for ticks of the label.
-fn is_paid_by(thread: ThreadId, label: Label) -> bool
-    ensures { result ≡ is_budget_of thread (quiet label) }
-{
-    match label {
-        Label::In(payer) | Label::Run(payer) | Label::Call(payer) | Label::Out(payer) => {
-            thread.is_same(payer)
-        }
-        _ => false,
-    }
-}
-
 fn used_weight(thread: ThreadId, first: u64, end: u64, group: &LedgerLine) -> u64
     ensures value { result ≡ used_weight thread first end group.now }
     ensures small { result < 2 ^ 32 }
 {
-    if is_paid_by(thread, group.label) {
+    if group.label.is_paid_by(thread) {
         ticks_within(first, end, group)
     } else {
         0
@@ -106,22 +95,12 @@ fn is_last(event: Option<Event>) -> bool
     matches!(event, Some(Event::Wait | Event::Exit | Event::Fault(_)))
 }
 
-fn is_owner(thread: ThreadId, owner: Option<ThreadId>) -> bool
-    ensures { result ≡ option_map_or (is_same thread) owner false }
-{
-    match owner {
-        Some(owner) => thread.is_same(owner),
-        None => false,
-    }
-}
-
 /// Whether the thread's group ends in the window, with a call that ends its job or an event that ends it.
 fn is_done_in(thread: ThreadId, first: u64, end: u64, group: &LedgerLine) -> bool
     ensures { result ≡ is_done_in thread first end group.now }
 {
     let behind = group.start as u64 + group.count as u64;
-    (is_owner(thread, group.label.thread()) && is_last(group.event))
-        && (first < behind && behind <= end)
+    (group.label.is_of(thread) && is_last(group.event)) && (first < behind && behind <= end)
 }
 
 fn has_done(groups: &[LedgerLine], thread: ThreadId, first: u64, end: u64) -> bool
@@ -144,6 +123,7 @@ pub(crate) fn share_in(header: &Header, drawing: &Drawing, process: u8, window: 
     let used = used_in(groups, main, window.first, window.end);
     let done = has_done(groups, main, window.first, window.end);
     Share {
+        process,
         row: drawing.rows().at(Label::Run(main)),
         first: window.first,
         end: window.end,

@@ -75,6 +75,8 @@ pub(crate) const LEGEND: &str =
 <text class='m s x' x='646' y='56'>9/15</text><text x='654' y='56'>used/budget of a window</text>
 <text class='u s x' x='860' y='56'>15/15</text><text x='868' y='56'>it was overrun</text>
 <text class='s' x='988' y='56'>7</text><text x='1000' y='56'>so many marks</text>
+<rect class='h' x='1104' y='49' width='24' height='4'/><rect class='e' x='1104' y='53' width='24' height='1'/>
+<text x='1136' y='56'>a hold kept the main waiting</text>
 </g>
 </svg>
 ";

@@ -97,7 +97,8 @@ fn window_text(alloc: Global, span: Span, window: Window) -> Result<String, Allo
 
 /// A window by its number.
 pub(crate) fn window_at(level: u8, period: u32, number: u32) -> Window
-    ensures { result ≡ window_at level period number }
+    ensures value { result ≡ window_at level period number }
+    ensures small { result.first + 2 ^ 32 ≤ 2 ^ 64 }
 {
     let first = number as u64 * period as u64;
     Window {

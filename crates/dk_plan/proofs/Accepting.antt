@@ -1,51 +1,23 @@
 -- A configuration is accepted where each level fits, and then the test finds no level that fails.
-use Rattle.std.proofs.Common.{◌≡◌, ◌∙◌, ap, refl, sym, subst, ℕ, zero, suc, ◌+◌, ◌<◌, ◌≤◌, min, ◌⊎◌, inl, inr, Bool, true, false, length, arith}
-use Rattle.std.specs.Prelude.{Option, Some, None, IfNone, if◌then◌else◌, nat_lt, ◌↔◌}
-use Rattle.std.specs.Option.{option_or}
-use Rattle.std.proofs.lemmas.Bool.{ltb-false}
-use Rattle.dk_config.specs.declared.TheConstants.{MAX_SPAN}
-use Rattle.dk_config.specs.Configuration.{Configuration}
-use Rattle.dk_config.specs.Sums.{numbers, first_of}
-use Rattle.dk_config.specs.Windows.{period}
-use Rattle.dk_config.specs.Certification.{level_demand, level_blocking, fails_at, first_failing}
-use Rattle.dk_config.specs.Checked.{IsAccepted}
-use Rattle.dk_config.proofs.Counting.{first_of-none}
-use Rattle.dk_certify.proofs.VerdictLemmas.{passes}
-use Rattle.dk_certify.specs.Verdicts.{answer_of, rows_of}
+use Rattle.dk_plan.proofs.Names.{◌≡◌, refl, sym, subst, ℕ, zero, suc, ◌+◌, ◌<◌, ◌≤◌, min, ◌⊎◌, inl, inr, length, arith, Option, Some, None, IfNone, if◌then◌else◌, nat_lt, ◌↔◌, option_or, MAX_SPAN, Configuration, numbers, first_of, period, level_demand, level_blocking, fails_at, first_failing, IsAccepted, first_of-none, passes, answer_of, rows_of, IsCertified, with_budget, LevelFits, nat_tests}
 use Rattle.dk_certify.specs.declared.certifying.Verdict.TheVariants as Verdict
-use Rattle.dk_plan.specs.Budget.{IsCertified, with_budget}
-use Rattle.dk_plan.specs.Levels.{LevelFits}
 
 pub if_none : {T : Type 0} (o : Option T) (P : Type 0) → P → IfNone o P
 if_none None P h = h
 if_none (Some x) P h = tt
 
 fits : (j window needs : ℕ) → (if nat_lt window needs then Some j else None) ≡ None → needs ≤ window
-fits j window needs h = go (nat_lt window needs) refl h
-  where
-    go : (t : Bool) → nat_lt window needs ≡ t → (if t then Some j else None) ≡ None → needs ≤ window
-    go true is h = absurd (cc)
-    go false is h = ltb-false window needs is
+fits j window needs h = grind (arith, nat_tests)
 
 both_none : (a b : Option ℕ) → option_or a b ≡ None → (a ≡ None) × (b ≡ None)
-both_none None b h = (refl, h)
-both_none (Some x) b h = absurd (cc)
+both_none a b h = grind (arith, nat_tests)
 
 each_none : (f : ℕ → Option ℕ) (low n : ℕ) → first_of f (numbers low n) ≡ None → (j : ℕ) → low ≤ j → j < low + n → f j ≡ None
 each_none f low zero h j a b = absurd (omega arith)
-each_none f low (suc n) h j a b =
-    let (here, later) = both_none (f low) (first_of f (numbers (suc low) n)) h in
-    elim (here_or_later low j a) [
-      | inl same ↦ ap f (sym same) ∙ here
-      | inr after ↦ each_none f (suc low) n later j after (omega arith)
-    ]
-  where
-    here_or_later : (low j : ℕ) → low ≤ j → (low ≡ j) ⊎ (low < j)
-    here_or_later low j h = grind arith
+each_none f low (suc n) h j a b = grind (arith, nat_tests, each_none f (suc low) n)
 
 pub certified_from : (c : Configuration) → IsAccepted c → IsCertified c
-certified_from c accepted =
-    ap (answer_of c) (first_of-none (fails_at c) 0 (length c.levels) (λ j h. passes j (period c j) (level_demand c j + level_blocking c j) (accepted j (omega arith))))
+certified_from c accepted = grind (arith, nat_tests, first_of-none, passes)
 
 pub accepted_from : (c : Configuration) → IsCertified c → IsAccepted c
 accepted_from c certified j inside =

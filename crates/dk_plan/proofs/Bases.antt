@@ -1,9 +1,5 @@
 -- The search through the upper half of a range of bases.
-use Rattle.std.proofs.Common.{◌≡◌, ◌∙◌, sym, subst, true, false, ℕ, zero, suc, ◌+◌, ◌*◌, ◌<◌, ◌≤◌, ◌⊎◌, inl, inr, List, refl, arith}
-use Rattle.std.proofs.Math.Nat.{le_of_lt}
-use Rattle.dk_plan.specs.declared.harmonising.Ask.{Ask}
-use Rattle.dk_plan.specs.declared.harmonising.Fraction.{Fraction}
-use Rattle.dk_plan.specs.Base.{AreAsks, IsAtMost, IsBelow, IsSame, NoneLess, utilisation}
+use Rattle.dk_plan.proofs.Names.{◌≡◌, ◌∙◌, sym, subst, true, false, ℕ, zero, suc, ◌+◌, ◌*◌, ◌<◌, ◌≤◌, ◌⊎◌, inl, inr, List, refl, arith, le_of_lt, Ask, Fraction, AreAsks, IsAtMost, IsBelow, IsSame, NoneLess, utilisation, nat_tests}
 use Rattle.dk_plan.proofs.Fractions.{same_order, same_strict_order, at_most_in_turn}
 use Rattle.dk_plan.proofs.Claims.{asks_for, denominator-positive, utilisation-of_double}
 use Rattle.dk_plan.proofs.Accepting.{before_or_here}
@@ -86,11 +82,4 @@ least_of_all asks lo hi first best some are upper_half no_less p a b =
     subst (λ u. IsAtMost (utilisation best asks) u) (sym same) (no_less q (upper_half q (omega (arith, from)) wide) short)
 
 pub below_otherwise : (a b : Fraction) → (IsAtMost b a → false ≡ true) → IsBelow a b
-below_otherwise a b h =
-    elim (at_most_or_below b a) [
-      | inl at_most ↦ let wrong = h at_most in absurd (cc)
-      | inr below ↦ below
-    ]
-  where
-    at_most_or_below : (a b : Fraction) → IsAtMost a b ⊎ IsBelow b a
-    at_most_or_below a b = grind arith
+below_otherwise a b h = grind (arith, nat_tests)

@@ -1,21 +1,11 @@
 -- What asks take together with a base: the sum of the fractions, and the same in windows of the greatest period that one gets.
-use Rattle.std.proofs.Common.{◌≡◌, ◌∙◌, sym, ap, ℕ, ◌+◌, ◌*◌, ◌/◌, ◌^◌, ◌<◌, ◌≤◌, List, [], ◌∷◌, length, max, arith, refl, ◌⊎◌, inl, inr}
-use Rattle.std.specs.Prelude.{All}
-use Rattle.std.proofs.lemmas.List.Elements.{All-head, All-tail, All-weaker}
-use Rattle.std.proofs.lemmas.List.Sums.{sum_by-cons}
-use Rattle.std.proofs.Math.Nat.{mul-div_cancel, mul-pos}
-use Rattle.dk_config.specs.declared.TheConstants.{MAX_SPAN}
-use Rattle.dk_plan.specs.declared.harmonising.Ask.{Ask}
-use Rattle.dk_plan.specs.Base.{AreAsks, IsAsk, fraction_sum, longest_got, part_of, period_got, ticks_in, utilisation}
+use Rattle.dk_plan.proofs.Names.{◌≡◌, ◌∙◌, sym, ap, ℕ, ◌+◌, ◌*◌, ◌/◌, ◌^◌, ◌<◌, ◌≤◌, List, [], ◌∷◌, length, max, arith, refl, ◌⊎◌, inl, inr, All, All-head, All-tail, sum_by-cons, mul-div_cancel, mul-pos, MAX_SPAN, Ask, AreAsks, IsAsk, fraction_sum, longest_got, part_of, period_got, ticks_in, nat_tests}
+use Rattle.dk_plan.specs.Base.{utilisation}
 use Rattle.dk_plan.proofs.Doubles.{double_divides, period_got-double, period_got-positive, period_got-of_double}
 
 -- asks for a base are asks for a shorter one
 pub asks_for : (longest base : ℕ) (asks : List Ask) → base ≤ longest → AreAsks longest asks → AreAsks base asks
-asks_for longest base asks h are = record {
-  some = are.some;
-  few = are.few;
-  each = All-weaker (IsAsk longest) (IsAsk base) (λ ask is. record { long = let long = is.long in omega (arith, long, h); period = is.period; some = is.some; budget = is.budget }) asks are.each;
-}
+asks_for longest base asks h are = grind (arith, nat_tests)
 
 pub base_short : (longest : ℕ) (asks : List Ask) → AreAsks longest asks → longest ≤ MAX_SPAN
 base_short longest [] are = let wrong = are.some in absurd (omega (arith, wrong))
@@ -77,9 +67,7 @@ module _ (base : ℕ) (some : 1 ≤ base) where
   -- whole windows of the greatest period are the sum of the fractions
   pub exact : (asks : List Ask) → AreAsks base asks → (ticks whole : ℕ) → whole ≡ longest_got base asks → ticks ≡ ticks_in base whole asks
       → ticks * (utilisation base asks).denominator ≡ (utilisation base asks).numerator * whole
-  exact asks are ticks whole whole_is ticks_is =
-      let (k, is) = greatest_is asks are.some are.each in
-      ap (λ n. n * (utilisation base asks).denominator) ticks_is ∙ claimed whole k (whole_is ∙ is) asks are.each (omega (arith, whole_is))
+  exact asks are ticks whole whole_is ticks_is = grind (arith, nat_tests, greatest_is, claimed)
 
   pub denominator-positive : (asks : List Ask) → All (IsAsk base) asks → 0 < (utilisation base asks).denominator
   unfolding utilisation

@@ -1,16 +1,5 @@
 -- What the levels need, with and without the process's budget.
-use Rattle.std.proofs.Common.{◌≡◌, ◌∙◌, sym, ap, refl, subst, ℕ, zero, suc, ◌+◌, ◌*◌, ◌/◌, ◌<◌, ◌≤◌, ◌⊎◌, inl, inr, length, arith, add-one, zero-add}
-use Rattle.std.specs.Prelude.{◌||◌, ◌&&◌, nat_lt, nat_le, map}
-use Rattle.std.proofs.lemmas.List.Elements.{filter_agree}
-use Rattle.dk_certify.specs.Bounds.{most_work}
-use Rattle.dk_config.specs.Sums.{sum_from, greatest}
-use Rattle.dk_config.specs.Mutex.{Mutex}
-use Rattle.dk_config.specs.Configuration.{Configuration}
-use Rattle.dk_config.specs.Windows.{period, release, main_level}
-use Rattle.dk_config.specs.Certification.{budgets_at, level_demand, level_blocking, can_block, uses}
-use Rattle.dk_config.proofs.Counting.{sum_from-more}
-use Rattle.dk_plan.specs.Budget.{with_budget}
-use Rattle.dk_plan.specs.Levels.{work_at}
+use Rattle.dk_plan.proofs.Names.{◌≡◌, ◌∙◌, ap, refl, ℕ, zero, suc, ◌+◌, ◌*◌, ◌/◌, ◌<◌, ◌≤◌, length, arith, add-one, zero-add, filter_agree, most_work, sum_from, Configuration, period, release, main_level, budgets_at, level_demand, level_blocking, sum_from-more, with_budget, work_at, nat_tests}
 use Rattle.dk_plan.proofs.Rows.{budgets-with, own_here, own_elsewhere, list_any-rows_with_budget}
 
 pub sum_below-more : (n : ℕ) (f : ℕ → ℕ) → sum_from 0 (n + 1) f ≡ sum_from 0 n f + f n
@@ -33,29 +22,13 @@ module _ (work : ℕ → ℕ) (faster demand : ℕ) (before : DemandSoFar work f
 
 pub sum_same : (f g : ℕ → ℕ) (low n : ℕ) → ((i : ℕ) → low ≤ i → i < low + n → g i ≡ f i) → sum_from low n g ≡ sum_from low n f
 sum_same f g low zero each = refl
-sum_same f g low (suc n) each =
-    let here = each low (omega arith) (omega arith) in
-    let rest = sum_same f g (suc low) n (λ i a b. each i (omega arith) (omega arith)) in
-    omega (arith, here, rest)
+sum_same f g low (suc n) each = grind (arith, nat_tests, sum_same f g (suc low) n)
 
 -- one number of the sum is greater
 pub sum_one_more : (f g : ℕ → ℕ) (m more low n : ℕ) → ((i : ℕ) → (m ≡ i → ⊥) → g i ≡ f i) → g m ≡ f m + more → low ≤ m → m < low + n
     → sum_from low n g ≡ sum_from low n f + more
 sum_one_more f g m more low zero others own a b = absurd (omega arith)
-sum_one_more f g m more low (suc n) others own a b =
-    elim (here_or_later low m a) [
-      | inl here ↦
-          let own_here : g low ≡ f low + more = subst (λ k. g k ≡ f k + more) (sym here) own in
-          let rest = sum_same f g (suc low) n (λ i above below. others i (λ same. (omega arith))) in
-          omega (arith, own_here, rest)
-      | inr later ↦
-          let first = others low (λ same. omega arith) in
-          let rest = sum_one_more f g m more (suc low) n others own later (omega arith) in
-          omega (arith, first, rest)
-    ]
-  where
-    here_or_later : (low m : ℕ) → low ≤ m → (low ≡ m) ⊎ (low < m)
-    here_or_later low m h = grind arith
+sum_one_more f g m more low (suc n) others own a b = grind (arith, nat_tests, own_here, sum_same, sum_one_more f g m more (suc low) n)
 
 module _ (c : Configuration) (p : ℕ) (inside : p < length c.processes) (b : ℕ) where
   abbrev work : ℕ → ℕ → ℕ
@@ -93,8 +66,4 @@ module _ (c : Configuration) (p : ℕ) (inside : p < length c.processes) (b : �
 
   -- the budgets play no part in blocking
   pub blocking-same : (j : ℕ) → level_blocking (with_budget c p b) j ≡ level_blocking c j
-  blocking-same j =
-      ap (λ mutexes. greatest (map (λ mutex. mutex.hold) mutexes)) (filter_agree (can_block (with_budget c p b) j) (can_block c j) (λ mutex. same mutex) c.mutexes)
-    where
-      same : (mutex : Mutex) → can_block (with_budget c p b) j mutex ≡ can_block c j mutex
-      same mutex = ap (λ t. nat_le mutex.ceiling j && t) (list_any-rows_with_budget b (λ row. uses mutex row && (nat_lt j row.level || (nat_lt 0 row.threads && nat_lt j row.max_level))) (λ row. refl) c.processes p)
+  blocking-same j = grind (arith, nat_tests, filter_agree, list_any-rows_with_budget)

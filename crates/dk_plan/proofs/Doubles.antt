@@ -1,11 +1,6 @@
 -- The greatest double of a base up to a period: what it is, and that a base and its double have the same.
-use Rattle.std.proofs.Common.{◌≡◌, ◌∙◌, sym, ap, ℕ, zero, suc, ◌+◌, ◌-◌, ◌*◌, ◌^◌, ◌<◌, ◌≤◌, ◌⊎◌, inl, inr, Bool, true, false, List, ◌∷◌, map, filter, arith, refl, subst}
-use Rattle.std.specs.Prelude.{nat_le, if◌then◌else◌}
-use Rattle.std.proofs.lemmas.Bool.{leb-true, le-leb}
-use Rattle.std.proofs.Math.Nat.{mul-le-mul_left, mul-le-mul_right, pow-le-pow_right, pow-suc}
-use Rattle.std.proofs.lemmas.Nat.{pow-add}
-use Rattle.dk_config.specs.Sums.{numbers, greatest}
-use Rattle.dk_plan.specs.Base.{Gets, period_got}
+use Rattle.dk_plan.proofs.Names.{◌≡◌, ◌∙◌, sym, ap, ℕ, zero, suc, ◌+◌, ◌-◌, ◌*◌, ◌^◌, ◌<◌, ◌≤◌, ◌⊎◌, inl, inr, Bool, true, List, ◌∷◌, map, filter, arith, subst, nat_le, if◌then◌else◌, mul-le-mul_left, mul-le-mul_right, pow-le-pow_right, pow-suc, pow-add, numbers, greatest, Gets, nat_tests}
+use Rattle.dk_plan.specs.Base.{period_got}
 
 above : (k : ℕ) → k < 2 ^ k
 above zero = omega arith
@@ -22,16 +17,13 @@ double_first base k = grind (arith, pow-suc)
 
 -- a test lets the first of a list through, or not
 first_at_most : (b : Bool) (x most : ℕ) (xs : List ℕ) → (b ≡ true → x ≤ most) → greatest xs ≤ most → greatest (if b then (x ∷ xs) else xs) ≤ most
-first_at_most true x most xs h later = let here = h refl in omega (arith, here, later)
-first_at_most false x most xs h later = later
+first_at_most b x most xs h later = grind (arith, nat_tests)
 
 first_counts : (b : Bool) (x : ℕ) (xs : List ℕ) → b ≡ true → x ≤ greatest (if b then (x ∷ xs) else xs)
-first_counts true x xs h = omega arith
-first_counts false x xs h = absurd (cc)
+first_counts b x xs h = grind (arith, nat_tests)
 
 later_counts : (b : Bool) (x y : ℕ) (xs : List ℕ) → y ≤ greatest xs → y ≤ greatest (if b then (x ∷ xs) else xs)
-later_counts true x y xs h = omega (arith, h)
-later_counts false x y xs h = h
+later_counts b x y xs h = grind (arith, nat_tests)
 
 here_or_later : (low k : ℕ) → low ≤ k → (low ≡ k) ⊎ (low < k)
 here_or_later low k h = grind arith
@@ -39,18 +31,11 @@ here_or_later low k h = grind arith
 module _ (asked : ℕ) (f : ℕ → ℕ) where
   at_most : (most : ℕ) → ((k : ℕ) → f k ≤ asked → f k ≤ most) → (from count : ℕ) → greatest (filter (λ q. nat_le q asked) (map f (numbers from count))) ≤ most
   at_most most each from zero = omega arith
-  at_most most each from (suc count) =
-      first_at_most (nat_le (f from) asked) (f from) most (filter (λ q. nat_le q asked) (map f (numbers (suc from) count)))
-      (λ e. each from (leb-true (f from) asked e)) (at_most most each (suc from) count)
+  at_most most each from (suc count) = grind (arith, nat_tests, at_most most each (suc from) count)
 
   at_least : (k from count : ℕ) → f k ≤ asked → from ≤ k → k < from + count → f k ≤ greatest (filter (λ q. nat_le q asked) (map f (numbers from count)))
   at_least k from zero h a b = absurd (omega arith)
-  at_least k from (suc count) h a b =
-      let rest = filter (λ q. nat_le q asked) (map f (numbers (suc from) count)) in
-      elim (here_or_later from k a) [
-        | inl here ↦ subst (λ n. f n ≤ greatest (if nat_le (f from) asked then (f from ∷ rest) else rest)) here (first_counts (nat_le (f from) asked) (f from) rest (le-leb (f from) asked (subst (λ n. f n ≤ asked) (sym here) h)))
-        | inr later ↦ later_counts (nat_le (f from) asked) (f from) (f k) rest (at_least k (suc from) count h later (omega arith))
-      ]
+  at_least k from (suc count) h a b = grind (arith, nat_tests, at_least k (suc from) count)
 
 less_or_not : (i k : ℕ) → (i ≤ k) ⊎ (k < i)
 less_or_not i k = grind arith
@@ -118,11 +103,7 @@ module _ (base asked : ℕ) (some : 1 ≤ base) (fits : base ≤ asked) where
   period_got-double = let (k, is) = longest_of base asked some fits in (k, period_got-longest base asked k some is)
 
   pub period_got-positive : 1 ≤ period_got base asked
-  period_got-positive =
-      let (k, is) = period_got-double in
-      let wide = mul-le-mul_right (2 ^ k) some in
-      let more = above k in
-      omega (arith, is, wide, more)
+  period_got-positive = grind (arith, nat_tests, period_got-double, mul-le-mul_right, above)
 
 -- the base's double gives the same
 pub period_got-of_double : (base asked : ℕ) → 1 ≤ base → 2 * base ≤ asked → period_got (2 * base) asked ≡ period_got base asked

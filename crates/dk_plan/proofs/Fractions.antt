@@ -1,8 +1,5 @@
 -- The order of fractions with cross products.
-use Rattle.std.proofs.Common.{ap, ◌*◌, ◌<◌, arith}
-use Rattle.std.proofs.Math.Nat.{le_of_mul-le-mul_right, lt_of_mul-lt-mul_right, mul-lt-mul_of_pos_right, mul-le-mul_right, mul-pos}
-use Rattle.dk_plan.specs.declared.harmonising.Fraction.{Fraction}
-use Rattle.dk_plan.specs.Base.{IsAtMost, IsBelow, IsSame}
+use Rattle.dk_plan.proofs.Names.{ap, ◌*◌, ◌<◌, arith, le_of_mul-le-mul_right, lt_of_mul-lt-mul_right, mul-lt-mul_of_pos_right, mul-le-mul_right, mul-pos, Fraction, IsAtMost, IsBelow, IsSame}
 
 -- two fractions in other words
 module _ (a b u v : Fraction) (a_is : IsSame a u) (b_is : IsSame b v) (a_positive : 0 < a.denominator) (b_positive : 0 < b.denominator) where

@@ -1,15 +1,5 @@
 -- A budget between two that a process can have; one greatest budget, and one best base.
-use Rattle.std.proofs.Common.{◌≡◌, refl, ap, ℕ, List, ◌/◌, ◌<◌, ◌≤◌, ◌⊎◌, inl, inr, length, arith}
-use Rattle.std.specs.Prelude.{Option, Some, None, IfSome, unwrap_or}
-use Rattle.std.proofs.Math.Nat.{mul-le-mul_right}
-use Rattle.std.proofs.lemmas.Bool.{cases_lt, cases_order}
-use Rattle.dk_config.specs.Configuration.{Configuration}
-use Rattle.dk_config.specs.Windows.{period, main_level}
-use Rattle.dk_config.specs.Checked.{BreaksNoRule}
-use Rattle.dk_plan.specs.declared.harmonising.Ask.{Ask}
-use Rattle.dk_plan.specs.Base.{GreaterTakeMore, NoneLess}
-use Rattle.dk_plan.specs.Budget.{CanHave, NoGreater, with_budget}
-use Rattle.dk_plan.specs.Levels.{LevelFits}
+use Rattle.dk_plan.proofs.Names.{◌≡◌, ℕ, List, ◌/◌, ◌<◌, ◌≤◌, inl, inr, length, arith, Option, IfSome, unwrap_or, mul-le-mul_right, cases_lt, Configuration, period, main_level, BreaksNoRule, Ask, GreaterTakeMore, NoneLess, CanHave, NoGreater, with_budget, LevelFits, nat_tests}
 use Rattle.dk_plan.proofs.Demands.{demand-before, demand-from, blocking-same}
 use Rattle.dk_plan.proofs.Accepting.{accepted_from, certified_from}
 use Rattle.dk_plan.proofs.Unbroken.{range_needed, room_needed, unbroken-with}
@@ -43,36 +33,10 @@ between c unbroken p inside low high at_low at_high b above below =
 
 -- a budget that a process can have and that isn't above another one
 not_above : (c : Configuration) (p : ℕ) → p < length c.processes → (answer : Option ℕ) → NoGreater c p answer → (b : ℕ) → CanHave c p b → b ≤ unwrap_or answer 0
-not_above c p inside answer no_greater b have =
-    elim (within_or_above b (unwrap_or answer 0)) [
-      | inl within ↦ within
-      | inr above ↦ absurd (no_greater b above (range_needed c p b inside have.unbroken) have)
-    ]
-  where
-    within_or_above : (a b : ℕ) → (a ≤ b) ⊎ (b < a)
-    within_or_above a b = grind arith
+not_above c p inside answer no_greater b have = grind (arith, nat_tests, range_needed)
 
 pub one_budget : (c : Configuration) (p : ℕ) → p < length c.processes → (a b : Option ℕ) → IfSome a (CanHave c p) → NoGreater c p a → IfSome b (CanHave c p) → NoGreater c p b → a ≡ b
-one_budget c p inside None None have_a greatest_a have_b greatest_b = refl
-one_budget c p inside None (Some b) have_a greatest_a have_b greatest_b =
-    let least = room_needed c p b inside have_b.unbroken in
-    let within = not_above c p inside None greatest_a b have_b in
-    absurd (omega (arith, least, within))
-one_budget c p inside (Some a) None have_a greatest_a have_b greatest_b =
-    let least = room_needed c p a inside have_a.unbroken in
-    let within = not_above c p inside None greatest_b a have_a in
-    absurd (omega (arith, least, within))
-one_budget c p inside (Some a) (Some b) have_a greatest_a have_b greatest_b =
-    let under = not_above c p inside (Some a) greatest_a b have_b in
-    let over = not_above c p inside (Some b) greatest_b a have_a in
-    ap Some (let same : a ≡ b = omega (arith, under, over) in same)
+one_budget c p inside a b have_a greatest_a have_b greatest_b = grind (arith, nat_tests, room_needed, not_above)
 
 pub one_base : (lo hi : ℕ) (asks : List Ask) (a b : ℕ) → lo ≤ a → a ≤ hi → NoneLess lo hi asks a → GreaterTakeMore hi asks a → lo ≤ b → b ≤ hi → NoneLess lo hi asks b → GreaterTakeMore hi asks b → a ≡ b
-one_base lo hi asks a b a_from a_to a_least a_more b_from b_to b_least b_more =
-    elim (cases_order a b) [
-      | inl same ↦ same
-      | inr apart ↦ elim apart [
-        | inl less ↦ let more = a_more b less b_to in let least = b_least a a_from a_to in absurd (omega (arith, more, least))
-        | inr greater ↦ let more = b_more a greater a_to in let least = a_least b b_from b_to in absurd (omega (arith, more, least))
-      ]
-    ]
+one_base lo hi asks a b a_from a_to a_least a_more b_from b_to b_least b_more = grind (arith, nat_tests)

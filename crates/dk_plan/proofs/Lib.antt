@@ -1,3 +1,4 @@
+pub mod Names
 pub mod Doubles
 pub mod Fractions
 pub mod Claims

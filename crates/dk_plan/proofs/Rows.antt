@@ -1,40 +1,23 @@
 -- The rows of processes with another budget in one of them: what stays, and the sum of a level's budgets.
-use Rattle.std.proofs.Common.{◌≡◌, ◌∙◌, sym, ap, refl, subst, ℕ, zero, suc, ◌+◌, ◌<◌, Bool, true, false, ◌||◌, eqb, List, [], ◌∷◌, length, take, get_or, sum_by, arith}
-use Rattle.std.specs.Prelude.{◌==◌, if◌then◌else◌, find, slice_get, Option, Some}
-use Rattle.std.specs.List.{list_any}
-use Rattle.std.specs.Option.{option_map_or}
-use Rattle.std.proofs.lemmas.List.Sums.{sum_by-cons}
-use Rattle.std.proofs.lemmas.Bool.{eqb-true, eq-eqb}
-use Rattle.dk_config.specs.declared.rows.ProcessRow.{ProcessRow}
-use Rattle.dk_plan.specs.Budget.{rows_with_budget}
-use Rattle.dk_plan.specs.Levels.{budget_at}
+use Rattle.dk_plan.proofs.Names.{◌≡◌, sym, ap, refl, subst, ℕ, zero, suc, ◌+◌, ◌<◌, Bool, true, ◌||◌, List, [], ◌∷◌, length, take, get_or, sum_by, arith, ◌==◌, if◌then◌else◌, find, slice_get, Option, Some, list_any, option_map_or, sum_by-cons, eq-eqb, ProcessRow, rows_with_budget, budget_at, nat_tests}
 
 -- a budget that counts where the level is the process's own
 abbrev pub own_at : ℕ → ℕ → ℕ → ℕ
 own_at own level budget = if own == level then budget else 0
 
 none_at : (own level : ℕ) → own_at own level 0 ≡ 0
-none_at own level = go (eqb own level)
-  where
-    go : (t : Bool) → (if t then zero else zero) ≡ zero
-    go true = refl
-    go false = refl
+none_at own level = grind (arith, nat_tests)
 
 pub own_here : (own level budget : ℕ) → own ≡ level → own_at own level budget ≡ budget
 own_here own level budget h = ap (λ t. if t then budget else 0) (eq-eqb own level h)
 
 pub own_elsewhere : (own level budget : ℕ) → (own ≡ level → ⊥) → own_at own level budget ≡ 0
-own_elsewhere own level budget h = go (eqb own level) refl
-  where
-    go : (t : Bool) → eqb own level ≡ t → (if t then budget else zero) ≡ zero
-    go true is = absurd (h (eqb-true own level is))
-    go false is = refl
+own_elsewhere own level budget h = grind (arith, nat_tests)
 
 -- the first, or what is found later
 first_or : (read : ProcessRow → Bool) (found : Bool) (x y : ProcessRow) (o q : Option ProcessRow) → read x ≡ read y → option_map_or read o true ≡ option_map_or read q true
     → option_map_or read (if found then Some x else o) true ≡ option_map_or read (if found then Some y else q) true
-first_or read true x y o q here later = here
-first_or read false x y o q here later = later
+first_or read found x y o q here later = grind (arith, nat_tests)
 
 module _ (b : ℕ) where
   pub length-rows_with_budget : (rows : List ProcessRow) (p : ℕ) → length (rows_with_budget rows p b) ≡ length rows
@@ -58,11 +41,8 @@ module _ (b : ℕ) where
     pub find-rows_with_budget : (read : ProcessRow → Bool) → ((row : ProcessRow) → read (record row { budget = b }) ≡ read row)
         → (rows : List ProcessRow) (p : ℕ) → option_map_or read (find test (rows_with_budget rows p b)) true ≡ option_map_or read (find test rows) true
     find-rows_with_budget read alike [] p = refl
-    find-rows_with_budget read alike (row ∷ rows) zero =
-        ap (λ t. option_map_or read (if t then Some (record row { budget = b }) else find test rows) true) (same row)
-        ∙ first_or read (test row) (record row { budget = b }) row (find test rows) (find test rows) (alike row) refl
-    find-rows_with_budget read alike (row ∷ rows) (suc p) =
-        first_or read (test row) row row (find test (rows_with_budget rows p b)) (find test rows) refl (find-rows_with_budget read alike rows p)
+    find-rows_with_budget read alike (row ∷ rows) zero = grind (arith, nat_tests)
+    find-rows_with_budget read alike (row ∷ rows) (suc p) = grind (arith, nat_tests, find-rows_with_budget read alike rows p)
 
 -- the level of the process of this number
 abbrev pub level_of : List ProcessRow → ℕ → ℕ

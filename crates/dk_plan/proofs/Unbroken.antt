@@ -1,20 +1,8 @@
 -- A configuration that breaks no rule breaks none with another budget that both switches and a tick fit in.
-use Rattle.std.proofs.Common.{◌≡◌, ◌∙◌, sym, ap, refl, subst, ℕ, zero, suc, ◌+◌, ◌*◌, ◌<◌, ◌≤◌, ◌||◌, List, [], ◌∷◌, ◌++◌, length, arith}
-use Rattle.std.specs.Prelude.{None, nat_lt, ◌==◌}
-use Rattle.std.specs.List.{list_any}
-use Rattle.std.specs.Str.{bytes_eq}
-use Rattle.std.proofs.lemmas.Bool.Decides.{nat_tests}
-use Rattle.dk_config.specs.declared.TheConstants.{MAX_SPAN}
-use Rattle.dk_config.specs.declared.rows.ProcessRow.{ProcessRow}
+use Rattle.dk_plan.proofs.Names.{◌≡◌, ◌∙◌, sym, ap, refl, subst, ℕ, zero, suc, ◌+◌, ◌*◌, ◌<◌, ◌≤◌, ◌||◌, List, [], ◌∷◌, ◌++◌, length, arith, None, nat_lt, ◌==◌, list_any, bytes_eq, nat_tests, MAX_SPAN, ProcessRow, Configuration, Mutex, Test, first_broken, each_row, test_of, version_tests, count_tests, period_tests, cost_ranges, level_ranges, process_ranges, mutex_ranges, process_names, mutex_names, process_again, mutex_again, process_level, mutex_ceiling, budget_room, mutex_users, slowest_level, is_wrong_user, has_twice, BreaksNoRule, both_pass, parts_pass, rows_with_budget, with_budget}
 use Rattle.dk_config.specs.declared.fault.Section.TheVariants as section
 use Rattle.dk_config.specs.declared.fault.Field.TheVariants as field
-use Rattle.dk_config.specs.Configuration.{Configuration}
-use Rattle.dk_config.specs.Mutex.{Mutex}
-use Rattle.dk_config.specs.Tests.{Test, first_broken, each_row, test_of}
-use Rattle.dk_config.specs.Rules.{all_tests, version_tests, count_tests, range_tests, period_tests, name_tests, again_tests, level_tests, budget_tests, user_tests, slowest_tests, cost_ranges, level_ranges, process_ranges, mutex_ranges, process_names, mutex_names, process_again, mutex_again, process_level, mutex_ceiling, budget_room, mutex_users, slowest_level, is_wrong_user, has_twice}
-use Rattle.dk_config.specs.Checked.{BreaksNoRule}
-use Rattle.dk_config.proofs.Passing.{both_pass, parts_pass}
-use Rattle.dk_plan.specs.Budget.{rows_with_budget, with_budget}
+use Rattle.dk_config.specs.Rules.{all_tests, range_tests, name_tests, again_tests, level_tests, budget_tests, user_tests, slowest_tests}
 use Rattle.dk_plan.proofs.Rows.{length-rows_with_budget, list_any-front, find-rows_with_budget}
 
 -- another first part, or another rest
@@ -31,12 +19,8 @@ module _ (b : ℕ) (tests : ℕ → ProcessRow → List Test) where
   rows_pass : ((i : ℕ) (row : ProcessRow) → first_broken (tests i row) ≡ None → first_broken (tests i (record row { budget = b })) ≡ None)
       → (i : ℕ) (rows : List ProcessRow) (p : ℕ) → first_broken (each_row tests i rows) ≡ None → first_broken (each_row tests i (rows_with_budget rows p b)) ≡ None
   rows_pass keeps i [] p h = h
-  rows_pass keeps i (row ∷ rows) zero h =
-      let both = parts_pass (tests i row) (each_row tests (suc i) rows) h in
-      both_pass (tests i (record row { budget = b })) (each_row tests (suc i) rows) (keeps i row both.0) both.1
-  rows_pass keeps i (row ∷ rows) (suc p) h =
-      let both = parts_pass (tests i row) (each_row tests (suc i) rows) h in
-      both_pass (tests i row) (each_row tests (suc i) (rows_with_budget rows p b)) both.0 (rows_pass keeps (suc i) rows p both.1)
+  rows_pass keeps i (row ∷ rows) zero h = grind (arith, nat_tests, parts_pass, both_pass)
+  rows_pass keeps i (row ∷ rows) (suc p) h = grind (arith, nat_tests, parts_pass, both_pass, rows_pass keeps (suc i) rows p)
 
   -- the row's own tests
   own_passes : (i : ℕ) (rows : List ProcessRow) (p : ℕ) → p < length rows → first_broken (each_row tests i (rows_with_budget rows p b)) ≡ None
@@ -66,8 +50,7 @@ wrong_user b rows p ceiling user = find-rows_with_budget b (λ q. bytes_eq q.nam
 
 wrong_users : (b : ℕ) (rows : List ProcessRow) (p ceiling : ℕ) (users : List (List ℕ)) → list_any (is_wrong_user (rows_with_budget rows p b) ceiling) users ≡ list_any (is_wrong_user rows ceiling) users
 wrong_users b rows p ceiling [] = refl
-wrong_users b rows p ceiling (user ∷ users) =
-    ap (λ t. t || list_any (is_wrong_user (rows_with_budget rows p b) ceiling) users) (wrong_user b rows p ceiling user) ∙ ap (λ t. is_wrong_user rows ceiling user || t) (wrong_users b rows p ceiling users)
+wrong_users b rows p ceiling (user ∷ users) = grind (arith, nat_tests, wrong_user, wrong_users b rows p ceiling users)
 
 users_same : (b : ℕ) (rows : List ProcessRow) (p i : ℕ) (m : Mutex) → mutex_users (rows_with_budget rows p b) i m ≡ mutex_users rows i m
 users_same b rows p i m = ap (λ t. test_of 12 section.Mutex i field.Users ((length m.users == 0 || t) || has_twice m.users) ∷ []) (wrong_users b rows p m.ceiling m.users)
@@ -78,27 +61,11 @@ module _ (c : Configuration) (p b : ℕ) where
 
   pub room_needed : p < length c.processes → BreaksNoRule (with_budget c p b) → 2 * c.costs.switch + 1 ≤ b
   unfolding all_tests budget_tests
-  room_needed inside h =
-      let from_5 = (parts_pass (version_tests c.version) _ h).1 in
-      let from_6 = (parts_pass (count_tests c.version (length c.levels) (length rows) (length c.mutexes)) _ from_5).1 in
-      let from_7 = (parts_pass (range_tests c.costs c.levels rows c.mutexes) _ from_6).1 in
-      let from_8 = (parts_pass (period_tests c.levels) _ from_7).1 in
-      let from_9 = (parts_pass (name_tests rows c.mutexes) _ from_8).1 in
-      let from_10 = (parts_pass (again_tests rows c.mutexes) _ from_9).1 in
-      let from_11 = (parts_pass (level_tests (length c.levels) rows c.mutexes) _ from_10).1 in
-      let (k, row, passes) = own_passes b (budget_room c.costs.switch) 0 c.processes p inside (parts_pass (budget_tests c.costs.switch rows) _ from_11).0 in
-      room_of b c.costs.switch k row passes
+  room_needed inside h = grind (arith, nat_tests, parts_pass, own_passes, room_of)
 
   pub range_needed : p < length c.processes → BreaksNoRule (with_budget c p b) → b ≤ MAX_SPAN
   unfolding all_tests range_tests
-  range_needed inside h =
-      let from_5 = (parts_pass (version_tests c.version) _ h).1 in
-      let from_6 = (parts_pass (count_tests c.version (length c.levels) (length rows) (length c.mutexes)) _ from_5).1 in
-      let at_6 = (parts_pass (range_tests c.costs c.levels rows c.mutexes) _ from_6).0 in
-      let costs = parts_pass (cost_ranges c.costs) (each_row level_ranges 0 c.levels ++ (each_row process_ranges 0 rows ++ each_row mutex_ranges 0 c.mutexes)) at_6 in
-      let levels = parts_pass (each_row level_ranges 0 c.levels) (each_row process_ranges 0 rows ++ each_row mutex_ranges 0 c.mutexes) costs.1 in
-      let (k, row, passes) = own_passes b process_ranges 0 c.processes p inside (parts_pass (each_row process_ranges 0 rows) (each_row mutex_ranges 0 c.mutexes) levels.1).0 in
-      range_of b k row passes
+  range_needed inside h = grind (arith, nat_tests, parts_pass, own_passes, range_of)
 
   ranges_kept : 1 ≤ b → b ≤ MAX_SPAN → first_broken (range_tests c.costs c.levels c.processes c.mutexes) ≡ None → first_broken (range_tests c.costs c.levels rows c.mutexes) ≡ None
   unfolding range_tests

@@ -1,14 +1,7 @@
 -- The worked rows: the budgets of two spinners, and a base for two asks.
-use Rattle.std.proofs.Common.{◌≡◌, ℕ, false, List, [], ◌∷◌, refl, arith}
-use Rattle.dk_config.specs.declared.rows.ProcessRow.{ProcessRow}
-use Rattle.dk_config.specs.Configuration.{Configuration}
+use Rattle.dk_plan.proofs.Names.{◌≡◌, ℕ, false, List, [], ◌∷◌, refl, arith, ProcessRow, Configuration, verdict_of, rows_of, Accepted, Ask, Fraction, IsBelow, IsSame, CanHave, with_budget}
 use Rattle.dk_config.specs.Rules.{all_tests, version_tests, count_tests, range_tests, period_tests, name_tests, again_tests, level_tests, budget_tests, user_tests, slowest_tests}
-use Rattle.dk_certify.specs.Verdicts.{verdict_of, rows_of}
-use Rattle.dk_certify.specs.declared.certifying.Verdict.TheVariants.{Accepted}
-use Rattle.dk_plan.specs.declared.harmonising.Ask.{Ask}
-use Rattle.dk_plan.specs.declared.harmonising.Fraction.{Fraction}
-use Rattle.dk_plan.specs.Base.{IsBelow, IsSame, period_got, utilisation}
-use Rattle.dk_plan.specs.Budget.{CanHave, with_budget}
+use Rattle.dk_plan.specs.Base.{period_got, utilisation}
 use Rattle.dk_plan.proofs.Accepting.{accepted_from}
 
 abbrev process : List ℕ → ℕ → ℕ → ProcessRow

@@ -3,6 +3,8 @@ use Rattle.std.specs.Prelude.{ℕ, ◌≡◌, ◌≢◌, List, IfSome}
 use Rattle.dk_outside.specs.Counts.{Rises}
 use Rattle.dk_outside.specs.Views.{DepotView, SinkView}
 use Rattle.dk_outside.specs.Written.{Appends, AppendsPrefix}
+use Rattle.dk_edge.specs.declared.running.EdgeFault.{EdgeFault}
+use Rattle.dk_edge.specs.declared.running.EdgeFault.TheVariants.{NoMemory, Output}
 use Rattle.dk_request.specs.Commands.{usage_text}
 use Rattle.dk_request.specs.Meaning.{MeansNothing}
 use Rattle.dk_inputs.specs.Follows.{Goes}
@@ -41,3 +43,8 @@ pub record Ends (words : List (List ℕ)) (depot_old depot_new : DepotView) (sin
   pub goes_on : Goes depot_old depot_new
   pub given : GivesExactly depot_old.files words ended depot_old.given depot_new.given
   pub strays : StraysNowhere depot_old.files words depot_old.strays depot_new.strays
+
+-- the status for what ends the program at the edge
+abbrev pub status_of : EdgeFault → Status
+status_of NoMemory = status.NoMemory
+status_of Output = status.SinkFault

@@ -3,12 +3,13 @@
 
 mod program;
 
-use crate::program::run_program;
-use dk_edge::{FileDepot, ProcessWords, StandardOutput, SystemFiles};
+use crate::program::Deosk;
+use dk_edge::{FileDepot, ProcessWords, StandardOutput, SystemFiles, run_program};
 use std::process::ExitCode;
 
 fn main(rt: HostRuntime) -> ExitCode {
     run_program(
+        &Deosk,
         rt.alloc(),
         &ProcessWords::new(&rt),
         &mut FileDepot::new(SystemFiles::new(&rt)),

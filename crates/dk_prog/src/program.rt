@@ -1,24 +1,24 @@
-//! The call that the program makes, and all that it does over any words, files and output.
-ghost use Rattle.std.specs.Prelude.{◌^◌, ◌<◌};
-ghost use Rattle.std.specs.Process.{exit_status};
-ghost use Rattle.dk_prog.specs.Exits.{Exits};
-
-use dk_edge::{Program, Words, final_status, run};
+//! The call that the program makes.
+use dk_edge::{EdgeFault, Program};
 use dk_outside::{Depot, Sink};
 use dk_session::{Status, deosk};
 use std::alloc::Global;
-use std::process::ExitCode;
 
 /// The call of `deosk`.
 #[derive(Clone, Copy)]
 pub struct Deosk;
 
 impl Program for Deosk {
-    ghost use Rattle.dk_prog.specs.Ends.{Ends};
+    ghost use Rattle.dk_inputs.specs.Number.{status_number};
+    ghost use Rattle.dk_prog.specs.Ends.{Ends, status_of};
 
     type Status = Status;
 
     ghost ends = { Ends };
+
+    ghost number_of = { status_number };
+
+    ghost status_of = { status_of };
 
     fn call<D: Depot, S: Sink>(
         &self,
@@ -29,20 +29,15 @@ impl Program for Deosk {
     ) -> Status {
         deosk(alloc, words, depot, sink)
     }
-}
 
-/// Makes the one call, and gives what the process ends with: the number of the call's status, or of what ended it at the
-/// edge.
-pub fn run_program<W: Words, D: Depot, S: Sink + Drop>(
-    alloc: Global,
-    given: &W,
-    depot: &mut D,
-    out: S,
-) -> (ExitCode, S)
-    requires { (D.seen depot.old).given < 2 ^ 62 }
-    ensures { Exits (W.told given.now) (D.seen depot.old) (D.seen depot.new) (S.seen out) (S.seen result.1) (exit_status result.0) }
-{
-    let (ended, out) = run(&Deosk, alloc, given, depot, out);
-    let status = final_status(Status::NoMemory, Status::SinkFault, ended);
-    (ExitCode::from(status.number()), out)
+    fn number(&self, status: Status) -> u8 {
+        status.number()
+    }
+
+    fn at_edge(&self, fault: EdgeFault) -> Status {
+        match fault {
+            EdgeFault::NoMemory => Status::NoMemory,
+            EdgeFault::Output => Status::SinkFault,
+        }
+    }
 }

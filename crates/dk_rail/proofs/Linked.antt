@@ -156,11 +156,7 @@ lists_unlinked c d n q k x linked here in_it u =
           queue-at_lists d n q i h ∙ list-at_is d n q _ new i h ∙ sym (get_or-map (without x) (lists_of c n q) i [] [] (omega arith) ∙ ap (without x) (queue-at_lists c n q i h))),
     )
 
--- the first list that passes, where none does and where one alone does
-none_passes : (p : List ℕ → Bool) (i : ℕ) (ls : List (List ℕ)) → ((j : ℕ) → j < length ls → p (get_or ls j []) ≡ false) → position_from p i ls ≡ None
-none_passes p i [] h = refl
-none_passes p i (l ∷ ls) h = rw (h 0 (omega arith)) (none_passes p (i + 1) ls (λ j inside. h (suc j) (omega arith)))
-
+-- the first list that passes, where one alone does
 one_passes : (p : List ℕ → Bool) (i : ℕ) (ls : List (List ℕ)) (k : ℕ) → k < length ls → p (get_or ls k []) ≡ true → ((j : ℕ) → j < length ls → j ≢ k → p (get_or ls j []) ≡ false) → position_from p i ls ≡ Some (i + k)
 one_passes p i [] k inside hit miss = absurd (omega arith)
 one_passes p i (l ∷ ls) zero inside hit miss = rw hit (ap (λ (a : ℕ). Some a) (omega arith))
@@ -174,12 +170,7 @@ some_passes p i (l ∷ ls) h =
     [ true ↦ λ e g. (0, omega arith, e) | false ↦ λ e g. let there = some_passes p (i + 1) ls g in (suc there.0, omega (arith, there.1), there.2) ] refl h
 
 module _ (c : List ℕ) (n q x : ℕ) (linked : IsLinked c n q (list_at c n)) (low : x < n) where
-  pub holder_none : owner c (n + q) x ≡ 0 → holder (lists_of c n q) x ≡ None
-  holder_none free = none_passes (holds x) 0 (lists_of c n q) (λ j inside.
-      let h : j < q = omega (arith, length-lists_of c n q) in
-      ap (holds x) (queue-at_lists c n q j h) ∙ other_owner c n q (list_at c n) linked x j h (λ e. omega arith))
-
-  pub holder_some : (k : ℕ) → owner c (n + q) x ≡ suc k → holder (lists_of c n q) x ≡ Some k
+  holder_some : (k : ℕ) → owner c (n + q) x ≡ suc k → holder (lists_of c n q) x ≡ Some k
   holder_some k own =
       let old = linked.owned x k low own in
       one_passes (holds x) 0 (lists_of c n q) k (omega (arith, length-lists_of c n q, old.0)) (ap (holds x) (queue-at_lists c n q k old.0) ∙ old.1) (λ j inside other.

@@ -129,21 +129,6 @@ impl Rail {
             None
         }
     }
-
-    /// The queue that a node is in, or None where it is in none.
-    pub fn queue_of(&self, node: u32) -> Option<u32>
-        requires { node < self.now.nodes }
-        ensures { result ≡ holder self.now.lists node }
-    {
-        let owner = self
-            .block
-            .read(2 * (self.nodes + self.queues) + node as usize);
-        if owner == 0 {
-            None
-        } else {
-            Some((owner - 1) as u32)
-        }
-    }
 }
 
 /// Puts a node before the end of a queue.

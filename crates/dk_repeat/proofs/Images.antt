@@ -1,5 +1,6 @@
 -- Two images of a process that are the same as far as its threads can see, and stay so in a tick.
-use Rattle.dk_repeat.proofs.Names.{ℕ, ◌≡◌, inl, inr, Bool, true, false, cond, eqb, List, ◌∷◌, length, Option, Some, None, refl, sym, ap, ◌∙◌, subst, arith, cases_Bool, nat_tests, option_or, then_some, Configuration, option_or-none, FaultKind, ThreadId, Label, Event, Refusal, Entry, Has, is_of, stops, Thread, family, made_by, new_rows, next_serial, create_refusal, delete_refusal, lock_refusal, unlock_refusal, wait_refusal, slack_refusal, main_id, has-next, Context, Outcome, KernelCall, Tick, reg, Effect, Child, effect, call_effect, or_refused, done, creates, child_context, Image, Turn, image_after, with_child, with_reply, update}
+use Rattle.dk_repeat.proofs.Names.{ℕ, ◌≡◌, inl, inr, Bool, true, false, cond, eqb, List, ◌∷◌, length, Option, Some, None, refl, sym, ap, ◌∙◌, subst, arith, cases_Bool, nat_tests, option_or, then_some, Configuration, option_or-none, FaultKind, ThreadId, Label, Event, Entry, Has, is_of, stops, Thread, family, made_by, new_rows, main_id, has-next, Context, Outcome, Tick, reg, Effect, Child, effect, creates, child_context, Image, Turn, image_after, with_child, with_reply, update}
+use Rattle.dk_world.proofs.Effected.{IsPlain, call-has}
 
 -- code, memory, and the contexts of the threads that weren't stopped
 pub record SameImage (c : Configuration) (p : ℕ) (past : List Entry) (i j : Image) : Type 0 where
@@ -52,42 +53,19 @@ image-kept c p e past i j none same =
 abbrev pub Makes : Effect → Type 0
 Makes f = (serial level quota : ℕ) → f.event ≡ Some (Event.Create serial level quota) → (context : Context) × (f.child ≡ Some (record { serial = serial; context = context }))
 
-or-makes : (o : Option Refusal) (f : Effect) → Makes f → Makes (or_refused o f)
-or-makes None f h = h
-or-makes (Some r) f h = λ serial level quota is. absurd (cc)
-
-no-make : (event : Event) → ((serial level quota : ℕ) → event ≡ Event.Create serial level quota → ⊥) → Makes (done event)
-no-make event none = λ serial level quota is. let e : event ≡ Event.Create serial level quota = cc in absurd (none serial level quota e)
-
 creates-makes : (next : ℕ) (context : Context) → Makes (creates next context)
 creates-makes next context = λ serial level quota is.
     let same : next ≡ serial = cc in
     (child_context (reg context 3) (reg context 4), ap (λ k. Some (record { serial = k; context = child_context (reg context 3) (reg context 4) })) same)
-
-call-makes : (c : Configuration) (now : ℕ) (past : List Entry) (x : Thread) (instructions : ℕ) (context : Context) (call : KernelCall) → Makes (call_effect c now past x instructions context call)
-call-makes c now past x instructions context KernelCall.Wait = or-makes (wait_refusal past x) (done Event.Wait) (no-make Event.Wait (λ s l q is. cc))
-call-makes c now past x instructions context KernelCall.Exit = no-make Event.Exit (λ s l q is. cc)
-call-makes c now past x instructions context KernelCall.Create =
-    or-makes (create_refusal c now past x (reg context 1) (reg context 2) (reg context 3) instructions) (creates (next_serial c past x.id.process) context)
-    (creates-makes (next_serial c past x.id.process) context)
-call-makes c now past x instructions context KernelCall.Delete =
-    or-makes (delete_refusal c past x (reg context 1)) (done (Event.Delete (reg context 1))) (no-make (Event.Delete (reg context 1)) (λ s l q is. cc))
-call-makes c now past x instructions context KernelCall.Lock =
-    or-makes (lock_refusal c now past x (reg context 1)) (done (Event.Lock (reg context 1))) (no-make (Event.Lock (reg context 1)) (λ s l q is. cc))
-call-makes c now past x instructions context KernelCall.Unlock =
-    or-makes (unlock_refusal past x (reg context 1)) (done (Event.Unlock (reg context 1))) (no-make (Event.Unlock (reg context 1)) (λ s l q is. cc))
-call-makes c now past x instructions context KernelCall.Slack =
-    or-makes (slack_refusal c x (reg context 1)) (done (Event.Slack (reg context 1))) (no-make (Event.Slack (reg context 1)) (λ s l q is. cc))
-call-makes c now past x instructions context KernelCall.Put = no-make (Event.Put (reg context 1)) (λ s l q is. cc)
-call-makes c now past x instructions context KernelCall.Time = λ serial level quota is. absurd (cc)
-call-makes c now past x instructions context KernelCall.Left = λ serial level quota is. absurd (cc)
 
 pub effect-makes : (c : Configuration) (now : ℕ) (past : List Entry) (x : Thread) (instructions : ℕ) (context : Context) (outcome : Outcome)
     → Makes (effect c now past x instructions context outcome)
 effect-makes c now past x instructions context Outcome.Ran = λ serial level quota is. absurd (cc)
 effect-makes c now past x instructions context Outcome.InCall = λ serial level quota is. absurd (cc)
 effect-makes c now past x instructions context (Outcome.Fault kind) = λ serial level quota is. absurd (cc)
-effect-makes c now past x instructions context (Outcome.CallDone call) = call-makes c now past x instructions context call
+effect-makes c now past x instructions context (Outcome.CallDone call) =
+    call-has Makes context (λ why s l q is. absurd (cc)) (λ event plain s l q is. let create : event ≡ Event.Create s l q = cc in absurd (subst IsPlain create plain))
+    (λ serial. creates-makes serial context) (λ value s l q is. absurd (cc)) c now past x instructions call
 
 bearing : (o : Option Child) (f g : ℕ → Context) (s : ℕ) → f s ≡ g s → with_child f o s ≡ with_child g o s
 bearing None f g s same = same

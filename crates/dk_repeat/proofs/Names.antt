@@ -1,6 +1,6 @@
 -- The names of other libraries and of this crate's specs that proofs here speak of.
 pub use Rattle.dk_alone.proofs.Again.{holds-none}
-pub use Rattle.dk_alone.proofs.Premises.{call_of, earlier-call, program, spinner}
+pub use Rattle.dk_alone.proofs.Premises.{call_of, earlier-call, program, spinner, value_of}
 pub use Rattle.dk_alone.proofs.Same.{lock_with, unlock_with, wait_with}
 pub use Rattle.dk_alone.proofs.Steps.{no-tick, turn-code, turn-label}
 pub use Rattle.dk_alone.specs.Alone.{ReadsNoTick}

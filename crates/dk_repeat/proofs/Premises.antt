@@ -1,5 +1,5 @@
 -- Without any one of its premises the law is false: short runs of one process that stand alike in all else, and go on otherwise.
-use Rattle.dk_repeat.proofs.Names.{ℕ, zero, suc, inl, inr, false, ◌⊎◌, ◌≡◌, ◌+◌, ◌*◌, ◌%◌, ◌≤◌, ◌<◌, cond, List, [], ◌∷◌, length, Option, Some, None, refl, ap, sym, ◌∙◌, subst, arith, map, is_some, slice_index_or, Configuration, period, IsChecked, IsAccepted, first_broken, checked, Nop, Li, Addi, Ld, St, Jmp, Trap, Event, Entry, Has, thread_of, Thread, main_thread, family, accepted, World, world, ReadsNoTick, program, spinner, call_of, earlier-call, RunsRepeat, ProgramsReadNoTick, WindowsBegin, standing, RunStandsAgain, ReadsNoTickNext, entry_at}
+use Rattle.dk_repeat.proofs.Names.{ℕ, zero, suc, inl, inr, false, ◌⊎◌, ◌≡◌, ◌+◌, ◌*◌, ◌%◌, ◌≤◌, ◌<◌, cond, List, [], ◌∷◌, length, Option, Some, None, refl, ap, sym, ◌∙◌, subst, arith, map, is_some, slice_index_or, Configuration, period, IsChecked, IsAccepted, first_broken, checked, Nop, Li, Addi, Ld, St, Jmp, Trap, Entry, Has, thread_of, Thread, main_thread, family, accepted, World, world, ReadsNoTick, program, spinner, call_of, earlier-call, value_of, RunsRepeat, ProgramsReadNoTick, WindowsBegin, standing, RunStandsAgain, ReadsNoTickNext, entry_at}
 use Rattle.dk_config.specs.Rules.{all_tests, version_tests, count_tests, range_tests, period_tests, name_tests, again_tests, level_tests, budget_tests, user_tests, slowest_tests}
 
 abbrev pub Threads : Configuration → World → World → Type 0
@@ -45,10 +45,6 @@ single period budget memory = record {
   processes = record { name = 97 ∷ []; program = 97 ∷ []; level = 0; budget = budget; memory = memory; threads = 0; slack = false; max_level = 0 } ∷ [];
   mutexes = [];
 }
-
-abbrev value_of : Option Event → ℕ
-value_of (Some (Event.Put value)) = value
-value_of _ = 0
 
 -- a number that tells entries apart: the value that is put, and 1000 more for a tick of a thread
 abbrev told : Option Entry → ℕ

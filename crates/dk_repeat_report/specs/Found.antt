@@ -11,11 +11,11 @@ use Rattle.dk_cycle_counts.specs.declared.counts.CycleCounts.{CycleCounts}
 use Rattle.dk_repeat_report.specs.declared.own.OwnFound.{OwnFound}
 use Rattle.dk_repeat_report.specs.Cycles.{IsOneCounted}
 use Rattle.dk_repeat_report.specs.OwnUses.{IsOneFound}
-use Rattle.dk_repeat_report.specs.Lines.{IsRepeats, cycle_totals_line, names_of, process_lines, process_of, run_line}
+use Rattle.dk_repeat_report.specs.Lines.{IsRepeats, cycle_totals_line, names_of, process_lines, process_of, run_lines}
 
 abbrev pub found_text : List (List ℕ) → ℕ → RunSearch → Option CycleCounts → List OwnFound → List ℕ
 found_text names ticks run counts own =
-    run_line names ticks (run_told run)
+    run_lines names ticks (run_told run)
     ++ (cycle_totals_line counts ++ (flat_map (process_lines names ticks counts) own ++ codes "end\n"))
 
 -- the search of a run, whose cycle starts at its first tick, with what is counted of the cycle that was found, and what was found of each of its processes, in the

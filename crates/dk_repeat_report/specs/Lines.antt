@@ -1,5 +1,5 @@
 -- The line of the run, and that of each process.
-use Rattle.std.specs.Prelude.{ℕ, ◌≡◌, List, [], ◌++◌, length, map, flat_map, codes, decimal, Option, Some, None, All, slice_get}
+use Rattle.std.specs.Prelude.{ℕ, ◌≡◌, ◌/◌, nat_le, if◌then◌else◌, List, [], ◌++◌, length, map, flat_map, codes, decimal, Option, Some, None, All, slice_get}
 use Rattle.std.specs.List.{range_with_len}
 use Rattle.std.specs.Option.{option_map_or}
 use Rattle.dk_config.specs.Configuration.{Configuration}
@@ -8,6 +8,7 @@ use Rattle.dk_cycle_counts.specs.declared.process.ProcessUse.{ProcessUse}
 use Rattle.dk_cycle_counts.specs.declared.totals.CycleTotals.{CycleTotals}
 use Rattle.dk_cycle_counts.specs.declared.counts.CycleCounts.{CycleCounts}
 use Rattle.dk_cycle.specs.declared.Cycle.{Cycle}
+use Rattle.dk_cycle.specs.declared.made.Made.{Made}
 use Rattle.dk_cycle.specs.declared.keeping.Keeping.{Keeping}
 use Rattle.dk_cycle.specs.declared.keeping.Keeping.TheVariants as kind
 use Rattle.dk_cycle.specs.declared.told.OwnTold.{OwnTold}
@@ -30,6 +31,19 @@ run_line_by names ticks None cycle = cycle_line ticks cycle
 
 abbrev pub run_line : List (List ℕ) → ℕ → RunTold → List ℕ
 run_line names ticks told = run_line_by names ticks told.reader told.cycle
+
+abbrev pub child_line : List ℕ → Made → List ℕ
+child_line name m =
+    codes "child " ++ (decimal m.serial ++ (codes " of " ++ (name ++ (codes " is new at " ++ (decimal m.tick ++ codes "\n")))))
+
+-- the child that was made last, where half of the ticks had gone by then
+abbrev pub made_line : List (List ℕ) → ℕ → Option Made → List ℕ
+made_line names ticks None = []
+made_line names ticks (Some m) = if nat_le (ticks / 2) m.tick then child_line (name_at names m.process) m else []
+
+-- the lines of the run
+abbrev pub run_lines : List (List ℕ) → ℕ → RunTold → List ℕ
+run_lines names ticks told = run_line names ticks told ++ made_line names ticks told.made
 
 abbrev pub of_process : List ℕ → List ℕ → List ℕ
 of_process name what = codes "process " ++ (name ++ what)
@@ -115,7 +129,7 @@ names_of c = map (λ row. row.name) c.processes
 -- the lines of the run, those of the processes, and the last
 abbrev pub repeats_text : Configuration → ℕ → RunTold → Option CycleCounts → List OwnFound → List ℕ
 repeats_text c ticks run counts own =
-    run_line (names_of c) ticks run
+    run_lines (names_of c) ticks run
     ++ (cycle_totals_line counts ++ (flat_map (process_lines (names_of c) ticks counts) own ++ codes "end\n"))
 
 abbrev pub process_of : OwnFound → ℕ

@@ -1,11 +1,11 @@
 //! The line of the run, and that of each process.
 ghost use Rattle.std.specs.Prelude.{[], ◌≡◌, ◌++◌, codes, string_bytes, IfOk};
 ghost use Rattle.std.specs.Option.{option_map_or};
-ghost use Rattle.dk_repeat_report.specs.Lines.{budget_part, cycle_line, cycle_totals_line, cycle_use_line, done_part, events_part, name_at, own_cycle_line, own_line, own_line_by, own_use_line, process_lines, refused_part, run_line, totals_line, use_line, used_part, waited_part};
+ghost use Rattle.dk_repeat_report.specs.Lines.{budget_part, child_line, cycle_line, cycle_totals_line, cycle_use_line, done_part, events_part, made_line, name_at, own_cycle_line, own_line, own_line_by, own_use_line, process_lines, refused_part, run_line, run_lines, totals_line, use_line, used_part, waited_part};
 
 use crate::own::OwnFound;
 use dk_config::Text;
-use dk_cycle::{Cycle, Keeping, OwnTold, RunTold};
+use dk_cycle::{Cycle, Keeping, Made, OwnTold, RunTold};
 use dk_cycle_counts::{CycleCounts, CycleTotals, ProcessUse};
 use dk_window_report::WindowCounts;
 use std::alloc::{AllocError, Global};
@@ -37,18 +37,54 @@ fn cycle_line(alloc: Global, ticks: u32, cycle: Option<Cycle>) -> Result<String,
 }
 
 /// The line of the run.
-pub(crate) fn run_line(
-    alloc: Global,
-    names: &[Text],
-    ticks: u32,
-    told: RunTold,
-) -> Result<String, AllocError>
+fn run_line(alloc: Global, names: &[Text], ticks: u32, told: RunTold) -> Result<String, AllocError>
     ensures { IfOk result (λ s. string_bytes s ≡ run_line names.now ticks told) }
 {
     match told.reader {
         Some(process) => reader_text(alloc, name_at(names, process)),
         None => cycle_line(alloc, ticks, told.cycle),
     }
+}
+
+fn child_line(alloc: Global, name: &str, made: Made) -> Result<String, AllocError>
+    ensures { IfOk result (λ s. string_bytes s ≡ child_line name.now made) }
+{
+    let Made { serial, tick, .. } = made;
+    format!(in alloc; "child {serial} of {name} is new at {tick}\n")
+}
+
+/// The line of the child that was made last, where half of the ticks had gone by then.
+fn made_line(
+    alloc: Global,
+    names: &[Text],
+    ticks: u32,
+    made: Option<Made>,
+) -> Result<String, AllocError>
+    ensures { IfOk result (λ s. string_bytes s ≡ made_line names.now ticks made) }
+{
+    match made {
+        None => Ok(String::new(alloc)),
+        Some(made) => {
+            if made.tick < ticks / 2 {
+                return Ok(String::new(alloc));
+            }
+            child_line(alloc, name_at(names, made.process), made)
+        }
+    }
+}
+
+/// The lines of the run.
+pub(crate) fn run_lines(
+    alloc: Global,
+    names: &[Text],
+    ticks: u32,
+    told: RunTold,
+) -> Result<String, AllocError>
+    ensures { IfOk result (λ s. string_bytes s ≡ run_lines names.now ticks told) }
+{
+    let mut lines = run_line(alloc, names, ticks, told)?;
+    lines.push_str(made_line(alloc, names, ticks, told.made)?.as_str())?;
+    Ok(lines)
 }
 
 fn own_cycle_line(

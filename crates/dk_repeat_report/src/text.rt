@@ -4,7 +4,7 @@ ghost use Rattle.dk_repeat_report.specs.Lines.{process_lines};
 ghost use Rattle.dk_repeat_report.specs.Found.{Tells, found_text};
 
 use crate::laws::{cycles_law, own_cycles_law};
-use crate::lines::{cycle_totals_line, process_lines, run_line};
+use crate::lines::{cycle_totals_line, process_lines, run_lines};
 use crate::own::OwnFound;
 use dk_config::{NoMemory, Text};
 use dk_cycle::{RunSearch, run_told, told_law};
@@ -41,7 +41,7 @@ fn text_of(
 ) -> Result<String, AllocError>
     ensures { IfOk result (λ s. string_bytes s ≡ found_text names.now ticks run.now counts.now own.now) }
 {
-    let mut text = run_line(alloc, names, ticks, run_told(run))?;
+    let mut text = run_lines(alloc, names, ticks, run_told(run))?;
     let totals = cycle_totals_line(alloc, counts)?;
     text.push_str(totals.as_str())?;
     add_lines(alloc, &mut text, names, ticks, counts, own)?;

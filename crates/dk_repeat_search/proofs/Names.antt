@@ -9,10 +9,11 @@ pub use Rattle.dk_cycle.specs.Own.{IsMainState, IsOwnSearch}
 pub use Rattle.dk_cycle.specs.Run.{AreProcessStates, Follows, IsLastReader, IsProcessState, IsReader, IsRunSearch, IsRunState}
 pub use Rattle.dk_cycle.specs.Start.{with_start}
 pub use Rattle.dk_cycle.specs.Stretching.{GoQuietly, SearchesStay}
-pub use Rattle.dk_cycle.specs.Told.{IsRunTold, OwnIsTold, RunIsTold, own_told, reader_by, run_told}
+pub use Rattle.dk_cycle.specs.Told.{IsRunTold, OwnIsTold, RunIsTold, made_by, own_told, reader_by, run_told}
 pub use Rattle.dk_cycle.specs.Waiting.{IsWaitWatch, IsWaits, WaitsAreTold, waits_told}
 pub use Rattle.dk_cycle.specs.declared.Cycle.{Cycle}
 pub use Rattle.dk_cycle.specs.declared.keeping.Keeping.{Keeping}
+pub use Rattle.dk_cycle.specs.declared.made.Made.{Made}
 pub use Rattle.dk_cycle.specs.declared.own.MainState.{MainState}
 pub use Rattle.dk_cycle.specs.declared.own.OwnSearch.{OwnSearch}
 pub use Rattle.dk_cycle.specs.declared.run.ProcessState.{ProcessState}
@@ -34,6 +35,8 @@ pub use Rattle.dk_inspect.specs.Printing.{IsRowAt, IsThereIn, now_of, shown_of}
 pub use Rattle.dk_inspect.specs.View.{is_shown}
 pub use Rattle.dk_kernel.specs.Booting.{IsLoaded}
 pub use Rattle.dk_kernel.specs.Running.{Running, trace_of, world_of}
+pub use Rattle.dk_kernel.specs.Stretches.{IsComputed}
+pub use Rattle.dk_kernel.specs.declared.stretch.Stretch.{Stretch}
 pub use Rattle.dk_loader.specs.Workload.{Workload}
 pub use Rattle.dk_repeat_report.proofs.Told.{repeats-text}
 pub use Rattle.dk_repeat_report.specs.Cycles.{CountsOne, CyclesAreAlike, IsOneCounted, entries_from, share_at, shares_of}
@@ -43,7 +46,7 @@ pub use Rattle.dk_repeat_report.specs.OwnUses.{IsOneFound, IsOneUse, IsSameOwn, 
 pub use Rattle.dk_repeat_report.specs.declared.own.OwnFound.{OwnFound}
 pub use Rattle.dk_repeat_search.specs.Always.{AreTold, AreWaits, AreWatches, IsAlways, IsWatching, watched_process}
 pub use Rattle.dk_repeat_search.specs.Counting.{AreOwnFound, CountsSome, IsFound, StartsCycle}
-pub use Rattle.dk_repeat_search.specs.Repeats.{IsRepeatsOf, KnowsReader, repeats, searched_ticks}
+pub use Rattle.dk_repeat_search.specs.Repeats.{AreLast, IsRepeatsOf, KnowsLast, repeats, searched_ticks}
 pub use Rattle.dk_repeat_search.specs.Searching.{AreOwn, HasSettled, IsSearching, loaded_of, process_of}
 pub use Rattle.dk_repeat_search.specs.States.{AreThreads, HasContext, IsThreadAt, listed}
 pub use Rattle.dk_repeat_search.specs.declared.count.Found.{Found}
@@ -52,22 +55,24 @@ pub use Rattle.dk_threads.specs.Recount.{counted_row, state_of, unplaced}
 pub use Rattle.dk_threads.specs.Rows.{is_stopped}
 pub use Rattle.dk_threads.specs.declared.row.ThreadRow.{ThreadRow}
 pub use Rattle.dk_trace.proofs.Members.{has-filter}
-pub use Rattle.dk_trace.specs.Entries.{is_same}
+pub use Rattle.dk_trace.specs.Entries.{is_same, quiet}
 pub use Rattle.dk_trace.specs.Members.{Has}
 pub use Rattle.dk_trace.specs.Threads.{Thread, family, is_main}
 pub use Rattle.dk_trace.specs.declared.Entry.{Entry}
+pub use Rattle.dk_trace.specs.declared.Event.{Event}
+pub use Rattle.dk_trace.specs.declared.Label.{Label}
 pub use Rattle.dk_trace.specs.declared.ThreadId.{ThreadId}
 pub use Rattle.dk_world.specs.Run.{trace, world}
 pub use Rattle.std.proofs.Common.{Bool, List, None, Option, Some, [], ap, arith, false, get_or, inl, inr, length, map, refl, rules, set, subst, suc, sym, take, true, zero, ℕ, ◌%◌, ◌*◌, ◌++◌, ◌+◌, ◌-◌, ◌/◌, ◌<◌, ◌==◌, ◌∙◌, ◌∷◌, ◌≡◌, ◌≢◌, ◌≤◌}
 pub use Rattle.std.proofs.Math.Bool.{or-true}
 pub use Rattle.std.proofs.Math.Nat.{div-add-mod}
-pub use Rattle.std.proofs.Math.Seq.{get_or-append_seam}
+pub use Rattle.std.proofs.Math.Seq.{get_or-append_seam, take-append-add}
 pub use Rattle.std.proofs.lemmas.Bool.{cases_Bool, cases_eq}
 pub use Rattle.std.proofs.lemmas.Bool.Decides.{nat_tests}
-pub use Rattle.std.proofs.lemmas.List.{append-nil, get_or-set_other, get_or-set_same, get_or_append_left, get_or_default, length-map, length-set, length_push, map-append, map-id, map_more, take_all}
+pub use Rattle.std.proofs.lemmas.List.{append-nil, length-replicate, get_or-set_other, get_or-set_same, get_or_append_left, get_or_default, length-map, length-set, length_push, map-append, map-id, map_more, take_all}
 pub use Rattle.std.proofs.lemmas.List.Elements.{All-push, All-set}
 pub use Rattle.std.proofs.lemmas.List.FromFn.{get_or-map-range_with_len, get_or-range_with_len, length-map-range_with_len, length-range_with_len, map-range_with_len_more}
 pub use Rattle.std.proofs.lemmas.Nat.{mod_below}
 pub use Rattle.std.proofs.lemmas.Option.{get_or_from_slice_get, slice_get_within}
 pub use Rattle.std.specs.List.{range_with_len}
-pub use Rattle.std.specs.Prelude.{All, IfOk, IfSome, is_some, nat_lt, option_map, slice_get, slice_index_or}
+pub use Rattle.std.specs.Prelude.{All, IfOk, IfSome, is_some, nat_lt, option_map, replicate, slice_get, slice_index_or}

@@ -6,7 +6,7 @@ use Rattle.dk_repeat_search.proofs.Owning.{searches-later}
 pub searching-next : (k l : Running) (s : Searches) (e : Entry) (reader : Option ℕ) (run : RunSearch) → l ≡ record k { ticks = k.ticks + 1 } → trace_of l ≡ e ∷ trace_of k
     → IsChecked l.config → IsAccepted l.config → IsSearching k s
     → ((n : ℕ) → l.ticks ≡ n + 1 → trace l.config l.programs (n + 1) ≡ e ∷ trace l.config l.programs n → IsReader l.config l.programs n e reader)
-    → Follows s.run e reader run → IsSearching l (record s { run = run })
+    → Follows s.run k.ticks e reader run → IsSearching l (record s { run = run })
 searching-next k l s e reader run next adds checked' accepted' is reads follows =
     let config : l.config ≡ k.config = ap (λ (r : Running). r.config) next in
     let programs : l.programs ≡ k.programs = ap (λ (r : Running). r.programs) next in
@@ -19,7 +19,7 @@ searching-next k l s e reader run next adds checked' accepted' is reads follows 
     (reads k.ticks ticks) more in
     subst (λ (r : Running). IsSearching r (record s { run = run })) (sym next)
     (record {
-      run = follows k.config k.programs k.ticks checked accepted is.run more read;
+      run = follows k.config k.programs checked accepted is.run more read;
       own = record { all = searches-later k.config k.programs k.ticks 1 s.own.items is.own.all; processes = is.own.processes };
       programs = is.programs;
     })

@@ -1,5 +1,5 @@
 -- What was found, told as text.
-use Rattle.dk_repeat_search.proofs.Names.{ℕ, ◌≡◌, ◌∙◌, Bool, List, Option, Some, None, refl, ap, sym, subst, option_map, Configuration, Workload, IsLoaded, Running, Cycle, RunTold, RunSearch, IsLastReader, IsRunSearch, OwnIsTold, RunIsTold, reader_by, run_told, with_start, CycleCounts, OwnFound, CyclesAreAlike, IsOneCounted, OwnCyclesAreAlike, names_of, AreOf, found_text, repeats-text, Found, IsSettled, Searches, HasSettled, IsSearching, loaded_of, AreOwnFound, IsFound, IsRepeatsOf, KnowsReader, repeats, searched_ticks}
+use Rattle.dk_repeat_search.proofs.Names.{ℕ, ◌≡◌, ◌∙◌, Bool, List, Option, Some, None, refl, ap, sym, subst, option_map, Workload, IsLoaded, Running, Cycle, RunTold, RunSearch, IsRunSearch, OwnIsTold, RunIsTold, reader_by, run_told, with_start, CycleCounts, OwnFound, CyclesAreAlike, IsOneCounted, OwnCyclesAreAlike, names_of, AreOf, found_text, repeats-text, Found, IsSettled, Searches, HasSettled, IsSearching, loaded_of, AreOwnFound, IsFound, IsRepeatsOf, repeats, searched_ticks, AreLast, KnowsLast, Made, made_by}
 
 -- the search of a kernel's run is one of its configuration with its programs
 pub search-of : (k : Running) (v : Workload) (run : RunSearch) (tick : ℕ) → v ≡ loaded_of k → tick ≡ k.ticks → IsRunSearch k.config k.programs k.ticks run
@@ -32,27 +32,27 @@ found-all w k l before after counts own of same settled counted found =
     subst (λ (v : Workload). AreOf v.config v.programs after.run counts own) of
     (record { tick = k.ticks; run_is = settled.is.run; first = settled.first; counts_are = counted; own_are = there.all; processes = there.processes })
 
--- a search that found no cycle took all ticks, and knows who read the tick last in them
-pub knows-reader : (w : Workload) (k : Running) (ticks : ℕ) (before after : Searches) → loaded_of k ≡ w → HasSettled k before after → (before.run.cycle ≡ None → k.ticks ≡ ticks)
-    → KnowsReader w ticks after.run
-knows-reader w k ticks before after of settled all = λ none.
-    subst (λ (v : Workload). IsLastReader v.config v.programs ticks after.run.reader) of
-    (subst (λ n. IsLastReader k.config k.programs n after.run.reader) (all (settled.had none)) settled.is.run.reader)
+-- a search that found no cycle took all ticks, and knows who read the tick last in them, and which child was made last
+pub knows-last : (w : Workload) (k : Running) (ticks : ℕ) (before after : Searches) → loaded_of k ≡ w → HasSettled k before after → (before.run.cycle ≡ None → k.ticks ≡ ticks)
+    → KnowsLast w ticks after.run
+knows-last w k ticks before after of settled all = λ none.
+    subst (λ (v : Workload). AreLast v ticks after.run.reader after.run.made) of
+    (subst (λ n. AreLast (loaded_of k) n after.run.reader after.run.made) (all (settled.had none)) (record { reader = settled.is.run.reader; made = settled.is.run.made }))
 
-told-reader : (c : Configuration) (programs : List (List ℕ)) (ticks : ℕ) (o : Option Cycle) (reader : Option ℕ) → (o ≡ None → IsLastReader c programs ticks reader)
-    → o ≡ None → IsLastReader c programs ticks (reader_by o reader)
-told-reader c programs ticks None reader is = is
-told-reader c programs ticks (Some y) reader is = λ none. absurd (cc)
+told-last : (w : Workload) (ticks : ℕ) (o : Option Cycle) (reader : Option ℕ) (made : Option Made) → (o ≡ None → AreLast w ticks reader made)
+    → o ≡ None → AreLast w ticks (reader_by o reader) (made_by o made)
+told-last w ticks None reader made is = is
+told-last w ticks (Some y) reader made is = λ none. absurd (cc)
 
 -- the text of what was found tells what repeats for ever
 pub repeats-of : (w : Workload) (ticks : ℕ) (text : List ℕ) (whole : Bool) (f : Found) → RunIsTold → OwnIsTold → CyclesAreAlike → OwnCyclesAreAlike → IsLoaded w
-    → IsFound w f → KnowsReader w (searched_ticks ticks) f.run → text ≡ found_text (names_of w.config) ticks f.run f.counts f.own.items → whole ≡ repeats (run_told f.run)
+    → IsFound w f → KnowsLast w (searched_ticks ticks) f.run → text ≡ found_text (names_of w.config) ticks f.run f.counts f.own.items → whole ≡ repeats (run_told f.run)
     → IsRepeatsOf w ticks text whole
 repeats-of w ticks text whole f run-law own-law cycles-law own-cycles-law loaded found knows is whole-is =
     let told = repeats-text w.config w.programs ticks f.run f.counts f.own.items text run-law own-law cycles-law own-cycles-law loaded.checked loaded.accepted found is in
     record {
       is = told.0;
       whole_is = whole-is ∙ ap repeats (sym told.1);
-      read = subst (λ (t : RunTold). t.cycle ≡ None → IsLastReader w.config w.programs (searched_ticks ticks) t.reader) (sym told.1)
-          (told-reader w.config w.programs (searched_ticks ticks) f.run.cycle f.run.reader knows);
+      last = subst (λ (t : RunTold). t.cycle ≡ None → AreLast w (searched_ticks ticks) t.reader t.made) (sym told.1)
+          (told-last w (searched_ticks ticks) f.run.cycle f.run.reader f.run.made knows);
     }

@@ -1,9 +1,11 @@
 -- What repeats for ever in a run, and whether the run as a whole does.
-use Rattle.std.specs.Prelude.{ℕ, ◌≡◌, ◌&&◌, nat_lt, if◌then◌else◌, Bool, List, None, is_none, is_some}
+use Rattle.std.specs.Prelude.{ℕ, ◌≡◌, ◌&&◌, nat_lt, if◌then◌else◌, Bool, List, Option, None, is_none, is_some}
 use Rattle.dk_config.specs.declared.TheConstants.{MAX_RUN_TICKS}
 use Rattle.dk_loader.specs.Workload.{Workload}
+use Rattle.dk_cycle.specs.declared.made.Made.{Made}
 use Rattle.dk_cycle.specs.declared.run.RunSearch.{RunSearch}
 use Rattle.dk_cycle.specs.declared.told.RunTold.{RunTold}
+use Rattle.dk_cycle.specs.Made.{IsLastMade}
 use Rattle.dk_cycle.specs.Run.{IsLastReader}
 use Rattle.dk_repeat_report.specs.Lines.{IsRepeats}
 
@@ -15,12 +17,18 @@ repeats told = is_none told.reader && is_some told.cycle
 abbrev pub searched_ticks : ℕ → ℕ
 searched_ticks ticks = if nat_lt ticks MAX_RUN_TICKS then ticks else MAX_RUN_TICKS
 
--- Where a search found no cycle, a thread of the process that it names read the tick last in so many ticks, or nobody did.
-abbrev pub KnowsReader : Workload → ℕ → RunSearch → Type 0
-KnowsReader w ticks search = search.cycle ≡ None → IsLastReader w.config w.programs ticks search.reader
+-- A thread of this process read the tick last in so many ticks, or nobody did; and this child was made last in them, or none was.
+pub record AreLast (w : Workload) (ticks : ℕ) (reader : Option ℕ) (made : Option Made) : Type 0 where
+  pub reader : IsLastReader w.config w.programs ticks reader
+  pub made : IsLastMade w.config w.programs ticks made
 
--- the text tells what repeats for ever, and whether the run as a whole does; and who read the tick last, where it doesn't
+-- so it is where a search found no cycle
+abbrev pub KnowsLast : Workload → ℕ → RunSearch → Type 0
+KnowsLast w ticks search = search.cycle ≡ None → AreLast w ticks search.reader search.made
+
+-- the text tells what repeats for ever, and whether the run as a whole does; where it doesn't, who read the tick last, and which
+-- child was made last
 pub record IsRepeatsOf (w : Workload) (ticks : ℕ) (text : List ℕ) (whole : Bool) : Type 0 where
   pub is : IsRepeats w.config w.programs ticks text
   pub whole_is : whole ≡ repeats is.run
-  pub read : is.run.cycle ≡ None → IsLastReader w.config w.programs (searched_ticks ticks) is.run.reader
+  pub last : is.run.cycle ≡ None → AreLast w (searched_ticks ticks) is.run.reader is.run.made

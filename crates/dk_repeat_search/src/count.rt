@@ -1,5 +1,5 @@
 //! What is counted of a cycle of the run, of which one tells of all.
-ghost use Rattle.std.specs.Prelude.{List, [], ◌≡◌, ◌+◌, ◌*◌, ◌<◌, ◌≤◌, take, IfOk, OnOk};
+ghost use Rattle.std.specs.Prelude.{ℕ, List, [], ◌≡◌, ◌+◌, ◌*◌, ◌<◌, ◌≤◌, take, IfOk, OnOk};
 ghost use Rattle.dk_config.specs.declared.TheConstants.{MAX_RUN_TICKS, MAX_TICKS};
 ghost use Rattle.dk_config.specs.Windows.{budget, main_level, period};
 ghost use Rattle.dk_kernel.specs.Booting.{IsLoaded};
@@ -89,6 +89,31 @@ fn ticks_to_start(cycle: Cycle, now: u32) -> u32
     if over == 0 { 0 } else { cycle.length - over }
 }
 
+/// Does some ticks, at least one and at most so many, and counts them: at once where nobody is at a kernel call in them.
+fn count_some<L: Ledger>(
+    counts: &mut CycleCounts,
+    kernel: &mut Kernel,
+    most: u32,
+    steps: &mut Steps<L>,
+) -> u32
+    requires some { 1 ≤ most }
+    requires room { kernel.old.ticks + most ≤ MAX_TICKS }
+    requires few { counts.old.ticks + most ≤ MAX_TICKS }
+    ensures some { 1 ≤ result }
+    ensures few { result ≤ most }
+    ensures next { kernel.new ≡ record kernel.old { ticks = kernel.old.ticks + result } }
+    ensures ticks { counts.new.ticks ≡ counts.old.ticks + result }
+    ensures counts { (shares : List MainShare) (n : ℕ) → AreCountsOf shares (take n (trace_of kernel.old)) counts.old
+        → AreCountsOf shares (take (n + result) (trace_of kernel.new)) counts.new }
+{
+    if let Some(stretch) = kernel.at_once(most, steps) {
+        counts.add_quiet(stretch.label, stretch.count);
+        return stretch.count;
+    }
+    counts.add(kernel.tick(steps));
+    1
+}
+
 /// Does so many ticks, and counts them.
 fn count<L: Ledger>(counts: &mut CycleCounts, kernel: &mut Kernel, ticks: u32, steps: &mut Steps<L>)
     requires room { kernel.old.ticks + ticks ≤ MAX_TICKS }
@@ -97,9 +122,9 @@ fn count<L: Ledger>(counts: &mut CycleCounts, kernel: &mut Kernel, ticks: u32, s
         → AreCountsOf shares (take ticks (trace_of kernel.new)) counts.new }
     ensures next { kernel.new ≡ record kernel.old { ticks = kernel.old.ticks + ticks } }
 {
-    for _step in 0..ticks {
-        let entry = kernel.tick(steps);
-        counts.add(entry);
+    let mut left = ticks;
+    while left > 0 {
+        left -= count_some(counts, kernel, left, steps);
     }
 }
 

@@ -5,7 +5,7 @@ ghost use Rattle.dk_kernel.specs.Booting.{IsLoaded};
 ghost use Rattle.dk_cycle_start.specs.Passes.{IsPass};
 ghost use Rattle.dk_repeat_report.specs.Cycles.{shares_of};
 ghost use Rattle.dk_repeat_report.specs.Lines.{names_of};
-ghost use Rattle.dk_repeat_search.specs.Repeats.{IsRepeatsOf, KnowsReader, repeats, searched_ticks};
+ghost use Rattle.dk_repeat_search.specs.Repeats.{IsRepeatsOf, KnowsLast, repeats, searched_ticks};
 ghost use Rattle.dk_repeat_search.specs.Searching.{IsSearching, loaded_of};
 ghost use Rattle.dk_repeat_search.specs.Counting.{IsFound};
 
@@ -68,7 +68,7 @@ fn found_by<L: Ledger>(
     requires of { pass.early ≡ loaded_of kernel.old }
     requires shares { shares.now ≡ shares_of kernel.old.config }
     ensures found { IfOk result (IsFound (loaded_of kernel.old)) }
-    ensures reader { IfOk result (λ found. KnowsReader (loaded_of kernel.old) ticks found.run) }
+    ensures last { IfOk result (λ found. KnowsLast (loaded_of kernel.old) ticks found.run) }
 {
     searches.search(alloc, kernel, ticks, steps)?;
     let reached = kernel.now();
@@ -102,7 +102,7 @@ fn searched_by<L: Ledger>(
     requires parts { blank.parts ≡ L.parts }
     requires some { 0 < L.parts }
     ensures found { IfOk result (IsFound loaded) }
-    ensures reader { IfOk result (λ found. KnowsReader loaded ticks found.run) }
+    ensures last { IfOk result (λ found. KnowsLast loaded ticks found.run) }
 {
     let searches = Searches::of(alloc, &loaded)?;
     let shares = shares_of(alloc, &loaded)?;
@@ -138,7 +138,7 @@ fn searched_ticks(ticks: u32) -> u32
 fn searched(alloc: Global, loaded: Loaded, ticks: u32) -> Result<Found, NoMemory>
     requires { IsLoaded loaded }
     ensures found { IfOk result (IsFound loaded) }
-    ensures reader { IfOk result (λ found. KnowsReader loaded (searched_ticks ticks) found.run) }
+    ensures last { IfOk result (λ found. KnowsLast loaded (searched_ticks ticks) found.run) }
 {
     searched_by::<Brand>(alloc, loaded, searched_ticks(ticks), Blank::new(1))
 }

@@ -1,4 +1,4 @@
-//! The searches for the cycles of a run and of each of its processes, tick by tick.
+//! The searches for the cycles of a run and of each of its processes, by stretches of ticks.
 ghost use Rattle.std.specs.Prelude.{[], ◌∷◌, ◌≡◌, ◌+◌, ◌%◌, ◌≤◌, ◌<◌, All, map, slice_index_or, true, None, is_some, IfOk, OnOk};
 ghost use Rattle.dk_config.specs.declared.TheConstants.{MAX_TICKS};
 ghost use Rattle.dk_cycle.specs.Own.{IsOwnSearch};
@@ -256,10 +256,11 @@ impl Searches {
         ensures entry { trace_of kernel.new ≡ result ∷ trace_of kernel.old }
         ensures is { IsSearching kernel.new self.new }
     {
+        let tick = kernel.now();
         let entry = kernel.tick(steps);
         kernel.dispatcher();
         let reader = reader_of(self.programs.as_slice(), kernel, &entry);
-        self.run.follow(&entry, reader);
+        self.run.follow(tick, &entry, reader);
         entry
     }
 

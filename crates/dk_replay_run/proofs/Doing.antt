@@ -274,13 +274,7 @@ module _ (c : Configuration) (p : ℕ) (program : List ℕ) (positive : 0 < peri
       let much = granted.2 in
       (omega arith, omega (arith, hold), much)
   kept-next used held (Some (Event.Unlock n)) kept granted = tt
-  kept-next used held (Some Event.Wait) kept granted = absurd granted
-  kept-next used held (Some Event.Exit) kept granted = absurd granted
-  kept-next used held (Some (Event.Create a b d)) kept granted = absurd granted
-  kept-next used held (Some (Event.Delete n)) kept granted = absurd granted
-  kept-next used held (Some (Event.Slack n)) kept granted = absurd granted
-  kept-next used held (Some (Event.Refused r)) kept granted = absurd granted
-  kept-next used held (Some (Event.Fault r)) kept granted = absurd granted
+  kept-next used held (Some event) kept granted = absurd granted
 
   -- the last tick of a call
   call-done : (t u used : ℕ) (es : List Entry) (held : Option HeldMutex) (kernel : KernelCall) (x z : Context) (m l : List ℕ) (event : Event) → W ≤ u → u + W < B → t < s + P
@@ -307,12 +301,7 @@ module _ (c : Configuration) (p : ℕ) (program : List ℕ) (positive : 0 < peri
       (unlock-done t u used es h x z m l low room early kept fits alike a tick)
   call-done t u used es held KernelCall.Wait x z m l event low room early behind kept granted tells alike tick a =
       absurd (subst (λ ev. Granted c p used held (Some ev)) tells granted)
-  call-done t u used es held KernelCall.Exit x z m l event low room early behind kept granted tells alike tick a = absurd tells
-  call-done t u used es held KernelCall.Create x z m l event low room early behind kept granted tells alike tick a = absurd tells
-  call-done t u used es held KernelCall.Delete x z m l event low room early behind kept granted tells alike tick a = absurd tells
-  call-done t u used es held KernelCall.Slack x z m l event low room early behind kept granted tells alike tick a = absurd tells
-  call-done t u used es held KernelCall.Time x z m l event low room early behind kept granted tells alike tick a = absurd tells
-  call-done t u used es held KernelCall.Left x z m l event low room early behind kept granted tells alike tick a = absurd tells
+  call-done t u used es held kernel x z m l event low room early behind kept granted tells alike tick a = absurd tells
 
   -- a tick that can be done
   one : (t u used : ℕ) (es : List Entry) (held : Option HeldMutex) (e : Entry) (x y : Context) (m l : List ℕ) → W ≤ u → u + W < B → t < s + P

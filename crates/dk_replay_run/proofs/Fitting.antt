@@ -73,6 +73,11 @@ module _ (c : Configuration) (p : ℕ) (cost : 0 < c.costs.call) where
   abbrev pub up_to_wait : List Step → List Entry
   up_to_wait job = flat_map (step_entries K p) job ++ replicate (K - 1) (quiet (Label.Call (main_id p)))
 
+  again : (s : Step) (steps : List Step) (used : ℕ) (held : Option HeldMutex) → Goes c p used held (step_entries K p s ++ up_to_wait steps) → Goes c p used held (up_to_wait (s ∷ steps))
+  again s steps used held goes =
+      subst (λ (t : List Entry). Goes c p used held t)
+      (sym (append_assoc (step_entries K p s) (flat_map (step_entries K p) steps) (replicate (K - 1) (quiet (Label.Call (main_id p)))))) goes
+
   pub steps-go : (steps : List Step) (used : ℕ) (held : Option HeldMutex) → FitsFrom c p used held steps → Goes c p used held (up_to_wait steps)
   steps-go [] used None fits =
       subst (λ (t : List Entry). Goes c p used None t) (append-nil (replicate (K - 1) (quiet (Label.Call (main_id p)))))
@@ -81,20 +86,13 @@ module _ (c : Configuration) (p : ℕ) (cost : 0 < c.costs.call) where
   steps-go (kind.Work n ∷ steps) used held fits =
       let rest = steps-go steps (used + n) held fits.2 in
       again (kind.Work n) steps used held (quiet-go (Label.Run (main_id p)) n used (used + n) held (up_to_wait steps) refl (long-enough c p (used + n) held steps fits.2) rest)
-    where
-      again : (s : Step) (steps : List Step) (used : ℕ) (held : Option HeldMutex) → Goes c p used held (step_entries K p s ++ up_to_wait steps) → Goes c p used held (up_to_wait (s ∷ steps))
-      again s steps used held goes =
-          subst (λ (t : List Entry). Goes c p used held t)
-          (sym (append_assoc (step_entries K p s) (flat_map (step_entries K p) steps) (replicate (K - 1) (quiet (Label.Call (main_id p)))))) goes
   steps-go (kind.Lock n ∷ steps) used None fits =
       let later : ℕ = used + (1 + K) in
       let same : later ≡ suc (used + K) = omega arith in
       let much = fits.2 in
       let rest = subst (λ u. Goes c p u (Some (let h : HeldMutex = record { mutex = n; since = u } in h)) (up_to_wait steps)) same
       (steps-go steps later (Some (record { mutex = n; since = later })) fits.3) in
-      subst (λ (t : List Entry). Goes c p used None t)
-      (sym (append_assoc (step_entries K p (kind.Lock n)) (flat_map (step_entries K p) steps) (replicate (K - 1) (quiet (Label.Call (main_id p))))))
-      (load-goes used None (Event.Lock n) (up_to_wait steps) tt (tt, fits.1, omega (arith, much)) rest)
+      again (kind.Lock n) steps used None (load-goes used None _ (up_to_wait steps) tt (tt, fits.1, omega (arith, much)) rest)
   steps-go (kind.Lock n ∷ steps) used (Some h) fits = absurd fits.0
   steps-go (kind.Unlock n ∷ steps) used None fits = absurd fits.0
   steps-go (kind.Unlock n ∷ steps) used (Some h) fits =
@@ -103,18 +101,14 @@ module _ (c : Configuration) (p : ℕ) (cost : 0 < c.costs.call) where
       let mine : longest_hold c h.mutex ≡ longest_hold c n = ap (longest_hold c) fits.0.0 in
       let much = fits.0.1 in
       let rest = subst (λ u. Goes c p u None (up_to_wait steps)) same (steps-go steps later None fits.1) in
-      subst (λ (t : List Entry). Goes c p used (Some h) t)
-      (sym (append_assoc (step_entries K p (kind.Unlock n)) (flat_map (step_entries K p) steps) (replicate (K - 1) (quiet (Label.Call (main_id p))))))
-      (load-goes used (Some h) (Event.Unlock n) (up_to_wait steps) (omega (arith, mine, much)) fits.0.0 rest)
+      again (kind.Unlock n) steps used (Some h) (load-goes used (Some h) _ (up_to_wait steps) (omega (arith, mine, much)) fits.0.0 rest)
   steps-go (kind.Slack n ∷ steps) used held fits = absurd fits
   steps-go (kind.Put n ∷ steps) used held fits =
       let later : ℕ = used + (1 + K) in
       let same : later ≡ suc (used + K) = omega arith in
       let lasts : Lasts c later held = long-enough c p later held steps fits in
       let rest = subst (λ u. Goes c p u held (up_to_wait steps)) same (steps-go steps later held fits) in
-      subst (λ (t : List Entry). Goes c p used held t)
-      (sym (append_assoc (step_entries K p (kind.Put n)) (flat_map (step_entries K p) steps) (replicate (K - 1) (quiet (Label.Call (main_id p))))))
-      (load-goes used held (Event.Put n) (up_to_wait steps) (lasts-before c (used + K) later held (omega arith) lasts) (stays-there c (used + K) later held (omega arith) lasts) rest)
+      again (kind.Put n) steps used held (load-goes used held _ (up_to_wait steps) (lasts-before c (used + K) later held (omega arith) lasts) (stays-there c (used + K) later held (omega arith) lasts) rest)
   steps-go (kind.Wait ∷ steps) used held fits = absurd fits
 
 -- the steps of a job that fits are plain

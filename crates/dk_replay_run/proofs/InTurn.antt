@@ -17,7 +17,7 @@ use Rattle.dk_profile.specs.Steps.{is_work, step_ticks}
 use Rattle.dk_alone.proofs.Own.{own-begins}
 use Rattle.dk_alone.proofs.Again.{on, on-is, entry-by}
 use Rattle.dk_replay.specs.Code.{program_of}
-use Rattle.dk_replay_run.specs.Profiles.{JobsFit, call_entries, first_window, job_entries, job_in_turn, job_ticks, part_of, profile_steps, step_entries, whole_window, windows_of}
+use Rattle.dk_replay_run.specs.Profiles.{JobsFit, call_entries, first_window, job_entries, job_in_turn, job_ticks, part_of, profile_steps, step_entries, whole_window, windows_of, work_entries}
 use Rattle.dk_replay_run.proofs.Turns.{At, going, own_from}
 use Rattle.dk_replay_run.proofs.Moves.{Moves, last_tick}
 use Rattle.dk_replay_run.proofs.Doing.{Goes, onto}
@@ -31,13 +31,16 @@ call-long : (cost p : ℕ) (event : Event) → 0 < cost → length (call_entries
 call-long cost p event some =
     omega (arith, length-append (replicate (cost - 1) (quiet_entry (Label.Call (main_id p)))) (last_tick p event ∷ []), length-replicate (cost - 1) (quiet_entry (Label.Call (main_id p))))
 
+load-long : (cost p : ℕ) (event : Event) → 0 < cost → length (work_entries p 1 ++ call_entries cost p event) ≡ 1 + cost
+load-long cost p event some = ap suc (call-long cost p event some) ∙ omega arith
+
 step-long : (cost p : ℕ) (s : Step) → 0 < cost → length (step_entries cost p s) ≡ step_ticks cost s
 step-long cost p (kind.Work n) some = length-replicate n (quiet_entry (Label.Run (main_id p)))
-step-long cost p (kind.Lock n) some = ap suc (call-long cost p (Event.Lock n) some) ∙ omega arith
-step-long cost p (kind.Unlock n) some = ap suc (call-long cost p (Event.Unlock n) some) ∙ omega arith
-step-long cost p (kind.Slack n) some = ap suc (call-long cost p (Event.Slack n) some) ∙ omega arith
-step-long cost p (kind.Put n) some = ap suc (call-long cost p (Event.Put n) some) ∙ omega arith
-step-long cost p kind.Wait some = call-long cost p Event.Wait some
+step-long cost p (kind.Lock n) some = load-long cost p _ some
+step-long cost p (kind.Unlock n) some = load-long cost p _ some
+step-long cost p (kind.Slack n) some = load-long cost p _ some
+step-long cost p (kind.Put n) some = load-long cost p _ some
+step-long cost p kind.Wait some = call-long cost p _ some
 
 pub steps-long : (cost p : ℕ) (steps : List Step) → 0 < cost → length (flat_map (step_entries cost p) steps) ≡ sum_by (step_ticks cost) steps
 steps-long cost p [] some = refl

@@ -58,12 +58,7 @@ is-wait-call KernelCall.Wait z tells = refl
 is-wait-call KernelCall.Lock z tells = absurd (cc)
 is-wait-call KernelCall.Unlock z tells = absurd (cc)
 is-wait-call KernelCall.Put z tells = absurd (cc)
-is-wait-call KernelCall.Exit z tells = absurd tells
-is-wait-call KernelCall.Create z tells = absurd tells
-is-wait-call KernelCall.Delete z tells = absurd tells
-is-wait-call KernelCall.Slack z tells = absurd tells
-is-wait-call KernelCall.Time z tells = absurd tells
-is-wait-call KernelCall.Left z tells = absurd tells
+is-wait-call call z tells = absurd tells
 
 some-event : (a b : Event) → Some a ≡ Some b → a ≡ b
 some-event a b e = cc

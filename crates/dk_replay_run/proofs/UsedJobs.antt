@@ -50,11 +50,11 @@ module _ (c : Configuration) (p : ℕ) where
 
   step-paid : (s : Step) → AllPaid (step_entries K p s)
   step-paid (kind.Work n) = work-paid n
-  step-paid (kind.Lock m) = load-paid (Event.Lock m)
-  step-paid (kind.Unlock m) = load-paid (Event.Unlock m)
-  step-paid (kind.Slack n) = load-paid (Event.Slack n)
-  step-paid (kind.Put n) = load-paid (Event.Put n)
-  step-paid kind.Wait = call-paid Event.Wait
+  step-paid (kind.Lock m) = load-paid _
+  step-paid (kind.Unlock m) = load-paid _
+  step-paid (kind.Slack n) = load-paid _
+  step-paid (kind.Put n) = load-paid _
+  step-paid kind.Wait = call-paid _
 
   steps-paid : (steps : List Step) → AllPaid (flat_map (step_entries K p) steps)
   steps-paid [] = tt

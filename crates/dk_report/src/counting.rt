@@ -78,13 +78,8 @@ fn count_event(processes: &mut [ProcessTotals], label: Label, event: Event)
     requires { IfSome (thread_of label) (λ x. x.process < length processes.old) }
     ensures { processes.new ≡ with_thread_event processes.old label event }
 {
-    match label {
-        Label::In(thread)
-        | Label::Run(thread)
-        | Label::Call(thread)
-        | Label::Out(thread)
-        | Label::Slack { thread, .. } => processes[thread.process as usize].count_event(event),
-        Label::Kernel(_) | Label::Idle => {}
+    if let Some(thread) = label.thread() {
+        processes[thread.process as usize].count_event(event);
     }
 }
 

@@ -23,6 +23,7 @@ pub same_verdict : {E : Type 0} (c : Configuration) (v w : Verdict) (r : Result 
     → v ≡ w → IfOk r (IsCertification c w) → IfOk r (IsCertification c v)
 same_verdict c v w r is told = subst (λ x. IfOk r (IsCertification c x)) (sym is) told
 
-pub with_run : {E : Type 0} (name document ledger bytes : List ℕ) (c : Configuration) (v w : Verdict) (r : Result Review E)
-    → v ≡ w → IfOk r (IsReviewedBy name document ledger bytes c w) → IfOk r (IsReviewedBy name document ledger bytes c v)
-with_run name document ledger bytes c v w r is told = subst (λ x. IfOk r (IsReviewedBy name document ledger bytes c x)) (sym is) told
+pub by_verdict : {E : Type 0} (name document : List ℕ) (Holds : Review → Type 0) (c : Configuration) (v w : Verdict)
+    (r : Result Review E) → v ≡ w → IfOk r (IsReviewedBy name document Holds c w) → IfOk r (IsReviewedBy name document Holds c v)
+by_verdict name document Holds c v w r is told =
+    subst (λ x. IfOk r (IsReviewedBy name document Holds c x)) (sym is) told

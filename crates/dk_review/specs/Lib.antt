@@ -1,3 +1,4 @@
+pub mod Needs
 pub mod Reviews
 pub mod Runs
 pub use Rattle.dk_config.specs.Checked

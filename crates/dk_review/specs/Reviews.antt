@@ -1,5 +1,5 @@
 -- The page of a document, with all that is told of it.
-use Rattle.std.specs.Prelude.{ℕ, Bool, true, false, List, [], ◌≡◌, length, Result, Ok, Err}
+use Rattle.std.specs.Prelude.{ℕ, Bool, true, false, List, ◌≡◌, length, Option, Result, Ok, Err}
 use Rattle.dk_config.specs.Configuration.{Configuration}
 use Rattle.dk_certify.specs.declared.certifying.Verdict.{Verdict}
 use Rattle.dk_certify.specs.declared.certifying.Verdict.TheVariants as verdict
@@ -15,15 +15,20 @@ use Rattle.dk_warning_report.specs.WarningLines.{warnings_text}
 use Rattle.dk_when_report.specs.When.{IsWhen}
 use Rattle.dk_audit.specs.Lines.{IsFoundIn}
 use Rattle.dk_audit.specs.declared.finding.Finding.{Finding}
+use Rattle.dk_page.specs.Needs.{IsBoth}
 use Rattle.dk_page.specs.Pages.{faults_text, page_text}
+use Rattle.dk_page.specs.declared.needing.Standing.{Standing}
+use Rattle.dk_page.specs.declared.needing.Standing.TheVariants as standing
 use Rattle.dk_page.specs.Runs.{IsAddedBy}
 use Rattle.dk_page.specs.declared.running.Run.{Run}
 use Rattle.dk_page.specs.declared.told.Additions.{Additions}
 use Rattle.dk_page.specs.declared.told.Certification.{Certification}
 use Rattle.dk_page.specs.declared.told.Certification.TheVariants.{Certified, Failing}
 use Rattle.dk_page.specs.declared.told.Told.{Told}
+use Rattle.dk_review.specs.declared.drawing.Range.{Range}
 use Rattle.dk_review.specs.declared.reviewing.Ending.{Ending}
 use Rattle.dk_review.specs.declared.reviewing.Review.{Review}
+use Rattle.dk_review.specs.Needs.{AddsNeeds, AddsNothing}
 use Rattle.dk_review.specs.Runs.{IsRunOf}
 
 -- by when each main has its ticks, as a text and as a table
@@ -46,48 +51,67 @@ pub record IsTold (c : Configuration) (t : Told) : Type 0 where
   pub count : t.count ≡ length (warnings c)
   pub warnings : t.warnings.items ≡ warnings_text c
 
--- a page without a ledger
-pub record AddsNothing (a : Additions) : Type 0 where
-  pub tile : a.tile.items ≡ []
-  pub file : a.file.items ≡ []
-  pub sections : a.sections.items ≡ []
-  pub outputs : a.outputs.items ≡ []
-
-abbrev pub certified_ending : Verdict → Ending
-certified_ending (verdict.Accepted rows) = Ending.Certified
-certified_ending (verdict.Fails level needs window) = Ending.Uncertified
-
--- of a configuration; the ending tells whether it is certified
-pub record IsReviewed (name document : List ℕ) (c : Configuration) (r : Review) : Type 0 where
+-- of a configuration that isn't certified nothing more is told
+pub record IsUncertified (name document : List ℕ) (c : Configuration) (r : Review) : Type 0 where
   pub told : Told
   pub added : Additions
   pub is_told : IsTold c told
   pub alone : AddsNothing added
   pub page : r.bytes.items ≡ page_text name document told added
-  pub ends : r.ending ≡ certified_ending (verdict_of c)
+  pub ends : r.ending ≡ Ending.Uncertified
 
-abbrev pub audited_ending : Bool → Ending
-audited_ending true = Ending.Certified
-audited_ending false = Ending.Unruly
+-- how needs that stand so end the review, where all else is as it should be
+abbrev pub needs_ending : Standing → Ending
+needs_ending standing.Met = Ending.Certified
+needs_ending standing.Unmet = Ending.Failing
+needs_ending standing.Refused = Ending.Refused
 
--- of a certified configuration and a ledger of it; the ending tells whether it follows the rules
-pub record IsReviewedRun (name document ledger bytes : List ℕ) (c : Configuration) (r : Review) : Type 0 where
+-- of a certified configuration, with what is needed of it
+pub record IsReviewed (name document : List ℕ) (needs : Option (List ℕ)) (held : List ℕ) (c : Configuration) (r : Review) : Type 0 where
   pub told : Told
-  pub run : Run
+  pub stand : Standing
   pub added : Additions
   pub is_told : IsTold c told
-  pub is_run : IsRunOf c bytes run
-  pub adds : IsAddedBy name ledger bytes run added
+  pub needed : AddsNeeds name c needs held stand added
   pub page : r.bytes.items ≡ page_text name document told added
-  pub ends : r.ending ≡ audited_ending run.passed
+  pub ends : r.ending ≡ needs_ending stand
 
--- of a configuration that isn't certified nothing is told of a ledger
-abbrev pub IsReviewedBy : List ℕ → List ℕ → List ℕ → List ℕ → Configuration → Verdict → Review → Type 0
-IsReviewedBy name document ledger bytes c (verdict.Accepted rows) r = IsReviewedRun name document ledger bytes c r
-IsReviewedBy name document ledger bytes c (verdict.Fails level needs window) r = IsReviewed name document c r
+-- a ledger that breaks a rule ends it as needs do that aren't met
+abbrev pub run_ending : Standing → Bool → Ending
+run_ending s true = needs_ending s
+run_ending standing.Met false = Ending.Failing
+run_ending standing.Unmet false = Ending.Failing
+run_ending standing.Refused false = Ending.Refused
 
-abbrev pub IsReviewedWith : List ℕ → List ℕ → List ℕ → List ℕ → Configuration → Review → Type 0
-IsReviewedWith name document ledger bytes c r = IsReviewedBy name document ledger bytes c (verdict_of c) r
+-- and with a ledger of it
+pub record IsReviewedRun (name document : List ℕ) (needs : Option (List ℕ)) (held ledger bytes : List ℕ) (range : Option Range)
+    (c : Configuration) (r : Review) : Type 0 where
+  pub told : Told
+  pub stand : Standing
+  pub first : Additions
+  pub run : Run
+  pub second : Additions
+  pub added : Additions
+  pub is_told : IsTold c told
+  pub needed : AddsNeeds name c needs held stand first
+  pub is_run : IsRunOf c range bytes run
+  pub adds : IsAddedBy name ledger bytes run second
+  pub both : IsBoth first second added
+  pub page : r.bytes.items ≡ page_text name document told added
+  pub ends : r.ending ≡ run_ending stand run.passed
+
+-- the one of a certified configuration, and the other of one that isn't
+abbrev pub IsReviewedBy : List ℕ → List ℕ → (Review → Type 0) → Configuration → Verdict → Review → Type 0
+IsReviewedBy name document Holds c (verdict.Accepted rows) r = Holds r
+IsReviewedBy name document Holds c (verdict.Fails level needs window) r = IsUncertified name document c r
+
+abbrev pub IsReviewedAlone : List ℕ → List ℕ → Option (List ℕ) → List ℕ → Configuration → Review → Type 0
+IsReviewedAlone name document needs held c r =
+    IsReviewedBy name document (IsReviewed name document needs held c) c (verdict_of c) r
+
+abbrev pub IsReviewedWith : List ℕ → List ℕ → Option (List ℕ) → List ℕ → List ℕ → List ℕ → Option Range → Configuration → Review → Type 0
+IsReviewedWith name document needs held ledger bytes range c r =
+    IsReviewedBy name document (IsReviewedRun name document needs held ledger bytes range c) c (verdict_of c) r
 
 -- of a document that is that of none: all that is wrong with it
 pub record IsRefused (name document : List ℕ) (r : Review) : Type 0 where
@@ -101,13 +125,15 @@ abbrev pub IsReviewOf : List ℕ → List ℕ → (Configuration → Review → 
 IsReviewOf name document Holds (Ok c) r = Holds c r
 IsReviewOf name document Holds (Err e) r = IsRefused name document r
 
-abbrev pub IsReview : List ℕ → List ℕ → Review → Type 0
-IsReview name document r = IsReviewOf name document (IsReviewed name document) (reading document) r
+-- with the needs of the one name in these bytes, where there are any
+abbrev pub IsReview : List ℕ → List ℕ → Option (List ℕ) → List ℕ → Review → Type 0
+IsReview name document needs held r =
+    IsReviewOf name document (IsReviewedAlone name document needs held) (reading document) r
 
--- with the ledger of the one name in these bytes
-abbrev pub IsReviewWith : List ℕ → List ℕ → List ℕ → List ℕ → Review → Type 0
-IsReviewWith name document ledger bytes r =
-    IsReviewOf name document (IsReviewedWith name document ledger bytes) (reading document) r
+-- and with the ledger of the other in these, and the picture of the range that is asked for
+abbrev pub IsReviewWith : List ℕ → List ℕ → Option (List ℕ) → List ℕ → List ℕ → List ℕ → Option Range → Review → Type 0
+IsReviewWith name document needs held ledger bytes range r =
+    IsReviewOf name document (IsReviewedWith name document needs held ledger bytes range) (reading document) r
 
 -- the ledger in these bytes is one of another configuration
 abbrev pub IsOfOther : List ℕ → List ℕ → Type 0

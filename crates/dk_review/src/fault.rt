@@ -7,5 +7,7 @@ pub enum RunFault {
     Line(u32),
     /// It is a ledger of another configuration.
     Other,
+    /// The range of the picture ends behind the last tick; the number is that of the ledger's ticks.
+    Ends(u32),
     NoMemory,
 }

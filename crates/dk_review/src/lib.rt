@@ -3,9 +3,11 @@
 
 mod drawing;
 mod fault;
+mod needing;
 mod reviewing;
 mod running;
 mod telling;
 
+pub use drawing::Range;
 pub use fault::RunFault;
 pub use reviewing::{Ending, Review, review_of, review_with};

@@ -1,33 +1,34 @@
-//! The page of a document, and of a ledger.
-ghost use Rattle.std.specs.Prelude.{◌≡◌, ◌≤◌, IfErr, IfOk, length};
+//! The page of a document, of what is needed of it, and of a ledger.
+ghost use Rattle.std.specs.Prelude.{◌≡◌, ◌≤◌, IfErr, IfOk, length, option_map};
 ghost use Rattle.dk_audit.specs.Lines.{IsFoundIn};
 ghost use Rattle.dk_audit.specs.declared.finding.Finding.{Finding as Found};
 ghost use Rattle.dk_config.specs.declared.TheConstants.{MAX_CONFIG_BYTES};
 ghost use Rattle.dk_config.specs.Checked.{BreaksNoRule, IsAccepted, IsChecked, IsWithinLimits};
-ghost use Rattle.dk_certify.specs.Verdicts.{verdict_of};
 ghost use Rattle.dk_review.specs.declared.fault.RunFault.{RunFault as Why};
-ghost use Rattle.dk_review.specs.Reviews.{IsOfOther, IsRefused, IsReview, IsReviewWith, IsReviewed, IsReviewedRun, IsReviewedWith, audited_ending, certified_ending};
+ghost use Rattle.dk_review.specs.Reviews.{IsOfOther, IsRefused, IsReview, IsReviewWith, IsReviewed, IsReviewedAlone, IsReviewedRun, IsReviewedWith, IsUncertified, needs_ending, run_ending};
 ghost use Rattle.dk_review.specs.Runs.{IsFaultOf, IsRunOf};
 
+use crate::drawing::Range;
 use crate::fault::RunFault;
+use crate::needing::needed_of;
 use crate::running::run_of;
 use crate::telling::told_of;
 use dk_certify::{Verdict, certify};
 use dk_config::{Config, MAX_CONFIG_BYTES, NoMemory};
 use dk_document_report::document_faults;
 use dk_loader::{LoadFault, read_config};
-use dk_page::{Additions, Run, additions, faults_page, page};
+use dk_page::{Additions, Run, Standing, additions, faults_page, page};
 use std::alloc::Global;
 
 /// What the review comes to.
 #[derive(Clone, Copy)]
 pub enum Ending {
-    /// And the ledger, where there is one, follows the rules.
+    /// And all needs are met, where there are any, and the ledger, where there is one, follows the rules.
     Certified,
-    /// The ledger of a certified configuration breaks a rule.
-    Unruly,
+    /// A need of a certified configuration isn't met, or the ledger breaks a rule.
+    Failing,
     Uncertified,
-    /// The document isn't that of a configuration.
+    /// The document isn't that of a configuration, or that of the needs isn't one of needs of it.
     Refused,
 }
 
@@ -38,18 +39,29 @@ pub struct Review {
     pub ending: Ending,
 }
 
-fn certified_ending(config: &Config) -> Ending
-    requires checked { IsChecked config.now }
-    requires limits { IsWithinLimits config.now }
-    ensures { result ≡ certified_ending (verdict_of config.now) }
+fn needs_ending(standing: Standing) -> Ending
+    ensures { result ≡ needs_ending standing }
 {
-    match certify(config) {
-        Verdict::Accepted(_) => Ending::Certified,
-        Verdict::Fails { .. } => Ending::Uncertified,
+    match standing {
+        Standing::Met => Ending::Certified,
+        Standing::Unmet => Ending::Failing,
+        Standing::Refused => Ending::Refused,
     }
 }
 
-fn of_config(
+fn run_ending(standing: Standing, passed: bool) -> Ending
+    ensures { result ≡ run_ending standing passed }
+{
+    if passed {
+        return needs_ending(standing);
+    }
+    match standing {
+        Standing::Met | Standing::Unmet => Ending::Failing,
+        Standing::Refused => Ending::Refused,
+    }
+}
+
+fn of_uncertified(
     alloc: Global,
     name: &str,
     document: &[u8],
@@ -58,13 +70,54 @@ fn of_config(
     requires unbroken { BreaksNoRule config.now }
     requires checked { IsChecked config.now }
     requires limits { IsWithinLimits config.now }
-    ensures { IfOk result (IsReviewed name.now document.now config.now) }
+    ensures { IfOk result (IsUncertified name.now document.now config.now) }
 {
     let told = told_of(alloc, config)?;
     let none = Additions::none(alloc);
     let bytes = page(alloc, name, document, &told, &none)?;
-    let ending = certified_ending(config);
+    let ending = Ending::Uncertified;
     Ok(Review { bytes, ending })
+}
+
+fn of_certified(
+    alloc: Global,
+    name: &str,
+    document: &[u8],
+    config: &Config,
+    needs: Option<&str>,
+    held: &[u8],
+) -> Result<Review, NoMemory>
+    requires unbroken { BreaksNoRule config.now }
+    requires checked { IsChecked config.now }
+    requires limits { IsWithinLimits config.now }
+    requires few { length held.now ≤ MAX_CONFIG_BYTES }
+    ensures { IfOk result (IsReviewed name.now document.now (option_map (λ w. w.now) needs.entry) held.now config.now) }
+{
+    let told = told_of(alloc, config)?;
+    let needed = needed_of(alloc, config, name, needs, held)?;
+    let bytes = page(alloc, name, document, &told, &needed.added)?;
+    let ending = needs_ending(needed.standing);
+    Ok(Review { bytes, ending })
+}
+
+fn of_config(
+    alloc: Global,
+    name: &str,
+    document: &[u8],
+    config: &Config,
+    needs: Option<&str>,
+    held: &[u8],
+) -> Result<Review, NoMemory>
+    requires unbroken { BreaksNoRule config.now }
+    requires checked { IsChecked config.now }
+    requires limits { IsWithinLimits config.now }
+    requires few { length held.now ≤ MAX_CONFIG_BYTES }
+    ensures { IfOk result (IsReviewedAlone name.now document.now (option_map (λ w. w.now) needs.entry) held.now config.now) }
+{
+    match certify(config) {
+        Verdict::Accepted(_) => of_certified(alloc, name, document, config, needs, held),
+        Verdict::Fails { .. } => of_uncertified(alloc, name, document, config),
+    }
 }
 
 fn of_faults(alloc: Global, name: &str, document: &[u8]) -> Result<Review, NoMemory>
@@ -78,53 +131,56 @@ fn of_faults(alloc: Global, name: &str, document: &[u8]) -> Result<Review, NoMem
 }
 
 /// The page of a document of at most 65,536 bytes, whose file has this name: of the configuration that it is, certified or
-/// not, or of its faults. `Err` is want of memory.
+/// not, or of its faults. Of a certified one it has what the needs in the file of the other name come to, which holds at
+/// most as many bytes, where there is one. `Err` is want of memory.
 #[tactic(auto, using(crate::proofs::Verdicts::of_config, crate::proofs::Verdicts::of_none))]
-pub fn review_of(alloc: Global, name: &str, document: &[u8]) -> Result<Review, NoMemory>
-    requires { length document.now ≤ MAX_CONFIG_BYTES }
-    ensures { IfOk result (IsReview name.now document.now) }
+pub fn review_of(
+    alloc: Global,
+    name: &str,
+    document: &[u8],
+    needs: Option<&str>,
+    held: &[u8],
+) -> Result<Review, NoMemory>
+    requires few { length document.now ≤ MAX_CONFIG_BYTES }
+    requires short { length held.now ≤ MAX_CONFIG_BYTES }
+    ensures { IfOk result (IsReview name.now document.now (option_map (λ w. w.now) needs.entry) held.now) }
 {
     match read_config(alloc, document) {
-        Ok(config) => of_config(alloc, name, document, &config),
+        Ok(config) => of_config(alloc, name, document, &config, needs, held),
         Err(LoadFault::NoMemory) => Err(NoMemory),
         Err(_) => of_faults(alloc, name, document),
     }
 }
 
-fn audited_ending(passed: bool) -> Ending
-    ensures { result ≡ audited_ending passed }
-{
-    if passed {
-        Ending::Certified
-    } else {
-        Ending::Unruly
-    }
-}
-
-/// The page of a certified configuration and of a ledger, of which this is told.
+/// The page of a certified configuration, of what is needed of it, and of a ledger, of which this is told.
 fn page_of(
     alloc: Global,
     name: &str,
     document: &[u8],
     config: &Config,
+    needs: Option<&str>,
+    held: &[u8],
     ledger: &str,
     bytes: &[u8],
+    range: Option<Range>,
     told_of_ledger: &Run,
 ) -> Result<Review, NoMemory>
     requires unbroken { BreaksNoRule config.now }
     requires checked { IsChecked config.now }
     requires limits { IsWithinLimits config.now }
-    requires ran { IsRunOf config.now bytes.now told_of_ledger.now }
-    ensures { IfOk result (IsReviewedRun name.now document.now ledger.now bytes.now config.now) }
+    requires few { length held.now ≤ MAX_CONFIG_BYTES }
+    requires ran { IsRunOf config.now range bytes.now told_of_ledger.now }
+    ensures { IfOk result (IsReviewedRun name.now document.now (option_map (λ w. w.now) needs.entry) held.now ledger.now bytes.now
+        range config.now) }
 {
+    let _range = range;
     let told = told_of(alloc, config)?;
-    let added = additions(alloc, name, ledger, bytes, told_of_ledger)?;
-    let page = page(alloc, name, document, &told, &added)?;
-    let ending = audited_ending(told_of_ledger.passed);
-    Ok(Review {
-        bytes: page,
-        ending,
-    })
+    let needed = needed_of(alloc, config, name, needs, held)?;
+    let ending = run_ending(needed.standing, told_of_ledger.passed);
+    let second = additions(alloc, name, ledger, bytes, told_of_ledger)?;
+    let added = needed.added.with(&second)?;
+    let bytes = page(alloc, name, document, &told, &added)?;
+    Ok(Review { bytes, ending })
 }
 
 fn of_run(
@@ -132,21 +188,30 @@ fn of_run(
     name: &str,
     document: &[u8],
     config: &Config,
+    needs: Option<&str>,
+    held: &[u8],
     ledger: &str,
     bytes: &[u8],
+    range: Option<Range>,
 ) -> Result<Review, RunFault>
     requires unbroken { BreaksNoRule config.now }
     requires checked { IsChecked config.now }
     requires limits { IsWithinLimits config.now }
     requires accepted { IsAccepted config.now }
-    ensures is { IfOk result (IsReviewedRun name.now document.now ledger.now bytes.now config.now) }
-    ensures fault { IfErr result (IsFaultOf (IsFoundIn config.now bytes.now Found.Header) bytes.now) }
+    requires few { length held.now ≤ MAX_CONFIG_BYTES }
+    ensures is { IfOk result (IsReviewedRun name.now document.now (option_map (λ w. w.now) needs.entry) held.now ledger.now bytes.now
+        range config.now) }
+    ensures fault { IfErr result (IsFaultOf (IsFoundIn config.now bytes.now Found.Header) range bytes.now) }
 {
-    match run_of(alloc, config, bytes) {
-        Ok(run) => match page_of(alloc, name, document, config, ledger, bytes, &run) {
-            Ok(review) => Ok(review),
-            Err(_) => Err(RunFault::NoMemory),
-        },
+    match run_of(alloc, config, bytes, range) {
+        Ok(run) => {
+            match page_of(
+                alloc, name, document, config, needs, held, ledger, bytes, range, &run,
+            ) {
+                Ok(review) => Ok(review),
+                Err(_) => Err(RunFault::NoMemory),
+            }
+        }
         Err(fault) => Err(fault),
     }
 }
@@ -156,18 +221,25 @@ fn of_both(
     name: &str,
     document: &[u8],
     config: &Config,
+    needs: Option<&str>,
+    held: &[u8],
     ledger: &str,
     bytes: &[u8],
+    range: Option<Range>,
 ) -> Result<Review, RunFault>
     requires unbroken { BreaksNoRule config.now }
     requires checked { IsChecked config.now }
     requires limits { IsWithinLimits config.now }
-    ensures is { IfOk result (IsReviewedWith name.now document.now ledger.now bytes.now config.now) }
-    ensures fault { IfErr result (IsFaultOf (IsFoundIn config.now bytes.now Found.Header) bytes.now) }
+    requires few { length held.now ≤ MAX_CONFIG_BYTES }
+    ensures is { IfOk result (IsReviewedWith name.now document.now (option_map (λ w. w.now) needs.entry) held.now ledger.now bytes.now
+        range config.now) }
+    ensures fault { IfErr result (IsFaultOf (IsFoundIn config.now bytes.now Found.Header) range bytes.now) }
 {
     match certify(config) {
-        Verdict::Accepted(_) => of_run(alloc, name, document, config, ledger, bytes),
-        Verdict::Fails { .. } => match of_config(alloc, name, document, config) {
+        Verdict::Accepted(_) => of_run(
+            alloc, name, document, config, needs, held, ledger, bytes, range,
+        ),
+        Verdict::Fails { .. } => match of_uncertified(alloc, name, document, config) {
             Ok(review) => Ok(review),
             Err(_) => Err(RunFault::NoMemory),
         },
@@ -185,22 +257,29 @@ fn with_faults(alloc: Global, name: &str, document: &[u8]) -> Result<Review, Run
     }
 }
 
-/// The page of a document of at most 65,536 bytes, whose file has this name, with what is told of the ledger of the other
-/// name in these bytes. Nothing is told of it where the document isn't that of a certified configuration.
+/// The page of `review_of`, where the configuration is certified with what is told of the ledger of the last name in these
+/// bytes, and the picture of this range, and without one of all of its ticks.
 #[tactic(auto, using(crate::proofs::Verdicts::of_config, crate::proofs::Verdicts::of_none, crate::proofs::Faults::of_other, crate::proofs::Faults::of_memory))]
 pub fn review_with(
     alloc: Global,
     name: &str,
     document: &[u8],
+    needs: Option<&str>,
+    held: &[u8],
     ledger: &str,
     bytes: &[u8],
+    range: Option<Range>,
 ) -> Result<Review, RunFault>
-    requires { length document.now ≤ MAX_CONFIG_BYTES }
-    ensures is { IfOk result (IsReviewWith name.now document.now ledger.now bytes.now) }
-    ensures fault { IfErr result (IsFaultOf (IsOfOther document.now bytes.now) bytes.now) }
+    requires few { length document.now ≤ MAX_CONFIG_BYTES }
+    requires short { length held.now ≤ MAX_CONFIG_BYTES }
+    ensures is { IfOk result (IsReviewWith name.now document.now (option_map (λ w. w.now) needs.entry) held.now ledger.now bytes.now
+        range) }
+    ensures fault { IfErr result (IsFaultOf (IsOfOther document.now bytes.now) range bytes.now) }
 {
     match read_config(alloc, document) {
-        Ok(config) => of_both(alloc, name, document, &config, ledger, bytes),
+        Ok(config) => of_both(
+            alloc, name, document, &config, needs, held, ledger, bytes, range,
+        ),
         Err(LoadFault::NoMemory) => Err(RunFault::NoMemory),
         Err(_) => with_faults(alloc, name, document),
     }

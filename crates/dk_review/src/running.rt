@@ -7,13 +7,14 @@ ghost use Rattle.dk_ledger.specs.Heading.{IsPrintable};
 ghost use Rattle.dk_ledger.specs.declared.ledger.LedgerFault.{LedgerFault as Fault};
 ghost use Rattle.dk_ledger.specs.Readable.{IsNoText, IsWrongLine};
 ghost use Rattle.dk_window_table.specs.Table.{kept_csv};
-ghost use Rattle.dk_review.specs.Runs.{AreWindowsOf, IsFaultOf, IsOfLedger, IsRunOf, IsToldBy, audit_text, has_passed, is_other, tick_text};
+ghost use Rattle.dk_review.specs.Runs.{AreTotalsOf, AreWindowsOf, IsFaultOf, IsOfLedger, IsRunOf, IsToldBy, audit_text, has_passed, is_other, tick_text};
 
-use crate::drawing::drawing_of;
+use crate::drawing::{Range, drawing_of};
 use crate::fault::RunFault;
 use dk_audit::{Finding, audit_bytes};
 use dk_config::{Config, NoMemory};
 use dk_ledger::LedgerFault;
+use dk_ledger_report::{ReportTexts, report_texts};
 use dk_page::Run;
 use dk_window_report::WindowReport;
 use dk_window_table::windows_csv;
@@ -78,48 +79,88 @@ fn windows_of(alloc: Global, bytes: &[u8]) -> Result<Vec<u8>, LedgerFault>
     Ok(table)
 }
 
-/// What the commands tell of the ledger in these bytes, of which this was found.
-fn told_by(alloc: Global, finding: Finding, bytes: &[u8]) -> Result<Run, LedgerFault>
-    ensures told { IfOk result (IsToldBy finding bytes.now) }
-    ensures line { (n : ℕ) → IsErrOf result (Fault.Line n) → IsWrongLine n bytes.now × IsNoText bytes.now }
+fn windows_in(alloc: Global, bytes: &[u8], range: Option<Range>) -> Result<Vec<u8>, RunFault>
+    ensures told { IfOk result (λ v. IsOfLedger (AreWindowsOf v.items) bytes.now) }
+    ensures fault { IfErr result (IsFaultOf ⊥ range bytes.now) }
 {
-    let audit = audit_bytes_of(alloc, finding)?;
-    let drawing = drawing_of(alloc, bytes)?;
-    let windows = windows_of(alloc, bytes)?;
+    let _range = range;
+    match windows_of(alloc, bytes) {
+        Ok(table) => Ok(table),
+        Err(LedgerFault::Line(line)) => Err(RunFault::Line(line)),
+        Err(LedgerFault::NoMemory) => Err(RunFault::NoMemory),
+    }
+}
+
+fn totals_in(alloc: Global, bytes: &[u8], range: Option<Range>) -> Result<ReportTexts, RunFault>
+    ensures told { IfOk result (λ r. IsOfLedger (AreTotalsOf r.report.items r.totals.items) bytes.now) }
+    ensures fault { IfErr result (IsFaultOf ⊥ range bytes.now) }
+{
+    let _range = range;
+    match report_texts(alloc, bytes) {
+        Ok(texts) => Ok(texts),
+        Err(LedgerFault::Line(line)) => Err(RunFault::Line(line)),
+        Err(LedgerFault::NoMemory) => Err(RunFault::NoMemory),
+    }
+}
+
+/// What the commands tell of the ledger in these bytes, of which this was found, with the picture of this range.
+fn told_by(
+    alloc: Global,
+    finding: Finding,
+    bytes: &[u8],
+    range: Option<Range>,
+) -> Result<Run, RunFault>
+    ensures told { IfOk result (IsToldBy finding range bytes.now) }
+    ensures fault { IfErr result (IsFaultOf ⊥ range bytes.now) }
+{
+    let Ok(audit) = audit_bytes_of(alloc, finding) else {
+        return Err(RunFault::NoMemory);
+    };
+    let drawing = drawing_of(alloc, bytes, range)?;
+    let windows = windows_in(alloc, bytes, range)?;
+    let texts = totals_in(alloc, bytes, range)?;
     let passed = has_passed(finding);
     Ok(Run {
         audit,
         passed,
         drawing,
         windows,
+        report: texts.report,
+        totals: texts.totals,
     })
 }
 
-fn of_finding(alloc: Global, finding: Finding, bytes: &[u8]) -> Result<Run, RunFault>
+fn of_finding(
+    alloc: Global,
+    finding: Finding,
+    bytes: &[u8],
+    range: Option<Range>,
+) -> Result<Run, RunFault>
     ensures own { IfOk result (λ _. is_other finding ≡ false) }
-    ensures told { IfOk result (IsToldBy finding bytes.now) }
-    ensures fault { IfErr result (IsFaultOf (finding ≡ Found.Header) bytes.now) }
+    ensures told { IfOk result (IsToldBy finding range bytes.now) }
+    ensures fault { IfErr result (IsFaultOf (finding ≡ Found.Header) range bytes.now) }
 {
     if is_other(finding) {
         return Err(RunFault::Other);
     }
-    match told_by(alloc, finding, bytes) {
-        Ok(run) => Ok(run),
-        Err(LedgerFault::Line(line)) => Err(RunFault::Line(line)),
-        Err(LedgerFault::NoMemory) => Err(RunFault::NoMemory),
-    }
+    told_by(alloc, finding, bytes, range)
 }
 
-/// What the commands tell of the ledger in these bytes.
-pub(crate) fn run_of(alloc: Global, config: &Config, bytes: &[u8]) -> Result<Run, RunFault>
+/// What the commands tell of the ledger in these bytes, with the picture of this range, and without one of all of its ticks.
+pub(crate) fn run_of(
+    alloc: Global,
+    config: &Config,
+    bytes: &[u8],
+    range: Option<Range>,
+) -> Result<Run, RunFault>
     requires checked { IsChecked config.now }
     requires limits { IsWithinLimits config.now }
     requires accepted { IsAccepted config.now }
-    ensures told { IfOk result (IsRunOf config.now bytes.now) }
-    ensures fault { IfErr result (IsFaultOf (IsFoundIn config.now bytes.now Found.Header) bytes.now) }
+    ensures told { IfOk result (IsRunOf config.now range bytes.now) }
+    ensures fault { IfErr result (IsFaultOf (IsFoundIn config.now bytes.now Found.Header) range bytes.now) }
 {
     match audit_bytes(alloc, config, bytes) {
-        Ok(finding) => of_finding(alloc, finding, bytes),
+        Ok(finding) => of_finding(alloc, finding, bytes, range),
         Err(LedgerFault::Line(line)) => Err(RunFault::Line(line)),
         Err(LedgerFault::NoMemory) => Err(RunFault::NoMemory),
     }

@@ -29,7 +29,7 @@ fn count_warnings(alloc: Global, config: &Config) -> Result<usize, NoMemory>
     Ok(warnings(alloc, config)?.len())
 }
 
-fn bytes_of(alloc: Global, page: &Page) -> Result<Vec<u8>, NoMemory>
+pub(crate) fn bytes_of(alloc: Global, page: &Page) -> Result<Vec<u8>, NoMemory>
     ensures { IfOk result (λ v. v.items ≡ page.now) }
 {
     Ok(page.as_bytes().to_vec(alloc)?)

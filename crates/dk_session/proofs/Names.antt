@@ -12,7 +12,7 @@ pub use Rattle.dk_config.specs.Configuration.{Configuration}
 pub use Rattle.dk_inputs.proofs.FollowLemmas.{some_all, some_map}
 pub use Rattle.dk_inputs.specs.Answer.{is_silent, refusal_status}
 pub use Rattle.dk_inputs.specs.Follows.{Refuses, Tells}
-pub use Rattle.dk_inputs.specs.Plan.{Job, findings, ledger, planned, source}
+pub use Rattle.dk_inputs.specs.Jobs.{Job, findings, ledger, job_for_words, source}
 pub use Rattle.dk_inputs.specs.Reads.{Files}
 pub use Rattle.dk_inputs.specs.declared.refusal.Refusal.{Refusal}
 pub use Rattle.dk_inputs.specs.declared.status.Status.{Status}

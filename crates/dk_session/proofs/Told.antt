@@ -1,5 +1,5 @@
--- What the plan and the writing tell together.
-use Rattle.dk_session.proofs.Names.{◌≡◌, ◌∙◌, ℕ, List, refl, sym, subst, inl, inr, true, Option, Some, None, Ok, Err, IfOk, IfSome, Rises, SinkView, Refusal, Status, Work, is_silent, refusal_status, IsAnswer, Says, SomeFails, Job, planned, Keeps, Files, Tells, SomeDoes, Leaves, GivesExactly, StandsInOutput, WasReceivedBoundedGranted, IsExactly, HasDoneOutput, IsDoneOrNoMemory, Unfailing, some_all, some_map}
+-- What the reading and the writing tell together.
+use Rattle.dk_session.proofs.Names.{◌≡◌, ◌∙◌, ℕ, List, refl, sym, subst, inl, inr, true, Option, Some, None, Ok, Err, IfOk, IfSome, Rises, SinkView, Refusal, Status, Work, is_silent, refusal_status, IsAnswer, Says, SomeFails, Job, job_for_words, Keeps, Files, Tells, SomeDoes, Leaves, GivesExactly, StandsInOutput, WasReceivedBoundedGranted, IsExactly, HasDoneOutput, IsDoneOrNoMemory, Unfailing, some_all, some_map}
 use Rattle.dk_inputs.specs.declared.status.Status.TheVariants as status
 use Rattle.dk_session.proofs.Leaving.{is_loud}
 use Rattle.dk_session.proofs.Outcomes.{one_status, refused_for, status_is}
@@ -11,19 +11,19 @@ promised work (Some job) does = does.1
 
 module _ (files : Option Files) (words : List (List ℕ)) (before after : ℕ) where
   -- work that is done keeps what a run promises
-  pub kept : (work : Work) (s : Status) → IfSome files (λ at. Tells SomeDoes SomeFails (Ok (Some work)) (planned words at) before after) → WasReceivedBoundedGranted files words s
+  pub kept : (work : Work) (s : Status) → IfSome files (λ at. Tells SomeDoes SomeFails (Ok (Some work)) (job_for_words words at) before after) → WasReceivedBoundedGranted files words s
   kept work s told =
       some_map _ _ files (λ at tells done.
       (let (job, found, does, given) = tells in subst (λ r. IfOk r (λ j. IfSome j Keeps)) (sym found) (promised work job does))) told
 
-  pub given_for_work : (work : Work) (s : Status) → IfSome files (λ at. Tells SomeDoes SomeFails (Ok (Some work)) (planned words at) before after) → GivesExactly files words s before after
+  pub given_for_work : (work : Work) (s : Status) → IfSome files (λ at. Tells SomeDoes SomeFails (Ok (Some work)) (job_for_words words at) before after) → GivesExactly files words s before after
   given_for_work work s told = some_map _ _ files (λ at tells speaks. (let (job, found, does, given) = tells in given)) told
 
-  pub given_for_usage : (s : Status) → IfSome files (λ at. Tells {X = Option Work} SomeDoes SomeFails (Ok None) (planned words at) before after) → GivesExactly files words s before after
+  pub given_for_usage : (s : Status) → IfSome files (λ at. Tells {X = Option Work} SomeDoes SomeFails (Ok None) (job_for_words words at) before after) → GivesExactly files words s before after
   given_for_usage s told = some_map _ _ files (λ at tells speaks. (let (job, found, does, given) = tells in given)) told
 
   pub given_for_refusal : (e : Refusal) (s : Status) → (is_silent e ≡ true → s ≡ refusal_status e)
-      → IfSome files (λ at. Tells {X = Option Work} SomeDoes SomeFails (Err e) (planned words at) before after) → GivesExactly files words s before after
+      → IfSome files (λ at. Tells {X = Option Work} SomeDoes SomeFails (Err e) (job_for_words words at) before after) → GivesExactly files words s before after
   given_for_refusal e s quiet told = some_map _ _ files (λ at tells speaks. (tells (is_loud e s quiet speaks)).1) told
 
 module _ (files : Option Files) (words : List (List ℕ)) where
@@ -52,8 +52,8 @@ module _ {S : Type 0} (seen : S → SinkView) (a b : S) (s : Status) where
     exactly r undone meant None left = tt
     exactly r undone meant (Some at) left = λ answer.
         (let (text, appended, comes) = left.whole answer in (
-          λ is. (let (e, refused, same) = refused_for (planned words at).found text s comes (λ done. undone (sym is ∙ done)) (λ usage. meant (sym is ∙ usage)) in (e, refused, same ∙ is)),
-          λ cause. (let (e, refused, same) = cause in status_is (planned words at).found text s e comes refused ∙ same),
+          λ is. (let (e, refused, same) = refused_for (job_for_words words at).found text s comes (λ done. undone (sym is ∙ done)) (λ usage. meant (sym is ∙ usage)) in (e, refused, same ∙ is)),
+          λ cause. (let (e, refused, same) = cause in status_is (job_for_words words at).found text s e comes refused ∙ same),
         ))
 
     -- where Output's status is Done, an answer is Done
@@ -62,7 +62,7 @@ module _ {S : Type 0} (seen : S → SinkView) (a b : S) (s : Status) where
     answered (Some at) left answer = λ can.
         (let (text, appended, comes) = left.whole answer in
         let (other, is) = can in
-        one_status (planned words at).found text other s status.Done comes is)
+        one_status (job_for_words words at).found text other s status.Done comes is)
 
     pub completed : (files : Option Files) (old new : ℕ) → Leaves seen (StandsInOutput files words) a b s → (s ≡ status.DepotFault → Rises old new)
         → IfSome files (λ at. HasDoneOutput words at → Unfailing old new → Unfailing (seen a).faults (seen b).faults → IsDoneOrNoMemory s)

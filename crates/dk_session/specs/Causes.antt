@@ -5,7 +5,7 @@ use Rattle.dk_inputs.specs.declared.status.Status.{Status}
 use Rattle.dk_inputs.specs.declared.status.Status.TheVariants as status
 use Rattle.dk_inputs.specs.Answer.{refusal_status}
 use Rattle.dk_command.specs.Output.{SomeFails, IsAnswer}
-use Rattle.dk_inputs.specs.Plan.{Job, planned}
+use Rattle.dk_inputs.specs.Jobs.{Job, job_for_words}
 use Rattle.dk_inputs.specs.Reads.{Files}
 
 -- Usage, unless the line couldn't be written
@@ -21,4 +21,4 @@ IsRefusedFor (Err d) e = d ≡ e
 abbrev pub IsExactly : Status → Option Files → List (List ℕ) → Status → Type 0
 IsExactly s files words ended =
     IfSome files (λ at. IsAnswer ended
-    → (ended ≡ s) ↔ ((e : Refusal) × IsRefusedFor (planned words at).found e × (refusal_status e ≡ s)))
+    → (ended ≡ s) ↔ ((e : Refusal) × IsRefusedFor (job_for_words words at).found e × (refusal_status e ≡ s)))

@@ -4,7 +4,7 @@ use Rattle.dk_inputs.specs.declared.refusal.Refusal.TheVariants as why
 use Rattle.dk_inputs.specs.declared.status.Status.{Status}
 use Rattle.dk_inputs.specs.declared.status.Status.TheVariants as status
 use Rattle.dk_command.specs.Output.{IsOutput}
-use Rattle.dk_inputs.specs.Plan.{planned}
+use Rattle.dk_inputs.specs.Jobs.{job_for_words}
 use Rattle.dk_command.specs.Promises.{Keeps}
 use Rattle.dk_inputs.specs.Reads.{Files}
 use Rattle.dk_session.specs.Leaves.{IsSilent}
@@ -16,14 +16,14 @@ StandsInOutput files words text ended = IfSome files (λ at. IsOutput words at t
 -- where the files are told and the command is a run that is done: it was received, bounded, by when and granted
 abbrev pub WasReceivedBoundedGranted : Option Files → List (List ℕ) → Status → Type 0
 WasReceivedBoundedGranted files words ended = IfSome files
-    (λ at. ended ≡ status.Done → IfOk (planned words at).found (λ job. IfSome job Keeps))
+    (λ at. ended ≡ status.Done → IfOk (job_for_words words at).found (λ job. IfSome job Keeps))
 
 -- Where the files are told, exactly the bytes were handed out that the command asks for: those of each file that is read,
 -- and one more than the limit of a file that is too long.
 abbrev pub GivesExactly : Option Files → List (List ℕ) → Status → ℕ → ℕ → Type 0
 GivesExactly files words ended old new = IfSome files
-    (λ at. (IsSilent ended → ⊥) → new ≡ old + (planned words at).given)
+    (λ at. (IsSilent ended → ⊥) → new ≡ old + (job_for_words words at).given)
 
 -- where the files are told and each that is asked for is held, no read was of another
 abbrev pub StraysNowhere : Option Files → List (List ℕ) → ℕ → ℕ → Type 0
-StraysNowhere files words old new = IfSome files (λ at. (planned words at).found ≢ Err why.Depot → new ≡ old)
+StraysNowhere files words old new = IfSome files (λ at. (job_for_words words at).found ≢ Err why.Depot → new ≡ old)

@@ -4,7 +4,7 @@ ghost use Rattle.dk_outside.specs.MemDepot.{mem_depot_view, mem_files, mem_fault
 ghost use Rattle.dk_outside.specs.MemSink.{mem_sink_view, sink_faults};
 ghost use Rattle.dk_outside.specs.Counts.{Rises};
 ghost use Rattle.dk_inputs.specs.Follows.{Goes};
-ghost use Rattle.dk_inputs.specs.Plan.{planned};
+ghost use Rattle.dk_inputs.specs.Jobs.{job_for_words};
 ghost use Rattle.dk_session.specs.Leaves.{Leaves};
 ghost use Rattle.dk_session.specs.Headline.{GivesExactly, StandsInOutput};
 ghost use Rattle.dk_session.specs.Complete.{HasDoneOutput, HasRoom, IsDoneOrNoMemory};
@@ -33,7 +33,7 @@ pub fn deosk_in_memory(
     ensures given { GivesExactly (Some (mem_files depot.old)) (map string_bytes words.now) result
         (mem_given depot.old) (mem_given depot.new) }
     // Where the files that are asked for are there, no read fails.
-    ensures held { (planned (map string_bytes words.now) (mem_files depot.old)).found ≢ Err Refusal.Depot
+    ensures held { (job_for_words (map string_bytes words.now) (mem_files depot.old)).found ≢ Err Refusal.Depot
         → mem_faults depot.new ≡ mem_faults depot.old }
     // Where the sink is empty and has more room than the output has bytes, no write fails.
     ensures room { HasRoom (map string_bytes words.now) (mem_files depot.old) sink.old

@@ -13,7 +13,7 @@ ghost use Rattle.dk_session.specs.Headline.{StandsInOutput, WasReceivedBoundedGr
 ghost use Rattle.dk_session.specs.Causes.{IsExactly, IsUsageOrFailed};
 ghost use Rattle.dk_session.specs.Complete.{HasDoneOutput, IsDoneOrNoMemory, Unfailing};
 
-use dk_command::{Refusal, Status, Work, perform, plan, usage};
+use dk_command::{Refusal, Status, Work, perform, usage, work_for};
 use dk_outside::{Depot, Sink, write_all_to};
 use std::alloc::Global;
 
@@ -115,7 +115,7 @@ pub fn deosk<D: Depot, S: Sink>(
     ensures strays { StraysNowhere (D.seen depot.old).files (map string_bytes words.now)
         (D.seen depot.old).strays (D.seen depot.new).strays }
 {
-    match plan(alloc, words, depot) {
+    match work_for(alloc, words, depot) {
         Ok(Some(work)) => put(work, sink),
         Ok(None) => write_line(usage(), Status::Usage, sink),
         Err(refusal) => say(alloc, sink, &refusal),

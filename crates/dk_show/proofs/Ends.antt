@@ -1,5 +1,5 @@
 -- Where a text stands with the status of what is done, no other status stands.
-use Rattle.dk_show.proofs.Names.{ℕ, ◌≡◌, ◌∙◌, ◌⊎◌, ◌<◌, inl, inr, List, length, reverse, sym, ap, subst, refl, arith, Bool, true, false, MatchBool, Option, Some, None, IfSome, Result, Ok, Err, MAX_CONFIG_BYTES, MAX_LEDGER_BYTES, Configuration, Verdict, verdict_of, LoadFault, reading, Journal, one_text, MAX_GROUPS, Telling, Range, RangeRequest, Request, Refusal, Status, IsAnswer, IsFaulty, refusal_status, IsOwnHeading, AreReactionsTold, ChainIn, IsChainTold, IsOfOther, IsOfReactions, chain_at, IsOf, certified_at, IsOfSource, is_source_name, IsOfProfile, MAX_PROFILE_BYTES, MAX_SOURCE_BYTES, IsSought, IsOfHolds, IsOfOwnHolds, IsOfWindows, windows_end, WindowsForm, IsBehind, IsDrawn, IsOfBytes, IsOfDocument, IsOfFaults, IsOfPicture, IsOfReading, IsOfRequest, IsPicture, IsToldOf, groups_asked, to_of}
+use Rattle.dk_show.proofs.Names.{ℕ, ◌≡◌, ◌∙◌, ◌⊎◌, ◌<◌, inl, inr, List, length, reverse, sym, ap, subst, refl, arith, Bool, true, false, MatchBool, Option, Some, None, IfSome, Result, Ok, Err, MAX_CONFIG_BYTES, MAX_LEDGER_BYTES, Configuration, Verdict, verdict_of, LoadFault, reading, Journal, one_text, MAX_GROUPS, Telling, Range, RangeRequest, Request, Refusal, Status, IsAnswer, IsFaulty, refusal_status, IsOwnHeading, AreReactionsTold, ChainIn, IsChainTold, IsOfOther, IsOfReactions, chain_at, IsOf, certified_at, IsOfSource, is_source_name, IsOfProfile, MAX_PROFILE_BYTES, MAX_SOURCE_BYTES, IsSought, IsOfHolds, IsOfOwnHolds, IsOfWindows, windows_end, WindowsForm, IsBehind, IsDrawn, IsOfBytes, IsOfDocument, IsOfFaults, IsOfPicture, IsOfOwnPicture, IsPictureUnder, Promised, nothing_promised, IsOfReading, IsOfRequest, IsPicture, IsToldOf, groups_asked, to_of}
 use Rattle.dk_certify.specs.declared.certifying.Verdict.TheVariants as verdict
 use Rattle.dk_loader.specs.declared.fault.LoadFault.TheVariants as fault
 use Rattle.dk_show_request.specs.declared.commands.Telling.TheVariants as telling
@@ -25,24 +25,36 @@ ledger_ends r bytes t u s (inr one) (inl wrong) = absurd (wrong.none one.ledger 
 ledger_ends r bytes t u s (inr one) (inr two) =
     drawn_ends r one.ledger two.ledger t u s (one_text one.ledger two.ledger one.readable two.readable (one.bytes_are ∙ sym two.bytes_are)) one.drawn two.drawn
 
-picture_ends : (range : Option Range) (j k : Journal) (t u : List ℕ) (s : Status) → j ≡ k → IsPicture range j t status.Done → IsPicture range k u s → s ≡ status.Done
-picture_ends range j k t u s same (inl d) (inl e) = e.done
-picture_ends range j k t u s same (inl d) (inr (inl b)) =
+picture_ends : (x y : Promised) (range : Option Range) (j k : Journal) (t u : List ℕ) (s : Status) → j ≡ k → IsPicture x range j t status.Done → IsPicture y range k u s → s ≡ status.Done
+picture_ends x y range j k t u s same (inl d) (inl e) = e.done
+picture_ends x y range j k t u s same (inl d) (inr (inl b)) =
     let within = d.within in
-    let behind = subst (λ (x : Journal). length x.entries < to_of range (length x.entries)) (sym same) b.behind in
+    let behind = subst (λ (l : Journal). length l.entries < to_of range (length l.entries)) (sym same) b.behind in
     absurd (omega (arith, within, behind))
-picture_ends range j k t u s same (inl d) (inr (inr b)) =
+picture_ends x y range j k t u s same (inl d) (inr (inr b)) =
     let few = d.few in
-    let more = subst (λ (x : Journal). MAX_GROUPS < length (groups_asked range x)) (sym same) b.many.more in
+    let more = subst (λ (l : Journal). MAX_GROUPS < length (groups_asked range l)) (sym same) b.many.more in
     absurd (omega (arith, few, more))
-picture_ends range j k t u s same (inr (inl b)) other = let bad = b.says.1 in cc
-picture_ends range j k t u s same (inr (inr b)) other = let bad = b.says.1 in cc
+picture_ends x y range j k t u s same (inr (inl b)) other = let bad = b.says.1 in cc
+picture_ends x y range j k t u s same (inr (inr b)) other = let bad = b.says.1 in cc
 
 pictures_ends : (range : Option Range) (bytes t u : List ℕ) (s : Status) → IsOfPicture range bytes t status.Done → IsOfPicture range bytes u s → s ≡ status.Done
 pictures_ends range bytes t u s (inl wrong) other = let bad = wrong.says.1 in cc
 pictures_ends range bytes t u s (inr one) (inl wrong) = absurd (wrong.none one.ledger one.readable one.bytes_are)
 pictures_ends range bytes t u s (inr one) (inr two) =
-    picture_ends range one.ledger two.ledger t u s (one_text one.ledger two.ledger one.readable two.readable (one.bytes_are ∙ sym two.bytes_are)) one.drawn two.drawn
+    picture_ends nothing_promised nothing_promised range one.ledger two.ledger t u s (one_text one.ledger two.ledger one.readable two.readable (one.bytes_are ∙ sym two.bytes_are)) one.drawn two.drawn
+
+own_picture_ends : (c : Configuration) (range : Option Range) (j k : Journal) (t u : List ℕ) (s : Status) → j ≡ k → IsPictureUnder c range j t status.Done
+    → IsPictureUnder c range k u s → s ≡ status.Done
+own_picture_ends c range j k t u s same (inl a) (inl b) = picture_ends a.promised b.promised range j k t u s same a.drawn b.drawn
+own_picture_ends c range j k t u s same (inl a) (inr b) = absurd (b.other (subst (λ (l : Journal). IsOwnHeading c l.heading) same a.own))
+own_picture_ends c range j k t u s same (inr a) other = let bad = a.says.1 in cc
+
+own_pictures_ends : (c : Configuration) (range : Option Range) (bytes t u : List ℕ) (s : Status) → IsOfOwnPicture c range bytes t status.Done → IsOfOwnPicture c range bytes u s → s ≡ status.Done
+own_pictures_ends c range bytes t u s (inl wrong) other = let bad = wrong.says.1 in cc
+own_pictures_ends c range bytes t u s (inr one) (inl wrong) = absurd (wrong.none one.ledger one.readable one.bytes_are)
+own_pictures_ends c range bytes t u s (inr one) (inr two) =
+    own_picture_ends c range one.ledger two.ledger t u s (one_text one.ledger two.ledger one.readable two.readable (one.bytes_are ∙ sym two.bytes_are)) one.drawn two.drawn
 
 windows_ends : (f : WindowsForm) (bytes t u : List ℕ) (s : Status) → IsOfWindows f bytes t status.Done → IsOfWindows f bytes u s → s ≡ status.Done
 windows_ends f bytes t u s (inl wrong) other = let bad = wrong.says.1 in cc
@@ -111,8 +123,12 @@ wrong_ends at file x y s false one two =
 pub request_ends : (r : Request) (at : Files) (x y : List ℕ) (s : Status) → (IsSought (Some r) → ⊥) → IsOfRequest r at x status.Done → IsOfRequest r at y s → s ≡ status.Done
 request_ends (request.Draw r) at x y s known one two =
     named_ends at r.ledger MAX_LEDGER_BYTES why.LongLedger (IsOfBytes r) x y s (λ bad. cc) (λ bytes a b. ledger_ends r bytes x y s a b) one two
-request_ends (request.Picture ledger range) at x y s known one two =
+request_ends (request.Picture ledger None range) at x y s known one two =
     named_ends at ledger MAX_LEDGER_BYTES why.LongLedger (IsOfPicture range) x y s (λ bad. cc) (λ bytes a b. pictures_ends range bytes x y s a b) one two
+request_ends (request.Picture ledger (Some file) range) at x y s known one two =
+    of_ends (certified_at (at file)) (λ c. IsOfNamed at ledger MAX_LEDGER_BYTES why.LongLedger (IsOfOwnPicture c range)) x y s
+    (λ c. named_ends at ledger MAX_LEDGER_BYTES why.LongLedger (IsOfOwnPicture c range) x y s (λ bad. cc) (λ bytes a b. own_pictures_ends c range bytes x y s a b))
+    one two
 request_ends (request.Windows ledger f) at x y s known one two =
     named_ends at ledger MAX_LEDGER_BYTES why.LongLedger (IsOfWindows f) x y s (λ bad. cc) (λ bytes a b. windows_ends f bytes x y s a b) one two
 request_ends (request.Holds ledger None) at x y s known one two =

@@ -26,7 +26,8 @@ pub use Rattle.dk_loader.specs.declared.loaded.Loaded.{Loaded}
 pub use Rattle.dk_needs_check.specs.declared.unknown.Checking.{Checking}
 pub use Rattle.dk_outside.specs.Files.{CountsStray, IsReading}
 pub use Rattle.dk_outside.specs.Views.{DepotView, SinkView}
-pub use Rattle.dk_picture.specs.Pictures.{IsTooMany, svg_text}
+pub use Rattle.dk_picture.specs.Pictures.{IsTooMany, promised_svg}
+pub use Rattle.dk_picture.specs.Promises.{IsPromised, Promised, nothing_promised}
 pub use Rattle.dk_picture.specs.declared.reading.TheConstants.{MAX_GROUPS}
 pub use Rattle.dk_profile.specs.declared.TheConstants.{MAX_PROFILE_BYTES}
 pub use Rattle.dk_show.specs.Answers.{Files, IsAnswer, IsFaulty, IsOfNamed, is_silent, refusal_status, refusal_text}
@@ -37,7 +38,8 @@ pub use Rattle.dk_show.specs.Impacts.{EndsBy, IsOfChange, IsOfImpact, impact_end
 pub use Rattle.dk_show.specs.Leaves.{Leaves}
 pub use Rattle.dk_show.specs.Loading.{IsOf, IsOfLoaded, Loads, certified_at, loaded, programs_of}
 pub use Rattle.dk_show.specs.Needed.{AreRowsTold, AreUnknownTold, AskedIn, IsFound, IsOfAll, IsOfCheck, IsOfNeeds, IsTold, ReadyIn, asked_at, asked_by, asked_of, asks_programs, ready_at, ready_by, ready_of, running}
-pub use Rattle.dk_show.specs.Output.{IsAllWrong, IsBehind, IsCrowded, IsDrawn, IsOfBytes, IsOfDocument, IsOfFaults, IsOfMeaning, IsOfPicture, IsOfReading, IsOfRequest, IsPastEnd, IsPicture, IsPictured, IsToldOf, Says, drawn_text, from_of, groups_asked, to_of}
+pub use Rattle.dk_show.specs.Output.{IsAllWrong, IsBehind, IsDrawn, IsOfBytes, IsOfDocument, IsOfFaults, IsOfMeaning, IsOfReading, IsOfRequest, IsToldOf, Says, drawn_text}
+pub use Rattle.dk_show.specs.Pictured.{IsCrowded, IsOfOwnPicture, IsOfPicture, IsOfShown, IsOwnPicture, IsPastEnd, IsPicture, IsPictureUnder, IsPictured, from_of, groups_asked, to_of}
 pub use Rattle.dk_show.specs.Repeats.{IsOfRepeats}
 pub use Rattle.dk_show.specs.Replays.{IsOfProfile}
 pub use Rattle.dk_show.specs.Sources.{IsOfSource, is_source_name}

@@ -1,9 +1,9 @@
 -- What is shown of a ledger in the range that is asked for.
-use Rattle.dk_show.proofs.Names.{ℕ, ◌≡◌, ◌∙◌, ◌<◌, ◌≤◌, List, length, sym, ap, subst, refl, Option, LedgerLine, Journal, groups, MAX_GROUPS, IsTooMany, svg_text, Range, refusal_text, IsCrowded, IsPastEnd, IsPictured, from_of, groups_asked, to_of}
+use Rattle.dk_show.proofs.Names.{ℕ, ◌≡◌, ◌∙◌, ◌<◌, ◌≤◌, List, length, sym, ap, subst, refl, Option, LedgerLine, Journal, groups, MAX_GROUPS, IsTooMany, Promised, promised_svg, Range, refusal_text, IsCrowded, IsPastEnd, IsPictured, from_of, groups_asked, to_of}
 use Rattle.dk_show.specs.declared.refusal.Refusal.TheVariants as why
 use Rattle.dk_show.specs.declared.status.Status.TheVariants as status
 
-module _ (range : Option Range) (j : Journal) (from to ticks : ℕ) (count : length j.entries ≡ ticks) (is_from : from ≡ from_of range) (is_to : to ≡ to_of range ticks) where
+module _ (x : Promised) (range : Option Range) (j : Journal) (from to ticks : ℕ) (count : length j.entries ≡ ticks) (is_from : from ≡ from_of range) (is_to : to ≡ to_of range ticks) where
   all : to ≡ to_of range (length j.entries)
   all = is_to ∙ ap (to_of range) (sym count)
 
@@ -13,11 +13,11 @@ module _ (range : Option Range) (j : Journal) (from to ticks : ℕ) (count : len
   ends_within : to ≤ ticks → to_of range (length j.entries) ≤ length j.entries
   ends_within within = subst (λ n. n ≤ length j.entries) all (subst (λ n. to ≤ n) (sym count) within)
 
-  pub pictured : (text : List ℕ) → to ≤ ticks → text ≡ svg_text from to j.heading j.entries → length (groups from to j.entries) ≤ MAX_GROUPS → IsPictured range j text status.Done
+  pub pictured : (text : List ℕ) → to ≤ ticks → text ≡ promised_svg x from to j.heading j.entries → length (groups from to j.entries) ≤ MAX_GROUPS → IsPictured x range j text status.Done
   pictured text within drawn few = record {
     within = ends_within within;
     few = subst (λ (gs : List LedgerLine). length gs ≤ MAX_GROUPS) same_groups few;
-    drawn = drawn ∙ ap (λ n. svg_text n to j.heading j.entries) is_from ∙ ap (λ n. svg_text (from_of range) n j.heading j.entries) all;
+    drawn = drawn ∙ ap (λ n. promised_svg x n to j.heading j.entries) is_from ∙ ap (λ n. promised_svg x (from_of range) n j.heading j.entries) all;
     done = refl;
   }
 

@@ -59,7 +59,7 @@ handed_ledger at (Some ledger) = handed_out MAX_LEDGER_BYTES (at ledger)
 -- how many bytes the reads of a command hand out
 abbrev pub handed_for : Request → Files → ℕ
 handed_for (request.Draw r) at = handed_out MAX_LEDGER_BYTES (at r.ledger)
-handed_for (request.Picture ledger range) at = handed_out MAX_LEDGER_BYTES (at ledger)
+handed_for (request.Picture ledger file range) at = handed_held file at ledger
 handed_for (request.Windows ledger form) at = handed_out MAX_LEDGER_BYTES (at ledger)
 handed_for (request.Holds ledger file) at = handed_held file at ledger
 handed_for (request.Faults file) at = handed_out (most_of file) (at file)
@@ -95,7 +95,7 @@ MissesLedger at (Some ledger) = at ledger ≡ None
 -- a file that the command asks for isn't there
 abbrev pub Misses : Request → Files → Type 0
 Misses (request.Draw r) at = at r.ledger ≡ None
-Misses (request.Picture ledger range) at = at ledger ≡ None
+Misses (request.Picture ledger file range) at = MissesHeld file at ledger
 Misses (request.Windows ledger form) at = at ledger ≡ None
 Misses (request.Holds ledger file) at = MissesHeld file at ledger
 Misses (request.Faults file) at = at file ≡ None

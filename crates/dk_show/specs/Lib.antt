@@ -12,3 +12,4 @@ pub mod Needed
 pub mod Asking
 pub mod Windowed
 pub mod Held
+pub mod Pictured

@@ -14,11 +14,7 @@ use Rattle.dk_warning_report.specs.WarningLines.{warnings_of}
 use Rattle.dk_loader.specs.declared.fault.LoadFault.{LoadFault}
 use Rattle.dk_loader.specs.declared.fault.LoadFault.TheVariants as fault
 use Rattle.dk_loader.specs.Reading.{reading}
-use Rattle.dk_ledger.specs.declared.line.LedgerLine.{LedgerLine}
 use Rattle.dk_ledger.specs.Readable.{Journal, IsReadable, text_of}
-use Rattle.dk_groups.specs.Groups.{groups}
-use Rattle.dk_picture.specs.declared.reading.TheConstants.{MAX_GROUPS}
-use Rattle.dk_picture.specs.Pictures.{IsTooMany, svg_text}
 use Rattle.dk_csv.specs.Rows.{csv_text}
 use Rattle.dk_trace_events.specs.Traces.{trace_text}
 use Rattle.dk_vcd.specs.Dumps.{vcd_text}
@@ -26,7 +22,6 @@ use Rattle.dk_show_request.specs.declared.commands.Drawing.{Drawing}
 use Rattle.dk_show_request.specs.declared.commands.Drawing.TheVariants as drawing
 use Rattle.dk_show_request.specs.declared.commands.Telling.{Telling}
 use Rattle.dk_show_request.specs.declared.commands.Telling.TheVariants as telling
-use Rattle.dk_show_request.specs.declared.request.Range.{Range}
 use Rattle.dk_show_request.specs.declared.request.RangeRequest.{RangeRequest}
 use Rattle.dk_show_request.specs.declared.request.Request.{Request}
 use Rattle.dk_show_request.specs.declared.request.Request.TheVariants as request
@@ -39,6 +34,8 @@ use Rattle.dk_show.specs.Chains.{IsChainTold, IsOfReactions, chain_at}
 use Rattle.dk_show.specs.Held.{IsOfHeld}
 use Rattle.dk_show.specs.Impacts.{IsOfImpact}
 use Rattle.dk_show.specs.Loading.{IsOf, IsOfLoaded, certified_at}
+use Rattle.dk_show.specs.Pictured.{IsOfShown}
+pub use Rattle.dk_show.specs.Pictured.{from_of, to_of}
 use Rattle.dk_show.specs.Needed.{IsOfCheck, ready_at}
 use Rattle.dk_show_request.specs.Meaning.{meaning}
 use Rattle.dk_show_request.specs.Reasons.{wrong_text}
@@ -55,15 +52,6 @@ abbrev pub drawn_text : Drawing → ℕ → ℕ → Journal → List ℕ
 drawn_text drawing.Trace from to j = trace_text from to j.heading j.entries
 drawn_text drawing.Vcd from to j = vcd_text from to j.heading j.entries
 drawn_text drawing.Csv from to j = csv_text from to j.heading j.entries
-
--- the range asked for, and without one all ticks
-abbrev pub from_of : Option Range → ℕ
-from_of None = 0
-from_of (Some range) = range.from
-
-abbrev pub to_of : Option Range → ℕ → ℕ
-to_of None n = n
-to_of (Some range) n = range.to
 
 -- the range ends within the ledger, and this is its text
 pub record IsDrawn (r : RangeRequest) (j : Journal) (text : List ℕ) (ended : Status) : Type 0 where
@@ -86,44 +74,6 @@ pub record IsOfLedger (r : RangeRequest) (bytes : List ℕ) (text : List ℕ) (e
 -- what the bytes of a ledger come to
 abbrev pub IsOfBytes : RangeRequest → List ℕ → List ℕ → Status → Type 0
 IsOfBytes r bytes text ended = IsWrong bytes text ended ⊎ IsOfLedger r bytes text ended
-
--- the groups of the range that is asked for
-abbrev pub groups_asked : Option Range → Journal → List LedgerLine
-groups_asked range j = groups (from_of range) (to_of range (length j.entries)) j.entries
-
--- The range ends within the ledger and has few groups, and this is its picture.
-pub record IsPictured (range : Option Range) (j : Journal) (text : List ℕ) (ended : Status) : Type 0 where
-  pub within : to_of range (length j.entries) ≤ length j.entries
-  pub few : length (groups_asked range j) ≤ MAX_GROUPS
-  pub drawn : text ≡ svg_text (from_of range) (to_of range (length j.entries)) j.heading j.entries
-  pub done : ended ≡ status.Done
-
--- the range ends behind the ledger
-pub record IsPastEnd (range : Option Range) (j : Journal) (text : List ℕ) (ended : Status) : Type 0 where
-  pub behind : length j.entries < to_of range (length j.entries)
-  pub says : Says (why.RangeEnds (length j.entries)) text ended
-
--- the range ends within the ledger and has too many groups
-pub record IsCrowded (range : Option Range) (j : Journal) (text : List ℕ) (ended : Status) : Type 0 where
-  pub within : to_of range (length j.entries) ≤ length j.entries
-  pub tick : ℕ
-  pub many : IsTooMany (groups_asked range j) tick
-  pub says : Says (why.TooManyGroups tick) text ended
-
-abbrev pub IsPicture : Option Range → Journal → List ℕ → Status → Type 0
-IsPicture range j text ended =
-    IsPictured range j text ended ⊎ (IsPastEnd range j text ended ⊎ IsCrowded range j text ended)
-
--- the ledger in these bytes, and its picture
-pub record IsPictureOf (range : Option Range) (bytes : List ℕ) (text : List ℕ) (ended : Status) : Type 0 where
-  pub ledger : Journal
-  pub readable : IsReadable ledger
-  pub bytes_are : text_of ledger ≡ bytes
-  pub drawn : IsPicture range ledger text ended
-
--- what the bytes of a ledger come to
-abbrev pub IsOfPicture : Option Range → List ℕ → List ℕ → Status → Type 0
-IsOfPicture range bytes text ended = IsWrong bytes text ended ⊎ IsPictureOf range bytes text ended
 
 -- the status tells whether the configuration is certified
 abbrev pub certified_end : Verdict → Status
@@ -174,8 +124,7 @@ IsAllWrong at file text ended = MatchBool (is_source_name file)
 abbrev pub IsOfRequest : Request → Files → List ℕ → Status → Type 0
 IsOfRequest (request.Draw r) at text ended =
     IsOfNamed at r.ledger MAX_LEDGER_BYTES why.LongLedger (IsOfBytes r) text ended
-IsOfRequest (request.Picture ledger range) at text ended =
-    IsOfNamed at ledger MAX_LEDGER_BYTES why.LongLedger (IsOfPicture range) text ended
+IsOfRequest (request.Picture ledger file range) at text ended = IsOfShown file at range ledger text ended
 IsOfRequest (request.Windows ledger form) at text ended =
     IsOfNamed at ledger MAX_LEDGER_BYTES why.LongLedger (IsOfWindows form) text ended
 IsOfRequest (request.Holds ledger file) at text ended = IsOfHeld file at ledger text ended

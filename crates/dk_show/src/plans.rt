@@ -110,7 +110,11 @@ pub(crate) fn plan<D: Depot>(
 {
     match request {
         Request::Draw(request) => drawing_plan(alloc, request, depot),
-        Request::Picture { ledger, range } => picture_plan(alloc, ledger.as_str(), *range, depot),
+        Request::Picture {
+            ledger,
+            file,
+            range,
+        } => picture_plan(alloc, ledger.as_str(), file, *range, depot),
         Request::Windows { ledger, form } => windows_plan(alloc, ledger.as_str(), *form, depot),
         Request::Holds { ledger, file } => holds_plan(alloc, ledger.as_str(), file, depot),
         Request::Faults(file) => faults_plan(alloc, file.as_str(), depot),

@@ -3,6 +3,8 @@ use Rattle.std.specs.Prelude.{ℕ, ◌≡◌, ◌≢◌, ◌+◌, ◌≤◌, ◌
 use Rattle.dk_outside.specs.Counts.{Rises}
 use Rattle.dk_outside.specs.Views.{DepotView, SinkView}
 use Rattle.dk_outside.specs.Written.{Appends}
+use Rattle.dk_edge.specs.declared.running.EdgeFault.{EdgeFault}
+use Rattle.dk_edge.specs.declared.running.EdgeFault.TheVariants.{NoMemory, Output}
 use Rattle.dk_show.specs.Answers.{IsAnswer, IsFault, IsFaulty}
 use Rattle.dk_show.specs.Asking.{WordsMiss, handed_for_words}
 use Rattle.dk_show.specs.Leaves.{Cuts}
@@ -36,3 +38,8 @@ pub record Ends (words : List (List ℕ)) (depot_old depot_new : DepotView) (sin
       → depot_new.given ≡ depot_old.given + handed_for_words (meaning words) at)
   pub strays : IfSome depot_old.files (λ at. ¬ WordsMiss (meaning words) at → depot_new.strays ≡ depot_old.strays)
   pub same : depot_new.files ≡ depot_old.files
+
+-- the status for what ends the program at the edge
+abbrev pub status_of : EdgeFault → Status
+status_of NoMemory = status.NoMemory
+status_of Output = status.SinkFault

@@ -18,10 +18,10 @@ drawing_few d None range = tt
 drawing_few d (Some ledger) None = tt
 drawing_few d (Some ledger) (Some range) = tt
 
-picture_few : (ledger : Word) (range : Option (Option Range)) → Few (picture_by ledger range)
-picture_few None range = tt
-picture_few (Some ledger) None = tt
-picture_few (Some ledger) (Some range) = tt
+picture_few : (file ledger : Word) (range : Option (Option Range)) → Few (picture_by file ledger range)
+picture_few file None range = tt
+picture_few file (Some ledger) None = tt
+picture_few file (Some ledger) (Some range) = tt
 
 windows_few : (form : WindowsForm) (ledger : Word) → Few (windows_by form ledger)
 windows_few form None = tt
@@ -83,7 +83,7 @@ replay_few (Some profile) (Some name) (Some file) = tt
 
 asked_few : (c : Command) (rows : List Row) → Few (asked c rows)
 asked_few (command.Draw d) rows = drawing_few d (first_of (codes "LEDGER") rows) (range_in rows)
-asked_few command.Picture rows = picture_few (first_of (codes "LEDGER") rows) (range_in rows)
+asked_few command.Picture rows = picture_few (first_of (codes "config") rows) (first_of (codes "LEDGER") rows) (range_in rows)
 asked_few command.Windows rows = windows_few (windows_form_in rows) (first_of (codes "LEDGER") rows)
 asked_few command.Holds rows = holds_few (first_of (codes "LEDGER") rows) (first_of (codes "FILE") rows)
 asked_few command.Faults rows = faults_few (first_of (codes "FILE") rows)

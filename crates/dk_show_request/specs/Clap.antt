@@ -37,6 +37,10 @@ rule_for (kind.Value name) = option name.now
 abbrev pub range_rules : List Rule
 range_rules = argument (codes "LEDGER") true ∷ argument (codes "FROM") false ∷ argument (codes "TO") false ∷ []
 
+abbrev pub picture_rules : List Rule
+picture_rules = argument (codes "LEDGER") true ∷ argument (codes "FROM") false ∷ argument (codes "TO") false
+    ∷ option (codes "config") ∷ []
+
 abbrev pub windows_rules : List Rule
 windows_rules = argument (codes "LEDGER") true ∷ flag (codes "strict") ∷ flag (codes "sparing") ∷ flag (codes "all")
     ∷ flag (codes "csv") ∷ []
@@ -68,7 +72,7 @@ abbrev pub replay_rules : List Rule
 replay_rules = argument (codes "PROFILE") true ∷ argument (codes "NAME") true ∷ argument (codes "FILE") true ∷ []
 
 abbrev pub rules_for : Command → List Rule
-rules_for command.Picture = range_rules
+rules_for command.Picture = picture_rules
 rules_for (command.Draw d) = range_rules
 rules_for command.Windows = windows_rules
 rules_for command.Holds = holds_rules

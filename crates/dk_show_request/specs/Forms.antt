@@ -25,6 +25,9 @@ plain needed optional ticks =
 abbrev pub range_form : Form
 range_form = plain (codes "LEDGER" ∷ []) (codes "FROM" ∷ codes "TO" ∷ []) true
 
+abbrev pub picture_form : Form
+picture_form = record range_form { marks = codes "--config" ∷ []; value = Some (codes "FILE") }
+
 abbrev pub windows_form : Form
 windows_form = record (plain (codes "LEDGER" ∷ []) [] false) {
   marks = codes "--strict" ∷ codes "--sparing" ∷ codes "--all" ∷ codes "--csv" ∷ [];
@@ -61,7 +64,7 @@ abbrev pub replay_form : Form
 replay_form = plain (codes "PROFILE" ∷ codes "NAME" ∷ codes "FILE" ∷ []) [] false
 
 abbrev pub form_of : Command → Form
-form_of command.Picture = range_form
+form_of command.Picture = picture_form
 form_of (command.Draw d) = range_form
 form_of command.Windows = windows_form
 form_of command.Holds = holds_form

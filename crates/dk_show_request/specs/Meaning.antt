@@ -37,9 +37,10 @@ abbrev pub drawing_by : Drawing → Option (List ℕ) → Option (Option Range) 
 drawing_by d (Some ledger) (Some range) = Some (request.Draw (record { drawing = d; ledger = ledger; range = range }))
 drawing_by d _ _ = None
 
-abbrev pub picture_by : Option (List ℕ) → Option (Option Range) → Option Request
-picture_by (Some ledger) (Some range) = Some (request.Picture ledger range)
-picture_by _ _ = None
+-- beside a configuration, where one is named
+abbrev pub picture_by : Option (List ℕ) → Option (List ℕ) → Option (Option Range) → Option Request
+picture_by file (Some ledger) (Some range) = Some (request.Picture ledger file range)
+picture_by file _ _ = None
 
 abbrev pub windows_form_in : List Row → WindowsForm
 windows_form_in rows =
@@ -112,7 +113,8 @@ replay_by _ _ _ = None
 -- what a command is asked by the words of its arguments
 abbrev pub asked : Command → List Row → Option Request
 asked (command.Draw d) rows = drawing_by d (first_of (codes "LEDGER") rows) (range_in rows)
-asked command.Picture rows = picture_by (first_of (codes "LEDGER") rows) (range_in rows)
+asked command.Picture rows =
+    picture_by (first_of (codes "config") rows) (first_of (codes "LEDGER") rows) (range_in rows)
 asked command.Windows rows = windows_by (windows_form_in rows) (first_of (codes "LEDGER") rows)
 asked command.Holds rows = holds_by (first_of (codes "LEDGER") rows) (first_of (codes "FILE") rows)
 asked command.Faults rows = faults_by (first_of (codes "FILE") rows)

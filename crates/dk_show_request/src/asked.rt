@@ -92,14 +92,17 @@ fn drawing_by(
 
 fn picture_by(
     alloc: Global,
+    file: Option<&str>,
     ledger: Option<&str>,
     range: Option<Option<Range>>,
 ) -> Result<Option<Request>, NoMemory>
-    ensures { IfOk result (λ r. r ≡ picture_by (option_map (λ w. w.now) ledger.entry) range) }
+    ensures { IfOk result (λ r. r ≡ picture_by (option_map (λ w. w.now) file.entry)
+        (option_map (λ w. w.now) ledger.entry) range) }
 {
     match (ledger, range) {
         (Some(ledger), Some(range)) => Ok(Some(Request::Picture {
             ledger: copy_of(alloc, ledger)?,
+            file: copy_if(alloc, file)?,
             range,
         })),
         _ => Ok(None),
@@ -348,7 +351,12 @@ pub fn asked(alloc: Global, command: Command, given: &Given) -> Result<Option<Re
         Command::Draw(drawing) => {
             drawing_by(alloc, drawing, given.word("LEDGER"), range_in(given))
         }
-        Command::Picture => picture_by(alloc, given.word("LEDGER"), range_in(given)),
+        Command::Picture => picture_by(
+            alloc,
+            given.word("config"),
+            given.word("LEDGER"),
+            range_in(given),
+        ),
         Command::Windows => windows_by(alloc, windows_form_in(given), given.word("LEDGER")),
         Command::Holds => holds_by(alloc, given.word("LEDGER"), given.word("FILE")),
         Command::Faults => faults_by(alloc, given.word("FILE")),

@@ -20,6 +20,13 @@ enum Argument {
     Value(&'static str),
 }
 
+const PICTURE: &[Argument] = &[
+    Argument::One("LEDGER", true),
+    Argument::One("FROM", false),
+    Argument::One("TO", false),
+    Argument::Value("config"),
+];
+
 const RANGE: &[Argument] = &[
     Argument::One("LEDGER", true),
     Argument::One("FROM", false),
@@ -74,7 +81,8 @@ fn arguments_of(command: Command) -> &'static [Argument]
     ensures { map rule_for result.now ≡ rules_for command }
 {
     match command {
-        Command::Picture | Command::Draw(_) => RANGE,
+        Command::Picture => PICTURE,
+        Command::Draw(_) => RANGE,
         Command::Windows => WINDOWS,
         Command::Holds => HOLDS,
         Command::Faults => FILE,

@@ -1,6 +1,6 @@
 //! What may stand behind each command word.
 ghost use Rattle.std.specs.Prelude.{◌≡◌, map};
-ghost use Rattle.dk_show_request.specs.Forms.{change_form, chain_form, check_form, form_of, plain, telling_form, windows_form};
+ghost use Rattle.dk_show_request.specs.Forms.{change_form, chain_form, check_form, form_of, picture_form, plain, telling_form, windows_form};
 
 use crate::commands::Command;
 use std::marker::Model;
@@ -66,6 +66,8 @@ const WINDOWS_MARKS: &[&str] = &["--strict", "--sparing", "--all", "--csv"];
 
 const CHAIN_MARKS: &[&str] = &["--ledger"];
 
+const PICTURE_MARKS: &[&str] = &["--config"];
+
 const CHECK_MARKS: &[&str] = &["--csv", "--junit"];
 
 /// A form of these arguments alone.
@@ -79,6 +81,19 @@ fn plain(needed: &'static [&'static str], optional: &'static [&'static str], tic
         marks: NO_MARKS,
         value: None,
         ticks,
+    }
+}
+
+fn picture_form() -> Form
+    ensures { result ≡ picture_form }
+{
+    Form {
+        needed: LEDGER,
+        optional: FROM_TO,
+        repeats: None,
+        marks: PICTURE_MARKS,
+        value: Some("FILE"),
+        ticks: true,
     }
 }
 
@@ -152,7 +167,8 @@ pub fn form_of(command: Command) -> Form
     ensures { result ≡ form_of command }
 {
     match command {
-        Command::Picture | Command::Draw(_) => plain(LEDGER, FROM_TO, true),
+        Command::Picture => picture_form(),
+        Command::Draw(_) => plain(LEDGER, FROM_TO, true),
         Command::Windows => windows_form(),
         Command::Holds => plain(LEDGER, FILE, false),
         Command::Faults => plain(FILE, NONE, false),

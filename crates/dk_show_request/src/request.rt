@@ -114,12 +114,23 @@ pub struct ReplayRequest {
 pub enum Request {
     /// A drawing of a ledger.
     Draw(RangeRequest),
-    /// A picture of the ledger in the file of this name, without a range of all of its ticks.
-    Picture { ledger: Text, range: Option<Range> },
+    /// A picture of the ledger in the file of this name, perhaps with what a configuration promises; without a range of all of
+    /// its ticks.
+    Picture {
+        ledger: Text,
+        file: Option<Text>,
+        range: Option<Range>,
+    },
     /// What each thread of the ledger in the file of this name did in its windows.
-    Windows { ledger: Text, form: WindowsForm },
+    Windows {
+        ledger: Text,
+        form: WindowsForm,
+    },
     /// How long each mutex was held in the ledger in the file of this name, perhaps beside a configuration.
-    Holds { ledger: Text, file: Option<Text> },
+    Holds {
+        ledger: Text,
+        file: Option<Text>,
+    },
     /// All that is wrong with the document in the file of this name.
     Faults(Text),
     /// What is told of a configuration.
@@ -127,11 +138,17 @@ pub enum Request {
     /// How long after an event a chain of processes has answered it.
     Chain(ChainRequest),
     /// How long the ledger in the file of this name has a chain take, beside that.
-    Reactions { chain: ChainRequest, ledger: Text },
+    Reactions {
+        chain: ChainRequest,
+        ledger: Text,
+    },
     /// What a change of the configuration does to each process.
     Impact(ChangeRequest),
     /// What repeats for ever in the run of the configuration in the file of this name, as is found in so many ticks.
-    Repeats { file: Text, ticks: u32 },
+    Repeats {
+        file: Text,
+        ticks: u32,
+    },
     /// Which needs a configuration meets.
     Check(CheckRequest),
     /// The source of a program that takes the times of a profile.

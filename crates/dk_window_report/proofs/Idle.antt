@@ -6,7 +6,7 @@ use Rattle.std.proofs.Math.Nat.{mod-zero, mod-lt}
 use Rattle.std.proofs.lemmas.Bool.{cases_lt, ne_eqb, eq-eqb, lt-ltb, le-ltb}
 use Rattle.dk_trace.specs.declared.ThreadId.{ThreadId}
 use Rattle.dk_trace.specs.declared.Entry.{Entry}
-use Rattle.dk_trace.specs.Entries.{is_of, has_event, is_wait, stops}
+use Rattle.dk_trace.specs.Entries.{is_of, is_budget_of, has_event, does, is_wait, stops}
 use Rattle.dk_trace.proofs.Whose.{budget-not}
 use Rattle.dk_trace.proofs.Windows.{mod-next}
 use Rattle.dk_window_report.specs.declared.row.Did.{Did}
@@ -18,13 +18,18 @@ use Rattle.dk_window_report.proofs.Steps.{did-equal, counts-equal, row-equal, di
 
 -- ---- an entry that doesn't touch the thread
 
--- the entry isn't the thread's, and doesn't stop it
+-- the thread doesn't pay for the entry, nor wait in it, and isn't stopped
 pub record IsOther (x : ThreadId) (e : Entry) : Type 0 where
-  pub own : is_of x e ≡ false
+  pub paid : is_budget_of x e ≡ false
+  pub wait : does is_wait x e ≡ false
   pub stop : stops x e ≡ false
 
+-- where it isn't the thread's
+pub not-own : (x : ThreadId) (e : Entry) → is_of x e ≡ false → stops x e ≡ false → IsOther x e
+not-own x e own stop = record { paid = budget-not x e own; wait = ap (λ b. b && has_event is_wait e) own; stop = stop }
+
 pub nobody-other : (x : ThreadId) → IsOther x nobody
-nobody-other x = record { own = refl; stop = and-false (not (x.serial == 0)) }
+nobody-other x = record { paid = refl; wait = refl; stop = and-false (not (x.serial == 0)) }
 
 -- the row where nothing is added to what the thread did
 abbrev passed_one : ℕ → Row → Row
@@ -32,11 +37,10 @@ passed_one now r = if nat_lt now r.since then r else filled ((now - r.since) % r
 
 same-did : (gone : Bool) (x : ThreadId) (e : Entry) (k : ℕ) (d : Did) → IsOther x e → did_with gone x e k d ≡ d
 same-did gone x e k d other =
-    let paid = budget-not x e other.own in
     did-equal (did_with gone x e k d) d
-    (ap (λ b. raised_if b d.used) paid)
-    (ap (λ b. if b then raised k else d.done) paid)
-    (ap (λ b. (b && has_event is_wait e) || d.waited) other.own)
+    (ap (λ b. raised_if b d.used) other.paid)
+    (ap (λ b. if b then raised k else d.done) other.paid)
+    (ap (λ b. b || d.waited) other.wait)
     (ap (λ b. (not gone && b) || d.stopped) other.stop ∙ ap (λ b. b || d.stopped) (and-false (not gone)))
 
 pub other-is : (now : ℕ) (e : Entry) (r : Row) → IsOther r.thread e → stepped now e r ≡ passed_one now r

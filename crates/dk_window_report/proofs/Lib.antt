@@ -5,6 +5,7 @@ pub mod Lines
 pub mod Idle
 pub mod Found
 pub mod Stepping
+pub mod QuietTicks
 pub mod Tables
 pub mod Texts
 pub mod Reading

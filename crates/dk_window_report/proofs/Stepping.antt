@@ -16,12 +16,12 @@ use Rattle.dk_window_report.specs.declared.touched.Touched.{Touched}
 use Rattle.dk_window_report.specs.Rows.{did_with, ended, filled, stepped}
 use Rattle.dk_window_report.specs.Late.{nobody, passed, row_at, rows_at, late_with, AreUpTo}
 use Rattle.dk_window_report.specs.Touched.{touched_in, touched_by, place_of, changed, changed_at, changed_by, AreFound}
-use Rattle.dk_window_report.proofs.Idle.{IsOther, as-nobody}
+use Rattle.dk_window_report.proofs.Idle.{IsOther, as-nobody, not-own}
 
 -- ---- whose row an entry leaves
 
 -- nothing stops it
-not-stopped : (x : ThreadId) (e : Entry) → does is_end x e ≡ false → does is_end (main_of x) e ≡ false
+pub not-stopped : (x : ThreadId) (e : Entry) → does is_end x e ≡ false → does is_end (main_of x) e ≡ false
     → (not (x.serial == 0) && does (is_delete_of x.serial) (main_of x) e) ≡ false → stops x e ≡ false
 not-stopped x e own main delete =
     ap (λ b. b || does is_end (main_of x) e || (not (x.serial == 0) && does (is_delete_of x.serial) (main_of x) e)) own
@@ -37,25 +37,22 @@ other-of x y e whose differ end delete =
       | inl mine ↦ absurd (differ (let same : Some x ≡ Some y = sym (of-thread x e mine) ∙ whose in cc))
       | inr other ↦ other
     ] in
-    record {
-      own = own;
-      stop =
-          elim (cases_Bool (is_of (main_of x) e)) [
-            | inl main ↦
-                let is : y ≡ main_of x = (let same : Some y ≡ Some (main_of x) = sym whose ∙ of-thread (main_of x) e main in cc) in
-                not-stopped x e (ap (λ b. b && has_event is_end e) own)
-                (ap (λ b. is_of (main_of x) e && b) (end is) ∙ and-false (is_of (main_of x) e))
-                (elim (cases_Bool (x.serial == 0)) [
-                  | inl first ↦ ap (λ b. not b && (is_of (main_of x) e && has_event (is_delete_of x.serial) e)) first
-                  | inr child ↦
-                      ap (λ b. not (x.serial == 0) && (is_of (main_of x) e && b)) (delete is child)
-                      ∙ ap (λ b. not (x.serial == 0) && b) (and-false (is_of (main_of x) e)) ∙ and-false (not (x.serial == 0))
-                ])
-            | inr other_main ↦
-                not-stopped x e (ap (λ b. b && has_event is_end e) own) (ap (λ b. b && has_event is_end e) other_main)
-                (ap (λ b. not (x.serial == 0) && (b && has_event (is_delete_of x.serial) e)) other_main ∙ and-false (not (x.serial == 0)))
-          ];
-    }
+    not-own x e own
+    (elim (cases_Bool (is_of (main_of x) e)) [
+      | inl main ↦
+          let is : y ≡ main_of x = (let same : Some y ≡ Some (main_of x) = sym whose ∙ of-thread (main_of x) e main in cc) in
+          not-stopped x e (ap (λ b. b && has_event is_end e) own)
+          (ap (λ b. is_of (main_of x) e && b) (end is) ∙ and-false (is_of (main_of x) e))
+          (elim (cases_Bool (x.serial == 0)) [
+            | inl first ↦ ap (λ b. not b && (is_of (main_of x) e && has_event (is_delete_of x.serial) e)) first
+            | inr child ↦
+                ap (λ b. not (x.serial == 0) && (is_of (main_of x) e && b)) (delete is child)
+                ∙ ap (λ b. not (x.serial == 0) && b) (and-false (is_of (main_of x) e)) ∙ and-false (not (x.serial == 0))
+          ])
+      | inr other_main ↦
+          not-stopped x e (ap (λ b. b && has_event is_end e) own) (ap (λ b. b && has_event is_end e) other_main)
+          (ap (λ b. not (x.serial == 0) && (b && has_event (is_delete_of x.serial) e)) other_main ∙ and-false (not (x.serial == 0)))
+    ])
 
 of-none : (x : ThreadId) (e : Entry) → thread_of e.label ≡ None → IsOther x e
 of-none x e none =
@@ -64,11 +61,9 @@ of-none x e none =
       | inl mine ↦ absurd (let both : Some y ≡ None = sym (of-thread y e mine) ∙ none in cc)
       | inr other ↦ other
     ] in
-    record {
-      own = no x;
-      stop = not-stopped x e (ap (λ b. b && has_event is_end e) (no x)) (ap (λ b. b && has_event is_end e) (no (main_of x)))
-          (ap (λ b. not (x.serial == 0) && (b && has_event (is_delete_of x.serial) e)) (no (main_of x)) ∙ and-false (not (x.serial == 0)));
-    }
+    not-own x e (no x)
+    (not-stopped x e (ap (λ b. b && has_event is_end e) (no x)) (ap (λ b. b && has_event is_end e) (no (main_of x)))
+    (ap (λ b. not (x.serial == 0) && (b && has_event (is_delete_of x.serial) e)) (no (main_of x)) ∙ and-false (not (x.serial == 0))))
 
 -- ---- threads stay
 
@@ -84,7 +79,7 @@ stepped-thread now e r = go (nat_lt now r.since)
     go false =
         filled-thread ((now - r.since) % r.period + 1 == r.period) r (did_with r.gone r.thread e ((now - r.since) % r.period) r.did)
 
-passed-thread : (tick n : ℕ) (r : Row) → (passed tick n r).thread ≡ r.thread
+pub passed-thread : (tick n : ℕ) (r : Row) → (passed tick n r).thread ≡ r.thread
 passed-thread tick zero r = refl
 passed-thread tick (suc n) r = stepped-thread (tick + n) nobody (passed tick n r) ∙ passed-thread tick n r
 

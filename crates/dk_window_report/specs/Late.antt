@@ -7,6 +7,7 @@ use Rattle.dk_window_report.specs.declared.row.WindowCounts.{WindowCounts}
 use Rattle.dk_window_report.specs.declared.row.Row.{Row}
 use Rattle.dk_window_report.specs.declared.late.Late.{Late}
 use Rattle.dk_window_report.specs.Rows.{ended, stepped}
+use Rattle.dk_window_report.specs.Passing.{gone_by}
 
 -- an entry of nobody
 abbrev pub nobody : Entry
@@ -14,8 +15,7 @@ nobody = quiet Label.Idle
 
 -- the row after so many entries of nobody from the tick on
 abbrev pub passed : ℕ → ℕ → Row → Row
-passed tick zero r = r
-passed tick (suc n) r = stepped (tick + n) nobody (passed tick n r)
+passed tick n r = gone_by nobody tick n r
 
 -- the row before tick now, where nothing happened to its thread meanwhile
 abbrev pub row_at : ℕ → Late → Row

@@ -2,6 +2,7 @@ pub mod Windows
 pub mod Owners
 pub mod Accounts
 pub mod Rows
+pub mod Passing
 pub mod Late
 pub mod Touched
 pub mod Text

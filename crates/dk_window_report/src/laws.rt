@@ -5,6 +5,7 @@ ghost use Rattle.dk_trace.specs.declared.Entry.{Entry};
 ghost use Rattle.dk_trace.specs.Guarantees.{Received};
 ghost use Rattle.dk_ledger.specs.Heading.{Heading};
 ghost use Rattle.dk_window_report.specs.Rows.{RowsStart, RowsStep};
+ghost use Rattle.dk_window_report.specs.Passing.{RowsGoBy};
 ghost use Rattle.dk_window_report.specs.Text.{overruns};
 ghost use Rattle.dk_window_report.specs.Overruns.{IsHeadingOf, AllCounted, AllWaited};
 
@@ -20,8 +21,10 @@ pub fn no_overrun_law()
         → overruns h past ≡ 0 → AllWaited c past }
 {}
 
-/// The row of a thread before any entry is a fresh one, and behind one entry more it is stepped by that entry.
+/// The row of a thread before any entry is a fresh one, and behind one entry more it is stepped by that entry. Behind many of one
+/// label, in which nothing happens, it is `gone_by` them.
 pub fn row_law()
     ensures start { RowsStart }
     ensures step { RowsStep }
+    ensures go_by { RowsGoBy }
 {}

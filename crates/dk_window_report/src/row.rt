@@ -1,10 +1,10 @@
 //! What is kept of a thread while a ledger is read.
 ghost use Rattle.std.specs.Prelude.{◌≡◌, ◌%◌};
-ghost use Rattle.dk_trace.specs.Entries.{is_of, is_budget_of, does, is_wait, is_end, is_delete_of, stops};
+ghost use Rattle.dk_trace.specs.Entries.{does, is_wait, is_end, is_delete_of, stops};
 ghost use Rattle.dk_window_report.specs.Windows.{is_overrun};
 ghost use Rattle.dk_window_report.specs.Rows.{raised, raised_if, did_with, lesser, first_with, counts_with, ended, filled, stepped};
 
-use dk_trace::{Entry, Event, Label, ThreadId};
+use dk_trace::{Entry, Event, ThreadId};
 
 /// What a thread did in a window of its level: how many ticks of its budget it had, the tick of the window, counted
 /// from 1, at which it had the last of them (0 where it had none), and whether it waited or was stopped.
@@ -58,35 +58,12 @@ fn raised_if(condition: bool, n: u32) -> u32
     if condition { raised(n) } else { n }
 }
 
-fn is_budget_of(thread: ThreadId, entry: Entry) -> bool
-    ensures { result ≡ is_budget_of thread entry }
-{
-    match entry.label {
-        Label::In(payer) => thread.is_same(payer),
-        Label::Run(payer) => thread.is_same(payer),
-        Label::Call(payer) => thread.is_same(payer),
-        Label::Out(payer) => thread.is_same(payer),
-        Label::Slack { .. } => false,
-        Label::Kernel(_) => false,
-        Label::Idle => false,
-    }
-}
-
-fn is_of(thread: ThreadId, entry: Entry) -> bool
-    ensures { result ≡ is_of thread entry }
-{
-    match entry.label.thread() {
-        Some(other) => thread.is_same(other),
-        None => false,
-    }
-}
-
 /// Whether the thread waited in the entry.
 fn waits(thread: ThreadId, entry: Entry) -> bool
     ensures { result ≡ does is_wait thread entry }
 {
     match entry.event {
-        Some(Event::Wait) => is_of(thread, entry),
+        Some(Event::Wait) => entry.label.is_of(thread),
         _ => false,
     }
 }
@@ -96,8 +73,8 @@ fn ends(thread: ThreadId, entry: Entry) -> bool
     ensures { result ≡ does is_end thread entry }
 {
     match entry.event {
-        Some(Event::Exit) => is_of(thread, entry),
-        Some(Event::Fault(_)) => is_of(thread, entry),
+        Some(Event::Exit) => entry.label.is_of(thread),
+        Some(Event::Fault(_)) => entry.label.is_of(thread),
         _ => false,
     }
 }
@@ -107,7 +84,7 @@ fn deletes(serial: u32, thread: ThreadId, entry: Entry) -> bool
     ensures { result ≡ does (is_delete_of serial) thread entry }
 {
     match entry.event {
-        Some(Event::Delete(given)) => is_of(thread, entry) && serial == given,
+        Some(Event::Delete(given)) => entry.label.is_of(thread) && serial == given,
         _ => false,
     }
 }
@@ -129,7 +106,7 @@ fn stops(thread: ThreadId, entry: Entry) -> bool
 fn did_with(gone: bool, thread: ThreadId, entry: Entry, ticks: u32, did: Did) -> Did
     ensures { result ≡ did_with gone thread entry ticks did }
 {
-    let paid = is_budget_of(thread, entry);
+    let paid = entry.label.is_paid_by(thread);
     let waits = waits(thread, entry);
     let stops = !gone && stops(thread, entry);
     Did {
@@ -220,7 +197,7 @@ fn filled(ticks: u32, row: Row, did: Did) -> Row
 }
 
 /// How many of so many ticks are behind the last whole period, and all where there is no period.
-fn ticks_in(period: u32, ticks: u32) -> u32
+pub fn ticks_in(period: u32, ticks: u32) -> u32
     ensures { result ≡ ticks % period }
 {
     if period == 0 { ticks } else { ticks % period }

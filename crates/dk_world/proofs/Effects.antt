@@ -109,7 +109,7 @@ module _ (c : Configuration) (checked : IsChecked c) (limits : IsWithinLimits c)
     call_given instructions KernelCall.Unlock = or_given (unlock_refusal past x (reg context 1)) (done (Event.Unlock (reg context 1))) unlocks_given
     call_given instructions KernelCall.Slack =
         or_given (slack_refusal c x (reg context 1)) (done (Event.Slack (reg context 1))) (λ free. done_given (Event.Slack (reg context 1)) (of 1) tt)
-    call_given instructions KernelCall.Put = done_given (Event.Put (reg context 1)) (of 1) tt
+    call_given instructions KernelCall.Put = done_given _ (of 1) tt
     call_given instructions KernelCall.Time = answers_given now (omega (arith, early))
     call_given instructions KernelCall.Left = answers_given (thread_body_left c now past x) (left_word now past x here quota)
 

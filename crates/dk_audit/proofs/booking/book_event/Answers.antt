@@ -5,32 +5,32 @@ use Rattle.dk_audit.proofs.booking.book_event.Goals as goal
 
 pub stop-requires : goal.stop-requires
 stop-requires g c =
-    ending c.args.id Event.Exit c.args.entry c.args.tables.now.past (subst (λ v. IsEventOpen c.args.id v c.args.entry c.args.tables.now.past) c.in-Exit.is c.requires) c.choice_law.ensures refl refl
+    ending c.args.id Event.Exit c.args.entry c.args.tables.now.past (subst (λ v. IsEventOpen c.args.id v c.args.entry c.args.tables.now.past) c.in-Exit.is c.requires) c.choice_law.ensures (λ row. (tt, refl)) refl
 
 pub returns-in-Exit : goal.returns-in-Exit
 returns-in-Exit g c =
-    end-booked c.args.id Event.Exit c.args.entry c.args.tables.now.past (subst (λ v. IsEventOpen c.args.id v c.args.entry c.args.tables.now.past) c.in-Exit.is c.requires) c.choice_law.ensures refl
+    end-booked c.args.id Event.Exit c.args.entry c.args.tables.now.past (subst (λ v. IsEventOpen c.args.id v c.args.entry c.args.tables.now.past) c.in-Exit.is c.requires) c.choice_law.ensures (λ row. (tt, refl))
     c.stop.new.self.past c.stop.ensures.past
 
 pub stop-requires-in-Fault : goal.stop-requires-in-Fault
 stop-requires-in-Fault g c =
     ending c.args.id (Event.Fault c.in-Fault.field-0) c.args.entry c.args.tables.now.past (subst (λ v. IsEventOpen c.args.id v c.args.entry c.args.tables.now.past) c.in-Fault.is c.requires)
-    c.choice_law.ensures refl refl
+    c.choice_law.ensures (λ row. (tt, refl)) refl
 
 pub returns-in-Fault : goal.returns-in-Fault
 returns-in-Fault g c =
     end-booked c.args.id (Event.Fault c.in-Fault.field-0) c.args.entry c.args.tables.now.past (subst (λ v. IsEventOpen c.args.id v c.args.entry c.args.tables.now.past) c.in-Fault.is c.requires)
-    c.choice_law.ensures refl c.stop-in-Fault.new.self.past c.stop-in-Fault.ensures.past
+    c.choice_law.ensures (λ row. (tt, refl)) c.stop-in-Fault.new.self.past c.stop-in-Fault.ensures.past
 
 pub returns-in-Put : goal.returns-in-Put
 returns-in-Put g c =
-    untold-booked c.args.id (Event.Put c.in-Put.field-0) c.args.entry c.args.tables.now.past (subst (λ v. IsEventOpen c.args.id v c.args.entry c.args.tables.now.past) c.in-Put.is c.requires)
-    c.choice_law.ensures refl tt
+    untold-booked c.args.id _ c.args.entry c.args.tables.now.past (subst (λ v. IsEventOpen c.args.id v c.args.entry c.args.tables.now.past) c.in-Put.is c.requires)
+    c.choice_law.ensures (λ row. (tt, refl)) tt
 
 pub returns-in-Refused : goal.returns-in-Refused
 returns-in-Refused g c =
-    untold-booked c.args.id (Event.Refused c.in-Refused.field-0) c.args.entry c.args.tables.now.past (subst (λ v. IsEventOpen c.args.id v c.args.entry c.args.tables.now.past) c.in-Refused.is c.requires)
-    c.choice_law.ensures refl tt
+    untold-booked c.args.id _ c.args.entry c.args.tables.now.past (subst (λ v. IsEventOpen c.args.id v c.args.entry c.args.tables.now.past) c.in-Refused.is c.requires)
+    c.choice_law.ensures (λ row. (tt, refl)) tt
 
 pub wait-requires : goal.wait-requires
 wait-requires g c = in-call c.args.id Event.Wait c.args.entry c.args.tables.now.past (subst (λ v. IsEventOpen c.args.id v c.args.entry c.args.tables.now.past) c.in-Wait.is c.requires) refl

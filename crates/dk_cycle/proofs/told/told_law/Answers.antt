@@ -3,6 +3,6 @@ use Rattle.dk_cycle.proofs.told.told_law.Goals as goal
 
 pub returns : goal.returns
 returns c = record {
-  run = run-is-told c.forever_law.ensures;
+  run = run-is-told c.audited_law.ensures c.forever_law.ensures;
   own = own-is-told c.again_law.ensures c.own_repeat_law.ensures;
 }

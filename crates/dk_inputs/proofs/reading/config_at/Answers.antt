@@ -1,5 +1,5 @@
 use Rattle.dk_inputs.proofs.Names.{ℕ, Global, List, Vec, ◌≡◌, rules, subst, Err, MAX_CONFIG_BYTES, Configuration, Gives, config_in, file_at, test}
-use Rattle.dk_inputs.specs.Plan.{config_at}
+use Rattle.dk_inputs.specs.Jobs.{config_at}
 use Rattle.dk_inputs.specs.declared.refusal.Refusal.TheVariants as why
 use Rattle.dk_inputs.proofs.FollowLemmas.{next, refused, tested}
 use Rattle.dk_inputs.proofs.reading.config_at.Goals as goal

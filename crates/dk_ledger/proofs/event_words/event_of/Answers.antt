@@ -1,4 +1,4 @@
-use Rattle.std.proofs.Common.{arith}
+use Rattle.dk_ledger.proofs.Names.{arith}
 use Rattle.dk_ledger.proofs.WordLists.{no_event}
 use Rattle.dk_ledger.proofs.event_words.event_of.Goals as goal
 

@@ -1,7 +1,4 @@
-use Rattle.std.proofs.Common.{rules}
-use Rattle.std.specs.Prelude.{IsErr}
-use Rattle.dk_outside.proofs.WrittenLemmas.{first_fails, second_ends}
-use Rattle.dk_ledger.specs.Heading.{process_lines, ended}
+use Rattle.dk_ledger.proofs.Names.{rules, IsErr, first_fails, second_ends, process_lines, ended}
 use Rattle.dk_ledger.proofs.HeaderLemmas.{rest_of, process_parts, first_named, rest_named}
 use Rattle.dk_ledger.proofs.header_text.+write_processes.Goals as goal
 

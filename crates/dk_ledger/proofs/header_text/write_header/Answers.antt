@@ -1,7 +1,4 @@
-use Rattle.std.proofs.Common.{◌≡◌, ◌++◌, ◌∙◌, ap, sym, rules}
-use Rattle.std.specs.Prelude.{IsErr}
-use Rattle.dk_outside.proofs.WrittenLemmas.{first_fails, second_ends}
-use Rattle.dk_ledger.specs.Heading.{level_lines, process_lines, header_text}
+use Rattle.dk_ledger.proofs.Names.{◌≡◌, ◌++◌, ◌∙◌, ap, sym, rules, IsErr, first_fails, second_ends, level_lines, process_lines, header_text}
 use Rattle.dk_ledger.proofs.header_text.write_header.Goals as goal
 
 pub returns-in_err-write_levels : goal.returns-in_err-write_levels

@@ -1,5 +1,4 @@
-use Rattle.std.proofs.lemmas.Bool.Decides.{Decides-eqb}
-use Rattle.std.proofs.lemmas.Slice.Eq.{strip_prefix_is}
+use Rattle.dk_ledger.proofs.Names.{Decides-eqb, strip_prefix_is}
 use Rattle.dk_ledger.proofs.InPlace.{behind_word}
 use Rattle.dk_ledger.proofs.in_place.after.Goals as goal
 

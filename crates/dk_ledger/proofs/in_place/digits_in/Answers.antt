@@ -1,16 +1,9 @@
-use Rattle.std.proofs.Common.{arith, ap, sym, ◌+◌, ◌∷◌, ◌++◌}
-use Rattle.std.proofs.lemmas.Fmt.{decimal_digit}
+use Rattle.dk_ledger.proofs.Names.{arith, ◌+◌, ◌∷◌, decimal_digit, nat_tests}
 use Rattle.dk_ledger.proofs.InPlace.{next_digit_read}
 use Rattle.dk_ledger.proofs.in_place.digits_in.Goals as goal
 
 pub loop-digit-init : goal.loop-digit-init
-loop-digit-init c =
-    let small = c.requires.digit in
-    record {
-      some = c.requires.some;
-      fits = omega (arith, small);
-      text = ap (λ d. d ++ c.args.bytes.now) (sym (decimal_digit c.args.first small));
-    }
+loop-digit-init c = grind (arith, nat_tests, decimal_digit)
 
 pub loop-digit-preserved : goal.loop-digit-preserved
 loop-digit-preserved c =

@@ -1,4 +1,5 @@
-use Rattle.std.proofs.Common.{◌≡◌, ◌<◌, ◌+◌, ◌++◌, ◌∷◌, ◌^◌, length, decimal}
+use Rattle.dk_ledger.proofs.Names.{◌≡◌, ◌<◌, ◌+◌, ◌++◌, ◌∷◌, ◌^◌, length}
+use Rattle.std.proofs.Common.{decimal}
 use Rattle.dk_ledger.proofs.in_place.digits_in.Given as goal
 
 -- the digits so far are those of the number

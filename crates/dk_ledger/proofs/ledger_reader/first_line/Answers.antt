@@ -1,15 +1,10 @@
-use Rattle.std.proofs.Common.{◌≡◌, ◌∙◌, ◌+◌, ◌++◌, ◌∷◌, sym, ap, subst, false}
-use Rattle.std.specs.Prelude.{◌==◌, All, MatchOption, take}
-use Rattle.std.proofs.lemmas.List.{take_rest}
+use Rattle.dk_ledger.proofs.Names.{◌∙◌, ◌+◌, ◌++◌, ◌∷◌, sym, ap, take_rest, nat_tests, arith}
+use Rattle.std.specs.Prelude.{take}
 use Rattle.dk_ledger.proofs.Readings.{next_line, no_line_feed}
 use Rattle.dk_ledger.proofs.ledger_reader.first_line.Goals as goal
 
 pub returns-in_err-length : goal.returns-in_err-length
-returns-in_err-length c =
-    let none = no_line_feed c.args.bytes.now (sym c.feed_at.ensures ∙ c.in_err-length.was) in
-    subst
-    (λ found. MatchOption found (All (λ b. (b == 10) ≡ false) c.args.bytes.now) (λ parts. (c.args.bytes.now ≡ parts.0.now ++ 10 ∷ parts.1.now) × All (λ b. (b == 10) ≡ false) parts.0.now))
-    (sym c.from_residual.ensures) none
+returns-in_err-length c = grind (arith, nat_tests, no_line_feed)
 
 pub returns : goal.returns
 returns c =

@@ -1,6 +1,4 @@
-use Rattle.std.proofs.Common.{◌∙◌, ◌++◌, []}
-use Rattle.dk_ledger.specs.declared.ledger.LedgerFault.{LedgerFault}
-use Rattle.dk_ledger.specs.Cuts.{entries_of}
+use Rattle.dk_ledger.proofs.Names.{◌∙◌, ◌++◌, [], LedgerFault, entries_of, nat_tests, arith}
 use Rattle.dk_ledger.proofs.NextItem.{if_ok}
 use Rattle.dk_ledger.proofs.Readings.{passed_on, some_is}
 use Rattle.dk_ledger.proofs.reading.pass_lines.Goals as goal
@@ -12,10 +10,7 @@ returns-in_err-_line-clause-line c = λ n e.
     c.loop-line.invariant.1
 
 pub returns-clause-ok : goal.returns-clause-ok
-returns-clause-ok c = (
-  c.loop-line.invariant.0,
-  if_ok c.next.result c.in_ok-_line.field-0 _ c.in_ok-_line.was c.next.ensures.end c.in_default.is c.args.bytes.now c.loop-line.invariant.0 c.loop-line.invariant.1,
-)
+returns-clause-ok c = grind (arith, nat_tests)
 
 pub loop-line-preserved : goal.loop-line-preserved
 loop-line-preserved c =

@@ -1,6 +1,4 @@
-use Rattle.std.proofs.Common.{List, length}
-use Rattle.dk_trace.specs.declared.Entry.{Entry}
-use Rattle.dk_ledger.specs.ReadSoFar.{HasRead}
+use Rattle.dk_ledger.proofs.Names.{List, length, Entry, HasRead}
 use Rattle.dk_ledger.proofs.reading.pass_lines.Given as goal
 
 abbrev pub invariant-loop-line : goal.invariant-loop-line

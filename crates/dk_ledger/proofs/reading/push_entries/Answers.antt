@@ -1,6 +1,4 @@
-use Rattle.std.proofs.Common.{◌≡◌, ◌∙◌, ◌-◌, [], ◌∷◌, ◌++◌, ap, arith, rules, append_assoc, append-nil, sym}
-use Rattle.std.specs.Prelude.{replicate, None}
-use Rattle.dk_trace.specs.declared.Entry.{Entry}
+use Rattle.dk_ledger.proofs.Names.{◌≡◌, ◌∙◌, ◌-◌, [], ◌∷◌, ◌++◌, ap, arith, rules, append_assoc, append-nil, sym, replicate, None, Entry}
 use Rattle.dk_ledger.proofs.reading.push_entries.Goals as goal
 use Rattle.dk_ledger.proofs.EntryLists.{next_turn}
 

@@ -1,5 +1,4 @@
-use Rattle.std.proofs.Common.{◌≡◌, ◌++◌, ◌-◌}
-use Rattle.std.specs.Prelude.{replicate, None}
+use Rattle.dk_ledger.proofs.Names.{◌≡◌, ◌++◌, ◌-◌, replicate, None}
 use Rattle.dk_ledger.proofs.reading.push_entries.Given as goal
 
 abbrev pub invariant-loop-turn : goal.invariant-loop-turn

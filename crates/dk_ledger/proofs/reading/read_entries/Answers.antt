@@ -1,7 +1,4 @@
-use Rattle.std.proofs.Common.{◌≡◌, ◌∙◌, ◌++◌, rules, subst, sym}
-use Rattle.dk_ledger.specs.declared.ledger.LedgerFault.{LedgerFault}
-use Rattle.dk_ledger.specs.Cuts.{entries_of}
-use Rattle.dk_ledger.specs.ReadSoFar.{HasRead}
+use Rattle.dk_ledger.proofs.Names.{◌≡◌, ◌∙◌, ◌++◌, rules, subst, sym, LedgerFault, entries_of, HasRead}
 use Rattle.dk_ledger.proofs.NextItem.{if_ok}
 use Rattle.dk_ledger.proofs.Readings.{passed_on, some_is}
 use Rattle.dk_ledger.proofs.reading.read_entries.Goals as goal

@@ -1,5 +1,4 @@
-use Rattle.std.proofs.Common.{length}
-use Rattle.dk_ledger.specs.ReadSoFar.{HasRead}
+use Rattle.dk_ledger.proofs.Names.{length, HasRead}
 use Rattle.dk_ledger.proofs.reading.read_entries.Given as goal
 
 abbrev pub invariant-loop-line : goal.invariant-loop-line

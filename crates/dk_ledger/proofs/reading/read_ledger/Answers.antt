@@ -1,5 +1,4 @@
-use Rattle.std.proofs.Common.{◌∙◌}
-use Rattle.dk_ledger.specs.declared.ledger.LedgerFault.{LedgerFault}
+use Rattle.dk_ledger.proofs.Names.{◌∙◌, LedgerFault}
 use Rattle.dk_ledger.proofs.Readings.{passed_on}
 use Rattle.dk_ledger.proofs.reading.read_ledger.Goals as goal
 

@@ -1,5 +1,4 @@
-use Rattle.std.proofs.Common.{sym}
-use Rattle.itoa.proofs.Decimal.{length_one, length_two}
+use Rattle.dk_ledger.proofs.Names.{sym, length_one, length_two}
 use Rattle.dk_ledger.proofs.NumberText.{length_three, length_four_digits, length_five, length_six, length_seven, length_eight, length_nine, length_ten}
 use Rattle.dk_ledger.proofs.text_line.digits_of.Goals as goal
 

@@ -1,4 +1,4 @@
-use Rattle.std.proofs.Common.{arith}
+use Rattle.dk_ledger.proofs.Names.{arith}
 use Rattle.dk_ledger.proofs.WordLists.{timeline_label, reclaimed_label, idle_label, no_label}
 use Rattle.dk_ledger.proofs.words.label_of.Goals as goal
 

@@ -1,7 +1,4 @@
-use Rattle.std.proofs.Common.{◌≡◌, ◌∙◌, sym, ap, get_or, []}
-use Rattle.std.specs.Prelude.{Some, decimal}
-use Rattle.dk_trace.specs.declared.Entry.{Entry}
-use Rattle.dk_ledger.specs.Words.{label_words, event_words}
+use Rattle.dk_ledger.proofs.Names.{◌≡◌, ◌∙◌, sym, ap, get_or, [], Some, decimal, Entry, label_words, event_words}
 use Rattle.dk_ledger.proofs.NextItem.{nothing}
 use Rattle.dk_ledger.proofs.WordLists.{word_at, behind_numbers}
 use Rattle.dk_ledger.proofs.words.line_of.Goals as goal

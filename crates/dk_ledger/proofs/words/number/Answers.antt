@@ -1,6 +1,4 @@
-use Rattle.std.proofs.Common.{◌∙◌, ap, arith}
-use Rattle.std.specs.Result.{result_unwrap_or}
-use Rattle.std.proofs.lemmas.Fmt.{parse-decimal}
+use Rattle.dk_ledger.proofs.Names.{◌∙◌, ap, arith, result_unwrap_or, parse-decimal}
 use Rattle.dk_ledger.proofs.words.number.Goals as goal
 
 pub returns : goal.returns

@@ -1,7 +1,4 @@
-use Rattle.std.proofs.Common.{rules, tests}
-use Rattle.std.specs.Str.{bytes_eq}
-use Rattle.std.proofs.lemmas.Iterator.{YieldsList-from_slice}
-use Rattle.std.proofs.lemmas.Iterator.Search.{position_from_yields_List}
+use Rattle.dk_ledger.proofs.Names.{rules, tests, bytes_eq, YieldsList-from_slice, position_from_yields_List}
 use Rattle.dk_ledger.proofs.words.place_of.Goals as goal
 
 pub returns : goal.returns

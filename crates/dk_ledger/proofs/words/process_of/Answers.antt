@@ -1,10 +1,4 @@
-use Rattle.std.proofs.Common.{ℕ, ◌≡◌, ◌∙◌, ◌<◌, List, length, sym, ap, rules}
-use Rattle.std.specs.Prelude.{Option, Some}
-use Rattle.std.specs.List.{position}
-use Rattle.std.specs.Str.{bytes_eq}
-use Rattle.dk_ledger.specs.declared.header.ProcessLine.{ProcessLine}
-use Rattle.dk_ledger.specs.Heading.{Heading, name_of}
-use Rattle.dk_ledger.specs.Readable.{HaveOwnNames}
+use Rattle.dk_ledger.proofs.Names.{ℕ, ◌≡◌, ◌∙◌, ◌<◌, List, length, sym, ap, rules, Option, Some, position, bytes_eq, ProcessLine, Heading, name_of, HaveOwnNames}
 use Rattle.dk_ledger.proofs.WordBytes.{named_position}
 use Rattle.dk_ledger.proofs.words.process_of.Goals as goal
 

@@ -1,10 +1,4 @@
-use Rattle.std.proofs.Common.{ℕ, ◌≡◌, ◌∙◌, ◌<◌, List, length, sym, subst, ap, arith, append_assoc}
-use Rattle.std.specs.Prelude.{Option, Some, None, MatchOption, decimal, codes}
-use Rattle.std.specs.Borrow.{Bor}
-use Rattle.std.proofs.lemmas.Str.Pattern.{IsSplitOnceResult, split_after}
-use Rattle.dk_trace.specs.declared.ThreadId.{ThreadId}
-use Rattle.dk_ledger.specs.Heading.{Heading, IsPrintable, name_of}
-use Rattle.dk_ledger.specs.LineText.{thread_text}
+use Rattle.dk_ledger.proofs.Names.{ℕ, ◌≡◌, ◌∙◌, ◌<◌, List, length, sym, subst, ap, arith, append_assoc, Option, Some, None, MatchOption, decimal, codes, Bor, IsSplitOnceResult, split_after, ThreadId, Heading, IsPrintable, name_of, thread_text}
 use Rattle.dk_ledger.proofs.WordBytes.{no_dot_at, name_at_no_dots}
 use Rattle.dk_ledger.proofs.words.thread_of.Goals as goal
 

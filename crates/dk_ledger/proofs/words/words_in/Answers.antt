@@ -1,10 +1,4 @@
-use Rattle.std.proofs.Common.{lit<, ap, ◌≡◌, ◌∙◌, List, map}
-use Rattle.std.specs.Prelude.{Option, Result, Ok, Err, IfOk}
-use Rattle.std.specs.Iterator.{DrainsIf}
-use Rattle.std.specs.Str.Iter.{split_text, split_has_more, split_pattern}
-use Rattle.std.proofs.lemmas.Iterator.{YieldsList, YieldsList-from_take, items_from_drains}
-use Rattle.std.proofs.lemmas.Iterator.Splits.{YieldsList-from_str_split}
-use Rattle.arrayvec.specs.ArrayVec.{ArrayVec}
+use Rattle.dk_ledger.proofs.Names.{lit<, ap, ◌≡◌, ◌∙◌, List, map, Option, Result, Ok, Err, IfOk, DrainsIf, split_text, split_has_more, split_pattern, YieldsList, YieldsList-from_take, items_from_drains, YieldsList-from_str_split, ArrayVec}
 use Rattle.dk_ledger.proofs.words.words_in.Goals as goal
 
 -- `collect` into a vector of a fixed capacity, where v reads each item

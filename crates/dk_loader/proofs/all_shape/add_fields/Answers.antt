@@ -1,11 +1,5 @@
-use Rattle.std.proofs.Common.{◌∙◌, ◌++◌, ap, get_or}
-use Rattle.std.specs.Prelude.{option_to_list}
+use Rattle.dk_loader.proofs.Names.{◌∙◌, ◌++◌, ap, get_or, option_to_list, each_row, test_of, table_view, broken, rows_added, breaks, rule_number}
 use Rattle.dk_config.specs.declared.fault.Field.TheVariants as field
-use Rattle.dk_config.specs.Tests.{each_row, test_of}
-use Rattle.toml.specs.View.{table_view}
-use Rattle.dk_faults.specs.Faults.{broken}
-use Rattle.dk_faults.proofs.Broken.{rows_added}
-use Rattle.dk_loader.specs.Keys.{breaks, rule_number}
 use Rattle.dk_loader.proofs.AllBroken.{one_test, place_more, tests_of_fields}
 use Rattle.dk_loader.proofs.all_shape.add_fields.Goals as goal
 

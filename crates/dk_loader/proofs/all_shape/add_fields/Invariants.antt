@@ -1,7 +1,4 @@
-use Rattle.std.proofs.Common.{◌≡◌, ◌++◌, drop}
-use Rattle.toml.specs.View.{table_view}
-use Rattle.dk_config.specs.Tests.{each_row}
-use Rattle.dk_faults.specs.Faults.{broken}
+use Rattle.dk_loader.proofs.Names.{◌≡◌, ◌++◌, drop, table_view, each_row, broken}
 use Rattle.dk_loader.proofs.AllBroken.{tests_of_fields}
 use Rattle.dk_loader.proofs.all_shape.add_fields.Given as goal
 

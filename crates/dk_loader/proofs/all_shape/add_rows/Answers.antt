@@ -1,9 +1,4 @@
-use Rattle.std.proofs.Common.{◌∙◌, ◌++◌, ap, refl, sym}
-use Rattle.toml.specs.View.{view}
-use Rattle.dk_config.specs.Tests.{each_row}
-use Rattle.dk_faults.specs.Faults.{broken}
-use Rattle.dk_faults.proofs.Broken.{rows_added}
-use Rattle.dk_loader.specs.Keys.{row_tests}
+use Rattle.dk_loader.proofs.Names.{◌∙◌, ◌++◌, ap, refl, sym, view, each_row, broken, rows_added, row_tests}
 use Rattle.dk_loader.proofs.AllBroken.{row_more, tests_of_rows}
 use Rattle.dk_loader.proofs.Rows.{each_row-map}
 use Rattle.dk_loader.proofs.all_shape.add_rows.Goals as goal

@@ -1,6 +1,4 @@
-use Rattle.std.proofs.Common.{◌≡◌, ◌++◌, drop}
-use Rattle.dk_config.specs.Tests.{each_row}
-use Rattle.dk_faults.specs.Faults.{broken}
+use Rattle.dk_loader.proofs.Names.{◌≡◌, ◌++◌, drop, each_row, broken}
 use Rattle.dk_loader.proofs.AllBroken.{tests_of_rows}
 use Rattle.dk_loader.proofs.all_shape.add_rows.Given as goal
 

@@ -1,9 +1,5 @@
-use Rattle.std.proofs.Common.{◌∙◌, ◌++◌, ap}
-use Rattle.toml.specs.View.{table_view}
-use Rattle.dk_faults.specs.Faults.{broken}
-use Rattle.dk_faults.proofs.Broken.{then_more}
+use Rattle.dk_loader.proofs.Names.{◌∙◌, ◌++◌, ap, table_view, broken, then_more, rule_tests}
 use Rattle.dk_loader.specs.declared.shape.Rule.TheVariants as rule
-use Rattle.dk_loader.specs.Keys.{rule_tests}
 use Rattle.dk_loader.proofs.Shapes.{shape_same}
 use Rattle.dk_loader.proofs.all_shape.add_rules.Goals as goal
 

@@ -1,4 +1,4 @@
-use Rattle.dk_loader.specs.Reading.{level_in, table_of}
+use Rattle.dk_loader.proofs.Names.{level_in, table_of}
 use Rattle.dk_loader.proofs.PrintedLemmas.{read_more, rows_read}
 use Rattle.dk_loader.proofs.build.levels_of.Goals as goal
 

@@ -1,4 +1,4 @@
-use Rattle.dk_loader.specs.Reading.{process_in, table_of}
+use Rattle.dk_loader.proofs.Names.{process_in, table_of, nat_tests, arith}
 use Rattle.dk_loader.proofs.PrintedLemmas.{read_more, rows_read}
 use Rattle.dk_loader.proofs.build.processes_of.Goals as goal
 
@@ -6,8 +6,7 @@ pub loop-row-init : goal.loop-row-init
 loop-row-init c = c.new-processes.ensures.items
 
 pub loop-row-preserved : goal.loop-row-preserved
-loop-row-preserved c =
-    read_more (λ d. process_in c.args.last (table_of d)) c.args.rows.now c.loop-row.row-index _ c.row-item.result c.loop-row.processes.items _ c.in_ok-process_of.field-0 c.loop-row-test.true c.row-item.is c.loop-row.invariant c.in_ok-process_of.ensures c.in_ok-push.ensures.items
+loop-row-preserved c = grind (arith, nat_tests, read_more)
 
 pub returns : goal.returns
 returns c = rows_read (λ d. process_in c.args.last (table_of d)) c.args.rows.now c.loop-row.row-index c.loop-row.processes.items c.loop-row-test.false c.loop-row.invariant

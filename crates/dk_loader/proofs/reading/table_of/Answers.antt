@@ -1,9 +1,4 @@
-use Rattle.std.proofs.Common.{rules, refl}
-use Rattle.std.specs.Str.{is_utf8}
-use Rattle.std.proofs.lemmas.Str.{IsUtf8-from_is_utf8, is_utf8-from_IsUtf8}
-use Rattle.std.proofs.lemmas.Bool.{cases_Bool}
-use Rattle.std.proofs.Common.{inl, inr}
-use Rattle.toml.specs.View.{table_view}
+use Rattle.dk_loader.proofs.Names.{rules, refl, is_utf8, IsUtf8-from_is_utf8, is_utf8-from_IsUtf8, cases_Bool, inl, inr, table_view}
 use Rattle.dk_loader.specs.Reading.{document}
 use Rattle.dk_loader.proofs.FewRows.{few_rows}
 use Rattle.dk_loader.proofs.reading.table_of.Goals as goal

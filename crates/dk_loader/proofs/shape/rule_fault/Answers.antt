@@ -1,5 +1,4 @@
-use Rattle.std.proofs.Common.{◌∙◌, sym}
-use Rattle.toml.specs.View.{table_view}
+use Rattle.dk_loader.proofs.Names.{◌∙◌, sym, table_view}
 use Rattle.dk_loader.proofs.Shapes.{top_decides, costs_decide, levels_decide, processes_decide, mutexes_decide}
 use Rattle.dk_loader.proofs.shape.rule_fault.Goals as goal
 

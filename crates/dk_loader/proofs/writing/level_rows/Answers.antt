@@ -1,8 +1,4 @@
-use Rattle.std.proofs.Common.{◌∙◌, ap, refl}
-use Rattle.toml.specs.Data.{table}
-use Rattle.toml.specs.declared.value.Value.{Table}
-use Rattle.toml.proofs.Views.{view-Table}
-use Rattle.dk_loader.specs.Printed.{level_members, is_small_level}
+use Rattle.dk_loader.proofs.Names.{◌∙◌, ap, refl, table, Table, view-Table, level_members, is_small_level}
 use Rattle.dk_loader.proofs.PrintedLemmas.{written_more, small_more, rows_written, rows_small}
 use Rattle.dk_loader.proofs.writing.level_rows.Goals as goal
 

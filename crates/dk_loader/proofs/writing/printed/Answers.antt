@@ -1,4 +1,4 @@
-use Rattle.std.proofs.lemmas.Str.{is_utf8-from_IsUtf8, IsUtf8-string_bytes}
+use Rattle.dk_loader.proofs.Names.{is_utf8-from_IsUtf8, IsUtf8-string_bytes}
 use Rattle.dk_loader.specs.Reading.{document}
 use Rattle.dk_loader.proofs.writing.printed.Goals as goal
 

@@ -1,8 +1,4 @@
-use Rattle.std.proofs.Common.{◌∙◌, ap}
-use Rattle.toml.specs.Data.{table}
-use Rattle.toml.specs.declared.value.Value.{Table}
-use Rattle.toml.proofs.Views.{view-Table}
-use Rattle.dk_loader.specs.Printed.{process_members, is_small_process}
+use Rattle.dk_loader.proofs.Names.{◌∙◌, ap, table, Table, view-Table, process_members, is_small_process}
 use Rattle.dk_loader.proofs.PrintedLemmas.{written_more, small_more, rows_written, rows_small}
 use Rattle.dk_loader.proofs.writing.process_rows.Goals as goal
 

@@ -1,8 +1,4 @@
-use Rattle.std.proofs.Common.{◌≡◌, true, map, take}
-use Rattle.std.specs.List.{list_all}
-use Rattle.toml.specs.Data.{table}
-use Rattle.toml.specs.View.{view}
-use Rattle.dk_loader.specs.Printed.{process_members, is_small_process}
+use Rattle.dk_loader.proofs.Names.{◌≡◌, true, map, take, list_all, table, view, process_members, is_small_process}
 use Rattle.dk_loader.proofs.writing.process_rows.Given as goal
 
 abbrev pub invariant-loop-process : goal.invariant-loop-process

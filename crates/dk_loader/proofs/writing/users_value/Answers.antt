@@ -1,7 +1,5 @@
-use Rattle.std.proofs.Common.{◌≡◌, ◌∙◌, ap, string_bytes, rules}
-use Rattle.toml.specs.Data.{string}
+use Rattle.dk_loader.proofs.Names.{◌≡◌, ◌∙◌, ap, string_bytes, rules, string, view-String}
 use Rattle.toml.specs.declared.value.Value.{String}
-use Rattle.toml.proofs.Views.{view-String}
 use Rattle.dk_loader.proofs.PrintedLemmas.{written_more, rows_written}
 use Rattle.dk_loader.proofs.writing.users_value.Goals as goal
 

@@ -1,6 +1,4 @@
-use Rattle.std.proofs.Common.{◌≡◌, map, take}
-use Rattle.toml.specs.Data.{string}
-use Rattle.toml.specs.View.{view}
+use Rattle.dk_loader.proofs.Names.{◌≡◌, map, take, string, view}
 use Rattle.dk_loader.proofs.writing.users_value.Given as goal
 
 abbrev pub invariant-loop-user : goal.invariant-loop-user

@@ -1,4 +1,4 @@
-use Rattle.toml.specs.View.{table_view}
+use Rattle.dk_loader.proofs.Names.{table_view}
 use Rattle.dk_loader.proofs.WrittenLemmas.{members_depth-config_members, reading-printed}
 use Rattle.dk_loader.proofs.writing.write_config.Goals as goal
 

@@ -1,7 +1,4 @@
-use Rattle.std.proofs.Common.{arith}
-use Rattle.dk_config.proofs.Passing.{row_at}
-use Rattle.dk_plan.proofs.Accepting.{accepted_from, certified_from}
-use Rattle.dk_margins.specs.Margins.{with_hold}
+use Rattle.dk_margins.proofs.Names.{arith, row_at, accepted_from, certified_from, with_hold}
 use Rattle.dk_margins.proofs.HoldRules.{range_needed, unbroken-with}
 use Rattle.dk_margins.proofs.holds.greatest_hold.Goals as goal
 

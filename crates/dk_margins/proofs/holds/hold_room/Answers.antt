@@ -1,7 +1,4 @@
-use Rattle.std.proofs.Common.{◌<◌, ◌+◌, arith}
-use Rattle.dk_config.specs.Windows.{period}
-use Rattle.dk_config.specs.Certification.{level_demand, level_blocking}
-use Rattle.dk_margins.specs.Margins.{with_hold}
+use Rattle.dk_margins.proofs.Names.{◌<◌, ◌+◌, arith, period, level_demand, level_blocking, with_hold}
 use Rattle.dk_margins.proofs.HoldRooms.{none_fits}
 use Rattle.dk_margins.proofs.holds.hold_room.Goals as goal
 

@@ -1,5 +1,4 @@
-use Rattle.std.proofs.Common.{◌≡◌, length, rules}
-use Rattle.dk_margins.specs.Margins.{HoldFits}
+use Rattle.dk_margins.proofs.Names.{◌≡◌, length, rules, HoldFits}
 use Rattle.dk_margins.proofs.Levels.{fits_step, all_fit}
 use Rattle.dk_margins.proofs.holds.most_hold.Goals as goal
 

@@ -1,4 +1,4 @@
-use Rattle.dk_margins.specs.Margins.{HoldFits}
+use Rattle.dk_margins.proofs.Names.{HoldFits}
 use Rattle.dk_margins.proofs.Levels.{FitsSoFar}
 use Rattle.dk_margins.proofs.holds.most_hold.Given as goal
 

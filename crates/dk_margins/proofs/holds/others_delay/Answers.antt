@@ -1,7 +1,4 @@
-use Rattle.std.proofs.Common.{◌≡◌, ◌∙◌, ap, arith, length, rules, suc, take, drop, ◌+◌, ◌-◌, add-one, length-drop}
-use Rattle.std.proofs.lemmas.List.{take_all}
-use Rattle.dk_config.specs.Certification.{can_block}
-use Rattle.dk_config.proofs.Passing.{row_at}
+use Rattle.dk_margins.proofs.Names.{◌≡◌, ◌∙◌, ap, arith, length, rules, suc, take, drop, ◌+◌, ◌-◌, add-one, length-drop, take_all, can_block, row_at}
 use Rattle.dk_margins.proofs.HoldRooms.{blocking-without, longest}
 use Rattle.dk_margins.proofs.holds.others_delay.Goals as goal
 

@@ -1,5 +1,4 @@
-use Rattle.std.proofs.Common.{◌<◌, ◌≡◌, length, rules}
-use Rattle.dk_plan.specs.Budget.{with_budget}
+use Rattle.dk_margins.proofs.Names.{◌<◌, ◌≡◌, length, rules, with_budget}
 use Rattle.dk_margins.proofs.Failing.{fails_here, none_fails}
 use Rattle.dk_margins.proofs.limits.budget_fails.Goals as goal
 

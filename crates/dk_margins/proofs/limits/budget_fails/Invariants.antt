@@ -1,5 +1,5 @@
+use Rattle.dk_margins.proofs.Names.{LevelFits}
 use Rattle.std.specs.Prelude.{ℕ, ◌<◌}
-use Rattle.dk_plan.specs.Levels.{LevelFits}
 use Rattle.dk_margins.proofs.limits.budget_fails.Given as goal
 
 -- the levels before this one fit

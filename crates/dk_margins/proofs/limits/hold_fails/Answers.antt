@@ -1,5 +1,4 @@
-use Rattle.std.proofs.Common.{◌<◌, ◌≡◌, length, rules}
-use Rattle.dk_margins.specs.Margins.{with_hold}
+use Rattle.dk_margins.proofs.Names.{◌<◌, ◌≡◌, length, rules, with_hold}
 use Rattle.dk_margins.proofs.Failing.{fails_here, none_fails}
 use Rattle.dk_margins.proofs.limits.hold_fails.Goals as goal
 

@@ -1,5 +1,5 @@
+use Rattle.dk_margins.proofs.Names.{HoldFits}
 use Rattle.std.specs.Prelude.{ℕ, ◌<◌}
-use Rattle.dk_margins.specs.Margins.{HoldFits}
 use Rattle.dk_margins.proofs.limits.hold_fails.Given as goal
 
 -- the levels before this one fit

@@ -1,5 +1,4 @@
-use Rattle.std.proofs.Common.{◌<◌, ◌≡◌, ◌∙◌, sym, arith, length, rules}
-use Rattle.dk_margins.specs.Margins.{rows_with_release, with_release}
+use Rattle.dk_margins.proofs.Names.{◌<◌, ◌≡◌, ◌∙◌, sym, arith, length, rules, rows_with_release, with_release}
 use Rattle.dk_margins.proofs.ReleaseRules.{length-with}
 use Rattle.dk_margins.proofs.Failing.{fails_here, none_fails}
 use Rattle.dk_margins.proofs.limits.release_fails.Goals as goal

@@ -1,5 +1,5 @@
+use Rattle.dk_margins.proofs.Names.{ReleaseFits}
 use Rattle.std.specs.Prelude.{ℕ, ◌<◌}
-use Rattle.dk_margins.specs.Margins.{ReleaseFits}
 use Rattle.dk_margins.proofs.limits.release_fails.Given as goal
 
 -- the levels before this one fit

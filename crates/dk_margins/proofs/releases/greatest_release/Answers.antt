@@ -1,6 +1,4 @@
-use Rattle.std.proofs.Common.{arith}
-use Rattle.dk_plan.proofs.Accepting.{accepted_from, certified_from}
-use Rattle.dk_margins.specs.Margins.{with_release}
+use Rattle.dk_margins.proofs.Names.{arith, accepted_from, certified_from, with_release}
 use Rattle.dk_margins.proofs.ReleaseRules.{accepted-each, each-accepted, range_needed, unbroken-with}
 use Rattle.dk_margins.proofs.releases.greatest_release.Goals as goal
 

@@ -1,4 +1,4 @@
-use Rattle.dk_margins.specs.Margins.{ReleaseFits}
+use Rattle.dk_margins.proofs.Names.{ReleaseFits}
 use Rattle.dk_margins.proofs.Levels.{FitsSoFar}
 use Rattle.dk_margins.proofs.releases.most_release.Given as goal
 

@@ -1,5 +1,4 @@
-use Rattle.std.proofs.Common.{◌≡◌, length, rules, subst}
-use Rattle.dk_margins.specs.Limits.{LimitsSwitch}
+use Rattle.dk_margins.proofs.Names.{◌≡◌, length, rules, subst, LimitsSwitch}
 use Rattle.dk_margins.proofs.SwitchRooms.{greatest}
 use Rattle.dk_margins.proofs.switches.greatest_switch.Goals as goal
 

@@ -1,4 +1,4 @@
-use Rattle.dk_margins.specs.Limits.{LimitsSwitch}
+use Rattle.dk_margins.proofs.Names.{LimitsSwitch}
 use Rattle.dk_margins.proofs.switches.most_switch.Given as goal
 
 abbrev pub invariant-loop-row : goal.invariant-loop-row

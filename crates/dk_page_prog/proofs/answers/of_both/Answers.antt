@@ -15,14 +15,26 @@ returns-in-Err-Line-clause-is c =
     let n = c.in-Err-Line.line in
     let document = c.args.document.now in
     let bytes = c.args.bytes.now in
-    let found = fault_is (IsOfOther document bytes) bytes c.review_with.result c.in-Err-Line.field-0 (why.Line n) c.review_with.ensures.fault c.in-Err-Line.is c.in-Err-Line.field-0-is in
-    wider _ (IsOfBoth c.args.name.now document c.args.ledger.now bytes) c.line_answer.result
+    let range = c.args.range in
+    let found = fault_is (IsOfOther document bytes) range bytes c.review_with.result c.in-Err-Line.field-0 (why.Line n) c.review_with.ensures.fault c.in-Err-Line.is c.in-Err-Line.field-0-is in
+    wider _ (IsOfBoth c.args.name.now document _ c.args.held.now c.args.ledger.now range bytes) c.line_answer.result
     (λ a says. inr (inl (n, found.0, found.1, says))) c.line_answer.ensures.is
+
+pub returns-in-Err-Ends-clause-is : goal.returns-in-Err-Ends-clause-is
+returns-in-Err-Ends-clause-is c =
+    let n = c.in-Err-Ends.ticks in
+    let document = c.args.document.now in
+    let bytes = c.args.bytes.now in
+    let range = c.args.range in
+    let found = fault_is (IsOfOther document bytes) range bytes c.review_with.result c.in-Err-Ends.field-0 (why.Ends n) c.review_with.ensures.fault c.in-Err-Ends.is c.in-Err-Ends.field-0-is in
+    wider _ (IsOfBoth c.args.name.now document _ c.args.held.now c.args.ledger.now range bytes) c.ends_answer.result
+    (λ a says. inr (inr (inr (n, found, says)))) c.ends_answer.ensures.is
 
 pub returns-in-Err-Other-clause-is : goal.returns-in-Err-Other-clause-is
 returns-in-Err-Other-clause-is c =
     let document = c.args.document.now in
     let bytes = c.args.bytes.now in
-    let found = fault_is (IsOfOther document bytes) bytes c.review_with.result c.in-Err-Other.field-0 why.Other c.review_with.ensures.fault c.in-Err-Other.is c.in-Err-Other.field-0-is in
-    wider _ (IsOfBoth c.args.name.now document c.args.ledger.now bytes) c.words_answer.result
-    (λ a says. inr (inr (found, says))) c.words_answer.ensures.is
+    let range = c.args.range in
+    let found = fault_is (IsOfOther document bytes) range bytes c.review_with.result c.in-Err-Other.field-0 why.Other c.review_with.ensures.fault c.in-Err-Other.is c.in-Err-Other.field-0-is in
+    wider _ (IsOfBoth c.args.name.now document _ c.args.held.now c.args.ledger.now range bytes) c.words_answer.result
+    (λ a says. inr (inr (inl (found, says)))) c.words_answer.ensures.is

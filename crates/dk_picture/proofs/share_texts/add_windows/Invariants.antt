@@ -6,4 +6,4 @@ abbrev pub invariant-loop-number : goal.invariant-loop-number
 invariant-loop-number l =
     string_bytes l.text
     ≡ string_bytes l.initial.text
-    ++ shares_text l.frame l.span (flat_map (λ i. share_of l.header l.span l.drawing l.process (window_at l.level l.period (l.first + i))) (below l.number))
+    ++ shares_text l.header l.frame l.span l.drawing (flat_map (λ i. share_of l.header l.span l.drawing l.process (window_at l.level l.period (l.first + i))) (below l.number))

@@ -12,5 +12,5 @@ pub returns : goal.returns
 returns c =
     if_each string_bytes c.framed.result _ _
     (λ j shown.
-    same_frame c.args.header.now c.args.span c.args.ticks c.args.groups.items c.in_ok-holds.holds.items c.in_ok-makings.makings.items c.in_ok-drawing.drawing c.frame.result j.entries (c.in_ok-holds.ensures.holds j shown.readable shown.text)
+    same_frame c.args.header.now c.args.promise c.args.span c.args.ticks c.args.groups.items c.in_ok-holds.holds.items c.in_ok-makings.makings.items c.in_ok-drawing.drawing c.frame.result j.entries (c.in_ok-holds.ensures.holds j shown.readable shown.text)
     (c.in_ok-makings.ensures j shown.readable shown.text) c.in_ok-drawing.ensures c.frame.ensures) c.framed.ensures

@@ -1,4 +1,4 @@
-use Rattle.dk_picture.proofs.Names.{◌∙◌, ◌++◌, ap, LEGEND, legend_head}
+use Rattle.dk_picture.proofs.Names.{◌∙◌, ◌++◌, ap, append_assoc, LEGEND, legend_head}
 use Rattle.dk_picture.specs.Pictures.{legend_text}
 use Rattle.dk_picture.proofs.Legends.{legend_is}
 use Rattle.dk_picture.proofs.whole.legend_text.Goals as goal
@@ -6,5 +6,5 @@ use Rattle.dk_picture.proofs.whole.legend_text.Goals as goal
 pub returns : goal.returns
 unfolding legend_text
 returns c =
-    c.in_ok-push_words.ensures ∙ ap (λ t. t ++ LEGEND.now) c.in_ok-text.ensures
-    ∙ ap (λ t. legend_head c.args.y ++ t) legend_is
+    c.in_ok-push_words-2.ensures ∙ ap (λ t. t ++ LEGEND.now) (c.in_ok-push_words.ensures ∙ ap (λ t. t ++ c.args.key.now) c.in_ok-text.ensures)
+    ∙ append_assoc (legend_head c.args.y) c.args.key.now LEGEND.now ∙ ap (λ t. legend_head c.args.y ++ (c.args.key.now ++ t)) legend_is

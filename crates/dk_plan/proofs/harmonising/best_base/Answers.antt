@@ -1,4 +1,4 @@
-use Rattle.std.proofs.Common.{arith}
+use Rattle.dk_plan.proofs.Names.{arith}
 use Rattle.dk_plan.proofs.Claims.{asks_for}
 use Rattle.dk_plan.proofs.Bases.{least_of_all}
 use Rattle.dk_plan.proofs.harmonising.best_base.Goals as goal

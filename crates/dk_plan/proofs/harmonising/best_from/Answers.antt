@@ -1,4 +1,4 @@
-use Rattle.std.proofs.Common.{◌+◌, arith, subst, sym, refl}
+use Rattle.dk_plan.proofs.Names.{◌+◌, arith, subst, sym, refl}
 use Rattle.dk_plan.proofs.Claims.{base_short, asks_for}
 use Rattle.dk_plan.proofs.Bases.{BestSoFar, better, worse, below_otherwise}
 use Rattle.dk_plan.proofs.harmonising.best_from.Goals as goal

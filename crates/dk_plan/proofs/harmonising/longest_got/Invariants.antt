@@ -1,6 +1,4 @@
-use Rattle.std.proofs.Common.{◌≡◌, ◌≤◌, drop, max}
-use Rattle.dk_config.specs.declared.TheConstants.{MAX_SPAN}
-use Rattle.dk_plan.specs.Base.{longest_got}
+use Rattle.dk_plan.proofs.Names.{◌≡◌, ◌≤◌, drop, max, MAX_SPAN, longest_got}
 use Rattle.dk_plan.proofs.harmonising.longest_got.Given as goal
 
 abbrev pub invariant-loop-ask : goal.invariant-loop-ask

@@ -1,4 +1,4 @@
-use Rattle.std.proofs.Common.{suc, arith}
+use Rattle.dk_plan.proofs.Names.{suc, arith}
 use Rattle.dk_plan.proofs.Doubles.{found, gets, doubled_more}
 use Rattle.dk_plan.proofs.harmonising.period_of.Goals as goal
 

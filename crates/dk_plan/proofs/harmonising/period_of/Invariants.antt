@@ -1,4 +1,4 @@
-use Rattle.std.proofs.Common.{ℕ, ◌≡◌, ◌*◌, ◌^◌, ◌≤◌, ◌-◌}
+use Rattle.dk_plan.proofs.Names.{ℕ, ◌≡◌, ◌*◌, ◌^◌, ◌≤◌, ◌-◌}
 use Rattle.dk_plan.proofs.harmonising.period_of.Given as goal
 
 abbrev pub invariant-loop-got : goal.invariant-loop-got

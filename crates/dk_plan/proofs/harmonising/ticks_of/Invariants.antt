@@ -1,6 +1,4 @@
-use Rattle.std.proofs.Common.{◌≡◌, ◌≤◌, ◌+◌, ◌*◌, drop}
-use Rattle.dk_config.specs.declared.TheConstants.{MAX_SPAN}
-use Rattle.dk_plan.specs.Base.{ticks_in}
+use Rattle.dk_plan.proofs.Names.{◌≡◌, ◌≤◌, ◌+◌, ◌*◌, drop, MAX_SPAN, ticks_in}
 use Rattle.dk_plan.proofs.harmonising.ticks_of.Given as goal
 
 abbrev pub invariant-loop-ask : goal.invariant-loop-ask

@@ -1,5 +1,4 @@
-use Rattle.dk_plan.specs.Budget.{with_budget}
-use Rattle.dk_plan.specs.Levels.{work_at}
+use Rattle.dk_plan.proofs.Names.{with_budget, work_at}
 use Rattle.dk_plan.proofs.Demands.{demand_step, whole_demand}
 use Rattle.dk_plan.proofs.needs.demand_of_others.Goals as goal
 

@@ -1,8 +1,5 @@
-use Rattle.std.proofs.Common.{◌≡◌, ◌≤◌, get_or, rules, arith, sym, subst, sum_by}
-use Rattle.dk_certify.specs.Bounds.{most_budgets}
-use Rattle.dk_plan.specs.Levels.{budget_at}
+use Rattle.dk_plan.proofs.Names.{◌≡◌, ◌≤◌, get_or, rules, arith, sym, subst, sum_by, most_budgets, budget_at, budgets_bounded}
 use Rattle.dk_plan.proofs.Rows.{budgets-without}
-use Rattle.dk_config.proofs.Budgets.{budgets_bounded}
 use Rattle.dk_plan.proofs.needs.others_at.Goals as goal
 
 pub budgets_of-requires : goal.budgets_of-requires

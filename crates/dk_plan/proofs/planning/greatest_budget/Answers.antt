@@ -1,5 +1,4 @@
-use Rattle.std.proofs.Common.{ap, arith}
-use Rattle.dk_plan.specs.Budget.{with_budget}
+use Rattle.dk_plan.proofs.Names.{ap, arith, with_budget}
 use Rattle.dk_plan.proofs.Accepting.{accepted_from, certified_from}
 use Rattle.dk_plan.proofs.Unbroken.{unbroken-with, room_needed}
 use Rattle.dk_plan.proofs.planning.greatest_budget.Goals as goal

@@ -1,4 +1,4 @@
-use Rattle.std.proofs.Common.{◌≡◌, length, rules}
+use Rattle.dk_plan.proofs.Names.{◌≡◌, length, rules}
 use Rattle.dk_plan.proofs.Accepting.{fits_step, all_fit}
 use Rattle.dk_plan.proofs.planning.most_accepted.Goals as goal
 

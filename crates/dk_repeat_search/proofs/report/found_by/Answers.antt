@@ -1,6 +1,6 @@
 use Rattle.dk_repeat_search.proofs.Names.{◌∙◌, length, sym, ap, subst, arith, Workload, Running, shares_of, AreOwn, loaded_of}
 use Rattle.dk_repeat_search.proofs.Places.{many-own}
-use Rattle.dk_repeat_search.proofs.Told.{found-all, knows-reader}
+use Rattle.dk_repeat_search.proofs.Told.{found-all, knows-last}
 use Rattle.dk_repeat_search.proofs.report.found_by.Goals as goal
 
 pub settle-requires-clause-of : goal.settle-requires-clause-of
@@ -36,7 +36,7 @@ returns-clause-found g c =
     found-all (loaded_of c.args.kernel.now) c.search.new.kernel c.count_run.new.kernel c.search.new.self c.settle.new.self c.in_ok-counts.counts c.in_ok-own.own.items
     (ap loaded_of c.search.ensures.same) c.in_ok-counts.ensures.same c.in_ok-settle.ensures c.in_ok-counts.ensures.counted c.in_ok-own.ensures
 
-pub returns-clause-reader : goal.returns-clause-reader
-returns-clause-reader g c =
-    knows-reader (loaded_of c.args.kernel.now) c.search.new.kernel c.args.ticks c.search.new.self c.settle.new.self (ap loaded_of c.search.ensures.same) c.in_ok-settle.ensures
+pub returns-clause-last : goal.returns-clause-last
+returns-clause-last g c =
+    knows-last (loaded_of c.args.kernel.now) c.search.new.kernel c.args.ticks c.search.new.self c.settle.new.self (ap loaded_of c.search.ensures.same) c.in_ok-settle.ensures
     (λ none. let all = c.in_ok-search.ensures.all none in omega (arith, all, c.requires.begun))

@@ -1,4 +1,4 @@
-use Rattle.dk_repeat_search.proofs.Names.{◌∙◌, sym, ap, subst, IfOk, Workload, Running, shares_of, Found, IsSearching, loaded_of, IsFound, KnowsReader}
+use Rattle.dk_repeat_search.proofs.Names.{◌∙◌, sym, ap, subst, IfOk, Workload, Running, shares_of, Found, IsSearching, loaded_of, IsFound, KnowsLast}
 use Rattle.dk_repeat_search.proofs.report.searched_by.Goals as goal
 
 pub found_by-requires-clause-is : goal.found_by-requires-clause-is
@@ -14,6 +14,6 @@ found_by-requires-clause-shares g c =
 pub returns-in-Ok-clause-found : goal.returns-in-Ok-clause-found
 returns-in-Ok-clause-found g c = subst (λ (w : Workload). IfOk c.found_by.result (IsFound w)) (ap loaded_of c.in-Ok.ensures.ok) c.found_by.ensures.found
 
-pub returns-in-Ok-clause-reader : goal.returns-in-Ok-clause-reader
-returns-in-Ok-clause-reader g c =
-    subst (λ (w : Workload). IfOk c.found_by.result (λ (f : Found). KnowsReader w c.args.ticks f.run)) (ap loaded_of c.in-Ok.ensures.ok) c.found_by.ensures.reader
+pub returns-in-Ok-clause-last : goal.returns-in-Ok-clause-last
+returns-in-Ok-clause-last g c =
+    subst (λ (w : Workload). IfOk c.found_by.result (λ (f : Found). KnowsLast w c.args.ticks f.run)) (ap loaded_of c.in-Ok.ensures.ok) c.found_by.ensures.last

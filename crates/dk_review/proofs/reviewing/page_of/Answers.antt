@@ -4,11 +4,16 @@ pub returns : goal.returns
 returns c =
     record {
       told = c.in_ok-told.told;
+      stand = c.in_ok-needed.needed.standing;
+      first = c.in_ok-needed.needed.added;
       run = c.args.told_of_ledger.now;
+      second = c.in_ok-second.second;
       added = c.in_ok-added.added;
       is_told = c.in_ok-told.ensures;
+      needed = c.in_ok-needed.ensures;
       is_run = c.requires.ran;
-      adds = c.in_ok-added.ensures;
-      page = c.in_ok-page.ensures;
-      ends = c.audited_ending-ending.ensures;
+      adds = c.in_ok-second.ensures;
+      both = c.in_ok-added.ensures;
+      page = c.in_ok-bytes.ensures;
+      ends = c.run_ending-ending.ensures;
     }

@@ -10,12 +10,12 @@ pub returns-in-Ok-Some-clause-output : goal.returns-in-Ok-Some-clause-output
 returns-in-Ok-Some-clause-output g c =
     leaves_more g.S.Sink.seen _ _ c.args.sink.now c.put.new.sink c.put.result
     (λ speaks. work_stands (g.D.Depot.seen c.args.depot.now).files (map string_bytes c.args.words.now) c.in-Ok-Some.work
-    (g.D.Depot.seen c.args.depot.now).given (g.D.Depot.seen c.plan.new.depot).given (rw c.in-Ok-Some.field-0-is at c.in-Ok-Some.ensures.follows).told)
+    (g.D.Depot.seen c.args.depot.now).given (g.D.Depot.seen c.work_for.new.depot).given (rw c.in-Ok-Some.field-0-is at c.in-Ok-Some.ensures.follows).told)
     (rw c.in-Ok-Some.field-0-is at c.put.ensures.left)
 
 pub returns-in-Ok-Some-clause-received_bounded_granted : goal.returns-in-Ok-Some-clause-received_bounded_granted
 returns-in-Ok-Some-clause-received_bounded_granted g c =
-    kept (g.D.Depot.seen c.args.depot.now).files (map string_bytes c.args.words.now) (g.D.Depot.seen c.args.depot.now).given (g.D.Depot.seen c.plan.new.depot).given
+    kept (g.D.Depot.seen c.args.depot.now).files (map string_bytes c.args.words.now) (g.D.Depot.seen c.args.depot.now).given (g.D.Depot.seen c.work_for.new.depot).given
     c.in-Ok-Some.work c.put.result (rw c.in-Ok-Some.field-0-is at c.in-Ok-Some.ensures.follows).told
 
 pub returns-in-Ok-Some-clause-config : goal.returns-in-Ok-Some-clause-config
@@ -35,7 +35,7 @@ returns-in-Ok-Some-clause-program g c =
 
 pub returns-in-Ok-Some-clause-given : goal.returns-in-Ok-Some-clause-given
 returns-in-Ok-Some-clause-given g c =
-    given_for_work (g.D.Depot.seen c.args.depot.now).files (map string_bytes c.args.words.now) (g.D.Depot.seen c.args.depot.now).given (g.D.Depot.seen c.plan.new.depot).given
+    given_for_work (g.D.Depot.seen c.args.depot.now).files (map string_bytes c.args.words.now) (g.D.Depot.seen c.args.depot.now).given (g.D.Depot.seen c.work_for.new.depot).given
     c.in-Ok-Some.work c.put.result (rw c.in-Ok-Some.field-0-is at c.in-Ok-Some.ensures.follows).told
 
 -- ---- the usage line was written
@@ -44,7 +44,7 @@ pub returns-in-Ok-None-clause-output : goal.returns-in-Ok-None-clause-output
 returns-in-Ok-None-clause-output g c =
     leaves_more g.S.Sink.seen _ _ c.args.sink.now c.write_line.new.sink c.write_line.result
     (λ speaks text ended says. usage_stands (g.D.Depot.seen c.args.depot.now).files (map string_bytes c.args.words.now)
-    (g.D.Depot.seen c.args.depot.now).given (g.D.Depot.seen c.plan.new.depot).given (rw c.in-Ok-None.field-0-is at c.in-Ok-None.ensures.follows).told
+    (g.D.Depot.seen c.args.depot.now).given (g.D.Depot.seen c.work_for.new.depot).given (rw c.in-Ok-None.field-0-is at c.in-Ok-None.ensures.follows).told
     text ended (says.0 ∙ c.usage.ensures, says.1))
     c.write_line.ensures.left
 
@@ -72,13 +72,13 @@ returns-in-Ok-None-clause-program g c =
 
 pub returns-in-Ok-None-clause-given : goal.returns-in-Ok-None-clause-given
 returns-in-Ok-None-clause-given g c =
-    given_for_usage (g.D.Depot.seen c.args.depot.now).files (map string_bytes c.args.words.now) (g.D.Depot.seen c.args.depot.now).given (g.D.Depot.seen c.plan.new.depot).given
+    given_for_usage (g.D.Depot.seen c.args.depot.now).files (map string_bytes c.args.words.now) (g.D.Depot.seen c.args.depot.now).given (g.D.Depot.seen c.work_for.new.depot).given
     c.write_line.result (rw c.in-Ok-None.field-0-is at c.in-Ok-None.ensures.follows).told
 
 pub returns-in-Ok-None-clause-complete : goal.returns-in-Ok-None-clause-complete
 returns-in-Ok-None-clause-complete g c =
     completed g.S.Sink.seen c.args.sink.now c.write_line.new.sink c.write_line.result (map string_bytes c.args.words.now)
-    (g.D.Depot.seen c.args.depot.now).files (g.D.Depot.seen c.args.depot.now).faults (g.D.Depot.seen c.plan.new.depot).faults (returns-in-Ok-None-clause-output g c)
+    (g.D.Depot.seen c.args.depot.now).files (g.D.Depot.seen c.args.depot.now).faults (g.D.Depot.seen c.work_for.new.depot).faults (returns-in-Ok-None-clause-output g c)
     (λ is. search rules)
 
 -- ---- why it was refused was written
@@ -95,7 +95,7 @@ pub returns-in-Err-clause-output : goal.returns-in-Err-clause-output
 returns-in-Err-clause-output g c =
     leaves_more g.S.Sink.seen _ _ c.args.sink.now c.say.new.sink c.say.result
     (λ speaks. refusal_stands (g.D.Depot.seen c.args.depot.now).files (map string_bytes c.args.words.now) c.in-Err.refusal
-    (g.D.Depot.seen c.args.depot.now).given (g.D.Depot.seen c.plan.new.depot).given c.in-Err.ensures.follows.told
+    (g.D.Depot.seen c.args.depot.now).given (g.D.Depot.seen c.work_for.new.depot).given c.in-Err.ensures.follows.told
     (is_loud c.in-Err.refusal c.say.result c.say.ensures.silent speaks))
     c.say.ensures.left
 
@@ -121,7 +121,7 @@ returns-in-Err-clause-program g c =
 
 pub returns-in-Err-clause-given : goal.returns-in-Err-clause-given
 returns-in-Err-clause-given g c =
-    given_for_refusal (g.D.Depot.seen c.args.depot.now).files (map string_bytes c.args.words.now) (g.D.Depot.seen c.args.depot.now).given (g.D.Depot.seen c.plan.new.depot).given
+    given_for_refusal (g.D.Depot.seen c.args.depot.now).files (map string_bytes c.args.words.now) (g.D.Depot.seen c.args.depot.now).given (g.D.Depot.seen c.work_for.new.depot).given
     c.in-Err.refusal c.say.result c.say.ensures.silent c.in-Err.ensures.follows.told
 
 -- ---- a command that can be done
@@ -129,11 +129,11 @@ returns-in-Err-clause-given g c =
 pub returns-in-Ok-Some-clause-complete : goal.returns-in-Ok-Some-clause-complete
 returns-in-Ok-Some-clause-complete g c =
     completed g.S.Sink.seen c.args.sink.now c.put.new.sink c.put.result (map string_bytes c.args.words.now)
-    (g.D.Depot.seen c.args.depot.now).files (g.D.Depot.seen c.args.depot.now).faults (g.D.Depot.seen c.plan.new.depot).faults (returns-in-Ok-Some-clause-output g c)
+    (g.D.Depot.seen c.args.depot.now).files (g.D.Depot.seen c.args.depot.now).faults (g.D.Depot.seen c.work_for.new.depot).faults (returns-in-Ok-Some-clause-output g c)
     (λ is. search rules)
 
 pub returns-in-Err-clause-complete : goal.returns-in-Err-clause-complete
 returns-in-Err-clause-complete g c =
     completed g.S.Sink.seen c.args.sink.now c.say.new.sink c.say.result (map string_bytes c.args.words.now)
-    (g.D.Depot.seen c.args.depot.now).files (g.D.Depot.seen c.args.depot.now).faults (g.D.Depot.seen c.plan.new.depot).faults (returns-in-Err-clause-output g c)
+    (g.D.Depot.seen c.args.depot.now).files (g.D.Depot.seen c.args.depot.now).faults (g.D.Depot.seen c.work_for.new.depot).faults (returns-in-Err-clause-output g c)
     (λ is. search rules)

@@ -1,4 +1,4 @@
-use Rattle.dk_show.proofs.Names.{inl, inr, refl, sym, rules, Journal, IsOfPicture}
+use Rattle.dk_show.proofs.Names.{inl, inr, refl, subst, sym, rules, Journal, Promised, nothing_promised, IsOfPicture, IsPicture, Plans}
 use Rattle.dk_show.proofs.Planning.{plans_wider}
 use Rattle.dk_show.proofs.pictures.of_bytes.Goals as goal
 
@@ -14,9 +14,10 @@ returns-in-Ok-clause-plans c =
     let all = c.in-Ok.ensures.ok in
     let read = all.1 in
     let j : Journal = record { heading = c.in-Ok.survey.header; entries = all.0 } in
-    plans_wider _ (IsOfPicture c.args.range c.args.bytes.now)
+    let plans = c.within.ensures.plans j (record { readable = read.readable; text = read.text; heading = refl; count = sym all.2 }) in
+    plans_wider (IsPicture nothing_promised c.args.range j) (IsOfPicture c.args.range c.args.bytes.now)
     (λ t s drawn. inr (record { ledger = j; readable = read.readable; bytes_are = read.text; drawn = drawn }))
-    c.within.result (c.within.ensures.plans j (record { readable = read.readable; text = read.text; heading = refl; count = sym all.2 }))
+    c.within.result (subst (λ (x : Promised). Plans (IsPicture x c.args.range j) c.within.result) c.none-promise.ensures plans)
 
 pub returns-in-Err-Line-clause-plans : goal.returns-in-Err-Line-clause-plans
 returns-in-Err-Line-clause-plans c = λ told.

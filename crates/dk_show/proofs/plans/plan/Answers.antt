@@ -1,4 +1,4 @@
-use Rattle.dk_show.proofs.Names.{ℕ, List, sym, subst, IfSome, MAX_LEDGER_BYTES, Request, IsAllWrong, IsOfPicture, IsOfRequest, IsOfHeld, IsOfLoaded, IsOfRepeats, IsOfWindows, Plans}
+use Rattle.dk_show.proofs.Names.{ℕ, List, sym, subst, IfSome, MAX_LEDGER_BYTES, Request, IsAllWrong, IsOfShown, IsOfRequest, IsOfHeld, IsOfLoaded, IsOfRepeats, IsOfWindows, Plans}
 use Rattle.dk_show.specs.declared.refusal.Refusal.TheVariants as why
 use Rattle.dk_show.specs.Output.{IsOfNamed}
 use Rattle.dk_show.proofs.plans.plan.Goals as goal
@@ -8,7 +8,8 @@ returns-in-Picture-clause-plans g c =
     let files = (g.D.Depot.seen c.args.depot.now).files in
     let result = c.picture_plan.result in
     let range = c.in-Picture.range in
-    let named = subst (λ (name : List ℕ). IfSome files (λ at. Plans (IsOfNamed at name MAX_LEDGER_BYTES why.LongLedger (IsOfPicture range)) result)) c.as_str.ensures c.picture_plan.ensures.plans in
+    let file = c.in-Picture.file in
+    let named = subst (λ (name : List ℕ). IfSome files (λ at. Plans (IsOfShown file at range name) result)) c.as_str.ensures c.picture_plan.ensures.plans in
     subst (λ (r : Request). IfSome files (λ at. Plans (IsOfRequest r at) result)) (sym c.in-Picture.is) named
 
 pub returns-in-Windows-clause-plans : goal.returns-in-Windows-clause-plans

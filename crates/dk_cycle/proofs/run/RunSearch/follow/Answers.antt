@@ -2,6 +2,6 @@ use Rattle.dk_cycle.proofs.Stands.{followed}
 use Rattle.dk_cycle.proofs.run.RunSearch.follow.Goals as goal
 
 pub returns : goal.returns
-returns c = λ config programs tick checked accepted is adds here.
-    followed config programs tick c.args.self.now c.args.entry.now c.args.reader c.last_reader-self.result c.goes_on-self.result c.kept_law.ensures c.reads_law.ensures
-    c.goes_on-self.ensures.same c.last_reader-self.ensures checked accepted is adds here
+returns c = λ config programs checked accepted is adds here.
+    followed config programs c.args.tick c.args.self.now c.args.entry.now c.args.reader c.last_reader-self.result c.last_made-self.result c.goes_on-self.result c.kept_law.ensures c.reads_law.ensures
+    c.goes_on-self.ensures.same c.last_reader-self.ensures c.last_made-self.ensures checked accepted is adds here

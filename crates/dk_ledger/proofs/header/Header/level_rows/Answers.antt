@@ -1,11 +1,9 @@
-use Rattle.std.proofs.Common.{◌≡◌, ◌∙◌, sym, ap, ◌++◌, ◌∷◌, [], length, take, arith, rules}
-use Rattle.dk_ledger.proofs.NameLemmas.{take_row, take_all}
+use Rattle.dk_ledger.proofs.Names.{◌≡◌, ◌∙◌, ap, length, take, arith, nat_tests}
+use Rattle.dk_ledger.proofs.NameLemmas.{take_all}
 use Rattle.dk_ledger.proofs.header.Header.level_rows.Goals as goal
 
 pub loop-level-preserved : goal.loop-level-preserved
-loop-level-preserved c =
-    let pushed : c.push.new.self.items ≡ c.loop-level.rows.items ++ c.row.result ∷ [] = search rules in
-    pushed ∙ ap (λ rows. rows ++ c.row.result ∷ []) c.loop-level.invariant ∙ sym (take_row c.args.table.now c.loop-level.level c.row.result c.row.ensures)
+loop-level-preserved c = grind (arith, nat_tests)
 
 pub returns : goal.returns
 returns c =

@@ -1,4 +1,4 @@
-use Rattle.std.proofs.Common.{◌≡◌, take}
+use Rattle.dk_ledger.proofs.Names.{◌≡◌, take}
 use Rattle.dk_ledger.proofs.header.Header.level_rows.Given as goal
 
 abbrev pub invariant-loop-level : goal.invariant-loop-level

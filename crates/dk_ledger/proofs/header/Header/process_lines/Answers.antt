@@ -1,5 +1,4 @@
-use Rattle.std.proofs.Common.{◌≡◌, ◌∙◌, ◌<◌, ◌++◌, ◌∷◌, [], ap, sym, subst, map, take, length, arith}
-use Rattle.dk_ledger.specs.Heading.{line_of_row}
+use Rattle.dk_ledger.proofs.Names.{◌≡◌, ◌∙◌, ◌<◌, ◌++◌, ◌∷◌, [], ap, sym, subst, map, take, length, arith, line_of_row}
 use Rattle.dk_ledger.proofs.NameLemmas.{take_all, map_row}
 use Rattle.dk_ledger.proofs.header.Header.process_lines.Goals as goal
 

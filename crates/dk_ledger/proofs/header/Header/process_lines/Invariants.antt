@@ -1,5 +1,4 @@
-use Rattle.std.proofs.Common.{◌≡◌, take, map}
-use Rattle.dk_ledger.specs.Heading.{line_of_row}
+use Rattle.dk_ledger.proofs.Names.{◌≡◌, take, map, line_of_row}
 use Rattle.dk_ledger.proofs.header.Header.process_lines.Given as goal
 
 abbrev pub invariant-loop-row : goal.invariant-loop-row

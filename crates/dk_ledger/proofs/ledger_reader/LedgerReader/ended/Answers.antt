@@ -1,8 +1,4 @@
-use Rattle.std.proofs.Common.{◌≡◌, ◌∙◌, [], length, true, sym, ap, subst}
-use Rattle.std.specs.Prelude.{◌==◌}
-use Rattle.std.proofs.lemmas.Bool.{eqb-true}
-use Rattle.std.proofs.lemmas.List.{nil_from_length}
-use Rattle.dk_ledger.specs.Readable.{IsWrongLine, IsNoText}
+use Rattle.dk_ledger.proofs.Names.{◌≡◌, ◌∙◌, [], length, true, sym, ap, subst, ◌==◌, eqb-true, nil_from_length, IsWrongLine, IsNoText, nat_tests, arith}
 use Rattle.dk_ledger.proofs.NextItem.{one_side}
 use Rattle.dk_ledger.proofs.Readings.{wrong_end, whole_read}
 use Rattle.dk_ledger.proofs.ledger_reader.LedgerReader.ended.Goals.{then-not-is_ended-via-then-not-is_ended, then-not-is_ended-via-else-not-is_ended+then-not-is_empty}
@@ -23,9 +19,4 @@ returns-then-not-is_ended-clause-line c = λ n bytes es e read.
     subst (λ m. IsWrongLine m bytes × IsNoText bytes) (sym line ∙ same) here
 
 pub returns-clause-end : goal.returns-clause-end
-returns-clause-end c = λ bytes es read.
-    let kept = ap (λ r. r.kept) c.self.view_is in
-    let rest = ap (λ r. r.rest) c.self.view_is in
-    let ended = ap (λ k. k.ended) (sym kept) ∙ sym c.is_ended.ensures ∙ c.if-not-is_ended.false in
-    let empty = nil_from_length c.self.inside.rest.now (eqb-true (length c.self.inside.rest.now) 0 (sym c.is_empty.ensures ∙ c.if-not-is_empty.false)) in
-    whole_read bytes es c.args.self.now read ended (sym rest ∙ empty)
+returns-clause-end c = grind (arith, nat_tests, nil_from_length, eqb-true, whole_read)

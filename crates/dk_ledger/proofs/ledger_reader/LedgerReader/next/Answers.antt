@@ -1,8 +1,4 @@
-use Rattle.std.proofs.Common.{ℕ, List, ◌≡◌, ◌∙◌, ◌++◌, arith, ap, sym, subst}
-use Rattle.dk_trace.specs.declared.Entry.{Entry}
-use Rattle.dk_ledger.specs.Cuts.{entries_of}
-use Rattle.dk_ledger.specs.ReadSoFar.{HasRead, entries_in}
-use Rattle.dk_ledger.specs.declared.ledger.LedgerFault.{LedgerFault}
+use Rattle.dk_ledger.proofs.Names.{ℕ, List, ◌≡◌, ◌∙◌, ◌++◌, arith, ap, sym, Entry, entries_of, HasRead, entries_in, LedgerFault, nat_tests}
 use Rattle.dk_ledger.proofs.NextItem.{if_ok}
 use Rattle.dk_ledger.proofs.Readings.{no_ticks, some_ticks, some_last, same_heading, header_printable, is_given, comes_next, passed_on, some_of}
 use Rattle.dk_ledger.proofs.ledger_reader.LedgerReader.next.Goals as goal
@@ -117,9 +113,4 @@ returns-then-ticks-clause-printable c =
     header_printable bytes (es ++ entries_in further.item) c.take_line.new.self further.read
 
 pub returns-clause-printable : goal.returns-clause-printable
-returns-clause-printable c =
-    let bytes = c.requires.0 in
-    let es = c.requires.1 in
-    let now = c.loop-self.invariant.read bytes es c.requires.2 in
-    let same = if_ok c.take_line.result c.in_ok-take_line.field-0 _ c.in_ok-take_line.was c.take_line.ensures.same c.if-branch.false in
-    header_printable bytes es c.take_line.new.self (subst (HasRead bytes es) (sym same) now)
+returns-clause-printable c = grind (arith, nat_tests, if_ok, header_printable)

@@ -1,6 +1,4 @@
-use Rattle.std.proofs.Common.{ℕ, List, ◌≡◌, ◌<◌, ◌≤◌, length}
-use Rattle.dk_trace.specs.declared.Entry.{Entry}
-use Rattle.dk_ledger.specs.ReadSoFar.{HasRead, IsReading}
+use Rattle.dk_ledger.proofs.Names.{ℕ, List, ◌≡◌, ◌<◌, ◌≤◌, length, Entry, HasRead, IsReading}
 use Rattle.dk_ledger.proofs.ledger_reader.LedgerReader.next.Given as goal
 
 -- no entry has been read yet

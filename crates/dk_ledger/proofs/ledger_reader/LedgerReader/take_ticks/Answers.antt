@@ -1,14 +1,9 @@
-use Rattle.std.proofs.Common.{◌∙◌, ◌∷◌, [], ap, arith, append_assoc, refl}
-use Rattle.dk_ledger.specs.LineText.{line_body}
-use Rattle.dk_ledger.specs.ReadSoFar.{Item, Takes, keeping}
+use Rattle.dk_ledger.proofs.Names.{◌∙◌, ◌∷◌, [], ap, arith, append_assoc, refl, line_body, Item, Takes, keeping, nat_tests}
 use Rattle.dk_ledger.proofs.Readings.{further_read, few_lines_read}
 use Rattle.dk_ledger.proofs.ledger_reader.LedgerReader.take_ticks.Goals as goal
 
 pub overflow_add-self : goal.overflow_add-self
-overflow_add-self c =
-    let few = few_lines_read c.requires.reading.0 c.requires.reading.1 c.args.self.now c.requires.reading.2 in
-    let line = ap (λ r. r.line) c.self.view_is in
-    omega (arith, few, line)
+overflow_add-self c = grind (arith, nat_tests, few_lines_read)
 
 pub returns-clause-taken : goal.returns-clause-taken
 returns-clause-taken c = λ bytes es read.

@@ -1,5 +1,4 @@
-use Rattle.std.proofs.Common.{◌≡◌, false}
-use Rattle.dk_ledger.specs.ReadSoFar.{TakesNone}
+use Rattle.dk_ledger.proofs.Names.{◌≡◌, false, TakesNone, nat_tests, arith}
 use Rattle.dk_ledger.proofs.NextItem.{one_side}
 use Rattle.dk_ledger.proofs.FirstWord.{ok_weaker, none_but_level, none_but_process, none_but_end, none_but_ticks}
 use Rattle.dk_ledger.proofs.reader.Reader.take_words.Goals as goal
@@ -15,10 +14,7 @@ returns-then-begins-2-clause-refused c =
     (λ b refused no. none_but_process c.args.self.now c.args.line.now c.args.words.now c.requires.words c.requires.part (c.begins-2.ensures.0 c.if-begins-2.true) (refused no))
 
 pub returns-then-begins-3-clause-refused : goal.returns-then-begins-3-clause-refused
-returns-then-begins-3-clause-refused c = λ no.
-    none_but_end c.args.self.now c.args.line.now c.args.words.now c.requires.words c.requires.part (c.begins-3.ensures.0 c.if-begins-3.true) (c.take_end.ensures.refused no)
+returns-then-begins-3-clause-refused c = grind (arith, nat_tests, none_but_end)
 
 pub returns-clause-refused : goal.returns-clause-refused
-returns-clause-refused c = λ no.
-    none_but_ticks c.args.self.now c.args.line.now c.args.words.now c.requires.words c.requires.part
-    (λ e. one_side (c.begins.ensures.1 e) c.if-begins.false) (λ e. one_side (c.begins-2.ensures.1 e) c.if-begins-2.false) (λ e. one_side (c.begins-3.ensures.1 e) c.if-begins-3.false) (c.take_ticks.ensures.refused no)
+returns-clause-refused c = grind (arith, nat_tests, none_but_ticks, one_side)

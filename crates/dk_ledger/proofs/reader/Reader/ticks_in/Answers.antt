@@ -1,6 +1,4 @@
-use Rattle.std.proofs.Common.{sym, subst}
-use Rattle.dk_ledger.specs.Heading.{IsPrintable}
-use Rattle.dk_ledger.specs.ReadSoFar.{Kept}
+use Rattle.dk_ledger.proofs.Names.{sym, subst, IsPrintable, Kept}
 use Rattle.dk_ledger.proofs.NextItem.{part_printable}
 use Rattle.dk_ledger.proofs.reader.Reader.ticks_in.Goals as goal
 

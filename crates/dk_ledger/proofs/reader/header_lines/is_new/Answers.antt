@@ -1,8 +1,5 @@
-use Rattle.std.proofs.Common.{◌≡◌, ◌∙◌, ap, sym, refl, rules, true, false}
-use Rattle.std.specs.Prelude.{Bool, Option, Some, None, not}
-use Rattle.std.specs.List.{position}
-use Rattle.std.specs.Option.{is_some}
-use Rattle.std.specs.Str.{bytes_eq}
+use Rattle.dk_ledger.proofs.Names.{◌≡◌, ◌∙◌, ap, refl, true, false, Option, Some, None, not, is_some, nat_tests, arith}
+use Rattle.std.specs.Prelude.{Bool}
 use Rattle.dk_ledger.proofs.NextItem.{unnamed, no_name, none_passes, no_place}
 use Rattle.dk_ledger.proofs.reader.header_lines.is_new.Goals as goal
 
@@ -15,10 +12,4 @@ is_true true e = refl
 is_true false e = absurd cc
 
 pub returns : goal.returns
-returns c =
-    let lines = c.args.header.now.processes in
-    let name = c.args.name.now in
-    let found : c.place_of.result ≡ position (λ line. bytes_eq line.name name) lines = search rules in (
-      λ yes. unnamed lines name (none_passes (λ line. bytes_eq line.name name) lines (sym found ∙ is_nothing c.place_of.result c.is_none.result c.is_none.ensures yes)),
-      λ other. is_true c.is_none.result (sym (ap is_some (found ∙ no_place (λ line. bytes_eq line.name name) lines (no_name lines name other))) ∙ c.is_none.ensures),
-    )
+returns c = grind (arith, nat_tests, unnamed, none_passes, is_nothing, is_true, no_place, no_name)

@@ -1,8 +1,4 @@
-use Rattle.std.proofs.Common.{◌≡◌, ◌++◌, ◌∙◌, ap, sym, rules}
-use Rattle.std.specs.Prelude.{codes, decimal, IsErr}
-use Rattle.dk_outside.proofs.WrittenLemmas.{first_fails, second_ends}
-use Rattle.dk_ledger.specs.Heading.{ended}
-use Rattle.dk_ledger.specs.Ledgers.{last_text, end_line, ending_text}
+use Rattle.dk_ledger.proofs.Names.{◌≡◌, ◌++◌, ◌∙◌, ap, sym, rules, codes, decimal, IsErr, first_fails, second_ends, ended, last_text, end_line, ending_text}
 use Rattle.dk_ledger.proofs.CutLemmas.{whole_text}
 use Rattle.dk_ledger.proofs.run_writer.RunWriter.finish.Goals as goal
 

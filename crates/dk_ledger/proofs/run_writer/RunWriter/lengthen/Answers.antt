@@ -1,9 +1,4 @@
-use Rattle.std.proofs.Common.{◌≡◌, ◌∙◌, ◌+◌, ℕ, length, take, ap, sym, subst, arith, refl}
-use Rattle.std.specs.Prelude.{Option, Some, None, decimal}
-use Rattle.std.specs.Option.{option_map, option_map_or}
-use Rattle.dk_trace.specs.declared.Event.{Event}
-use Rattle.dk_ledger.specs.declared.line.LedgerLine.{LedgerLine}
-use Rattle.dk_ledger.specs.Stretches.{lengthened}
+use Rattle.dk_ledger.proofs.Names.{◌≡◌, ◌∙◌, ◌+◌, ℕ, length, take, ap, sym, subst, arith, refl, Option, Some, None, decimal, option_map, option_map_or, Event, LedgerLine, lengthened}
 use Rattle.dk_ledger.proofs.run_writer.RunWriter.lengthen.Goals as goal
 use Rattle.dk_ledger.proofs.Readings.{some_of}
 

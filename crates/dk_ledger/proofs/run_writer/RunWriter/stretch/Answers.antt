@@ -1,10 +1,4 @@
-use Rattle.std.proofs.Common.{◌≡◌, ◌≤◌, ◌+◌, ◌++◌, List, ℕ}
-use Rattle.std.specs.Prelude.{Result, Ok, Err, OnOk, Some}
-use Rattle.dk_outside.specs.declared.sink.SinkError.{SinkError}
-use Rattle.dk_trace.specs.declared.Entry.{Entry}
-use Rattle.dk_ledger.specs.Heading.{Heading}
-use Rattle.dk_ledger.specs.Ledgers.{IsAfter, Progress}
-use Rattle.dk_ledger.specs.Stretches.{last_after_stretch, stretch_of}
+use Rattle.dk_ledger.proofs.Names.{◌≡◌, ◌≤◌, ◌+◌, ◌++◌, List, ℕ, Result, Ok, Err, OnOk, Some, SinkError, Entry, Heading, IsAfter, Progress, last_after_stretch, stretch_of, nat_tests, arith}
 use Rattle.dk_ledger.proofs.Stretching.{after_stretch, closed_stretch}
 use Rattle.dk_ledger.proofs.run_writer.RunWriter.stretch.Goals as goal
 
@@ -15,8 +9,7 @@ after_ok h (Ok x) es w next e count some after is = after_stretch h es w after e
 after_ok h (Err x) es w next e count some after is = tt
 
 pub returns-clause-after : goal.returns-clause-after
-returns-clause-after g c = λ es after.
-    after_ok c.args.header.now c.several.result es c.args.self.now.progress c.several.new.self.progress c.args.entry c.args.count c.requires.some after c.several.ensures.next
+returns-clause-after g c = grind (arith, nat_tests, after_ok)
 
 pub returns-clause-text : goal.returns-clause-text
 returns-clause-text g c = λ es after. closed_stretch c.args.header.now es c.args.self.now.progress after c.args.entry c.args.count c.requires.some

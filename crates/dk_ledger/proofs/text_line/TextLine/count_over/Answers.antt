@@ -1,6 +1,5 @@
-use Rattle.std.proofs.Common.{ℕ, ◌≡◌, ◌∙◌, ◌+◌, ◌-◌, ◌++◌, ◌≤◌, length, take, drop, arith, ap, sym}
-use Rattle.std.specs.Prelude.{decimal, true, false}
-use Rattle.std.proofs.lemmas.List.{length-take-le}
+use Rattle.dk_ledger.proofs.Names.{ℕ, ◌≡◌, ◌∙◌, ◌+◌, ◌-◌, ◌++◌, ◌≤◌, length, take, drop, arith, ap, sym, decimal, length-take-le}
+use Rattle.std.specs.Prelude.{true, false}
 use Rattle.dk_ledger.proofs.NumberText.{front_written}
 use Rattle.dk_ledger.proofs.text_line.TextLine.count_over.Goals as goal
 

@@ -1,7 +1,4 @@
-use Rattle.std.proofs.Common.{◌≡◌, ◌∙◌, ◌+◌, ◌++◌, length, take, arith, ap, length-append}
-use Rattle.std.specs.Prelude.{decimal}
-use Rattle.std.proofs.lemmas.Fmt.{length-decimal-le}
-use Rattle.std.proofs.lemmas.List.{length-take-le}
+use Rattle.dk_ledger.proofs.Names.{◌≡◌, length, take, arith, ap, length-append, decimal, length-decimal-le, length-take-le, nat_tests}
 use Rattle.dk_ledger.proofs.NumberText.{take_written}
 use Rattle.dk_ledger.proofs.text_line.TextLine.digits.Goals as goal
 
@@ -19,12 +16,7 @@ write_digits-requires c =
     (omega (arith, c.digits_of.ensures), omega (arith, short, c.digits_of.ensures, long, same, c.self.told, c.requires))
 
 pub returns-clause-bytes : goal.returns-clause-bytes
-returns-clause-bytes c =
-    let line = c.self.inside in
-    let start : c.write_digits.result ≡ line.len = omega (arith, c.write_digits.ensures.start, c.digits_of.ensures) in
-    ap (λ n. take (line.len + n) c.write_digits.new.buf) c.digits_of.ensures
-    ∙ take_written c.write_digits.new.buf line.bytes (decimal c.args.n) _ line.len (rw start at c.write_digits.ensures.written) (rw start at c.write_digits.ensures.before)
-    ∙ ap (λ t. t ++ decimal c.args.n) c.self.view_is
+returns-clause-bytes c = grind (arith, nat_tests, take_written)
 
 pub returns-clause-len : goal.returns-clause-len
 returns-clause-len c =

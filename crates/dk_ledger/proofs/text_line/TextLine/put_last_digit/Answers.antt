@@ -1,7 +1,4 @@
-use Rattle.std.proofs.Common.{ℕ, ◌≡◌, ◌∙◌, ◌+◌, ◌-◌, ◌/◌, ◌%◌, ◌++◌, ◌<◌, ◌≤◌, ◌^◌, length, take, drop, arith, ap, sym, length-append}
-use Rattle.std.specs.Prelude.{decimal, slice_set}
-use Rattle.std.proofs.lemmas.Fmt.{decimal_step}
-use Rattle.std.proofs.lemmas.List.{length-take-le, drop-set-lt}
+use Rattle.dk_ledger.proofs.Names.{ℕ, ◌≡◌, ◌∙◌, ◌+◌, ◌-◌, ◌/◌, ◌%◌, ◌++◌, ◌<◌, ◌≤◌, ◌^◌, length, take, drop, arith, ap, sym, length-append, decimal, slice_set, decimal_step, length-take-le, drop-set-lt}
 use Rattle.dk_ledger.proofs.NumberText.{next_digit, length_before, front_within, take_within, front_changed}
 use Rattle.dk_ledger.proofs.text_line.TextLine.put_last_digit.Goals as goal
 

@@ -1,6 +1,4 @@
-use Rattle.std.proofs.Common.{◌∙◌, ◌/◌, ◌%◌, ◌++◌, ap, sym, arith, append_assoc}
-use Rattle.std.specs.Prelude.{decimal}
-use Rattle.std.proofs.lemmas.Fmt.{decimal_digit, decimal_step}
+use Rattle.dk_ledger.proofs.Names.{◌∙◌, ◌/◌, ◌%◌, ◌++◌, ap, sym, arith, append_assoc, decimal, decimal_digit, decimal_step}
 use Rattle.dk_ledger.proofs.text_line.TextLine.two_digits.Goals as goal
 
 pub returns-clause-bytes : goal.returns-clause-bytes

@@ -1,5 +1,4 @@
-use Rattle.std.proofs.Common.{◌∙◌, ap, length, length-append, arith}
-use Rattle.std.proofs.lemmas.Grind.{common_steps}
+use Rattle.dk_ledger.proofs.Names.{◌∙◌, ap, length, length-append, arith, common_steps}
 use Rattle.dk_ledger.proofs.text_line.TextLine.word.Goals as goal
 
 pub returns-clause-bytes : goal.returns-clause-bytes

@@ -1,0 +1,113 @@
+//! What the words ask for.
+ghost use Rattle.std.specs.Prelude.{◌≡◌, map, option_map, string_bytes};
+ghost use Rattle.dk_page_prog.specs.Asking.{asked, is_name, is_page, is_range, is_needs, ledger_asked, needs_asked, range_asked, range_of};
+
+use crate::numbers::ticks_in;
+use dk_review::Range;
+
+/// Whether the word isn't empty, and doesn't begin as a flag does.
+fn is_name(word: &[u8]) -> bool
+    ensures { result ≡ is_name word.now }
+{
+    match word {
+        [first, ..] => *first != b'-',
+        [] => false,
+    }
+}
+
+fn is_page(verb: &str, name: &str) -> bool
+    ensures { result ≡ is_page verb.now name.now }
+{
+    verb == "page" && is_name(name.as_bytes())
+}
+
+/// The range of these words, where they are two ticks, the first below the second.
+fn range_of(from: &str, to: &str) -> Option<Range>
+    ensures { result ≡ range_of from.now to.now }
+{
+    let from = ticks_in(from)?;
+    let to = ticks_in(to)?;
+    if from < to {
+        Some(Range { from, to })
+    } else {
+        None
+    }
+}
+
+fn is_range(from: &str, to: &str) -> bool
+    ensures { result ≡ is_range from.now to.now }
+{
+    range_of(from, to).is_some()
+}
+
+/// Whether these words name a file of needs.
+fn is_needs(flag: &str, needs: &str) -> bool
+    ensures { result ≡ is_needs flag.now needs.now }
+{
+    flag == "--needs" && is_name(needs.as_bytes())
+}
+
+/// The name of the file whose page the words ask for.
+pub(crate) fn asked(words: &[String]) -> Option<&str>
+    ensures { option_map (λ n. n.now) result ≡ asked (map string_bytes words.now) }
+{
+    match words {
+        [_, verb, name] if is_page(verb.as_str(), name.as_str()) => Some(name.as_str()),
+        [_, verb, name, ledger]
+            if is_page(verb.as_str(), name.as_str()) && is_name(ledger.as_bytes()) => {
+            Some(name.as_str())
+        }
+        [_, verb, name, flag, needs]
+            if is_page(verb.as_str(), name.as_str()) && is_needs(flag.as_str(), needs.as_str()) => {
+            Some(name.as_str())
+        }
+        [_, verb, name, ledger, first, second]
+            if is_page(verb.as_str(), name.as_str())
+                && is_name(ledger.as_bytes())
+                && (is_range(first.as_str(), second.as_str())
+                    || is_needs(first.as_str(), second.as_str())) => { Some(name.as_str()) }
+        [_, verb, name, ledger, from, to, flag, needs]
+            if is_page(verb.as_str(), name.as_str())
+                && is_name(ledger.as_bytes())
+                && is_range(from.as_str(), to.as_str())
+                && is_needs(flag.as_str(), needs.as_str()) => { Some(name.as_str()) }
+        _ => None,
+    }
+}
+
+/// The name of the ledger, where a page is asked for and the words name one.
+pub(crate) fn ledger_asked(words: &[String]) -> Option<&str>
+    ensures { option_map (λ n. n.now) result ≡ ledger_asked (map string_bytes words.now) }
+{
+    match words {
+        [_, _, _, ledger] => Some(ledger.as_str()),
+        [_, _, _, ledger, _, _] => Some(ledger.as_str()),
+        [_, _, _, ledger, _, _, _, _] => Some(ledger.as_str()),
+        _ => None,
+    }
+}
+
+/// The range of the picture, where a page is asked for and the words name one.
+pub(crate) fn range_asked(words: &[String]) -> Option<Range>
+    ensures { result ≡ range_asked (map string_bytes words.now) }
+{
+    match words {
+        [_, _, _, _, from, to] => range_of(from.as_str(), to.as_str()),
+        [_, _, _, _, from, to, _, _] => range_of(from.as_str(), to.as_str()),
+        _ => None,
+    }
+}
+
+/// The name of the file of needs, where a page is asked for and the words name one.
+pub(crate) fn needs_asked(words: &[String]) -> Option<&str>
+    ensures { option_map (λ n. n.now) result ≡ needs_asked (map string_bytes words.now) }
+{
+    match words {
+        [_, _, _, _, needs] => Some(needs.as_str()),
+        [_, _, _, _, flag, needs] if is_needs(flag.as_str(), needs.as_str()) => {
+            Some(needs.as_str())
+        }
+        [_, _, _, _, _, _, _, needs] => Some(needs.as_str()),
+        _ => None,
+    }
+}

@@ -1,0 +1,13 @@
+use Rattle.dk_review.proofs.reviewing.of_certified.Goals as goal
+
+pub returns : goal.returns
+returns c =
+    record {
+      told = c.in_ok-told.told;
+      stand = c.in_ok-needed.needed.standing;
+      added = c.in_ok-needed.needed.added;
+      is_told = c.in_ok-told.ensures;
+      needed = c.in_ok-needed.ensures;
+      page = c.in_ok-bytes.ensures;
+      ends = c.needs_ending-ending.ensures;
+    }

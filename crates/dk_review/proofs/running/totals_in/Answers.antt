@@ -1,0 +1,4 @@
+use Rattle.dk_review.proofs.running.totals_in.Goals as goal
+
+pub returns-in-Err-Line-clause-fault : goal.returns-in-Err-Line-clause-fault
+returns-in-Err-Line-clause-fault c = c.report_texts.ensures.line c.in-Err-Line.line (cc)
