@@ -1,5 +1,5 @@
 use Rattle.std.proofs.Common.{ℕ, List, subst}
-use Rattle.std.specs.Prelude.{IfOk, option_map}
+use Rattle.std.specs.Prelude.{IfOk}
 use Rattle.dk_page_prog.specs.Answers.{IsOfFiles}
 use Rattle.dk_page_prog.proofs.Reading.{of_read}
 use Rattle.dk_page_prog.proofs.answers.of_asked.Goals as goal
