@@ -39,6 +39,7 @@ fn marks_of(command: Command) -> &'static str
     ensures { result.now ≡ marks_text (form_of command).marks }
 {
     match command {
+        Command::Picture => "--config",
         Command::Windows => "--strict|--sparing|--all|--csv",
         Command::Tell(_) | Command::Impact => "--csv",
         Command::Chain => "--ledger",
