@@ -37,7 +37,7 @@ pub knows-last : (w : Workload) (k : Running) (ticks : ℕ) (before after : Sear
     → KnowsLast w ticks after.run
 knows-last w k ticks before after of settled all = λ none.
     subst (λ (v : Workload). AreLast v ticks after.run.reader after.run.made) of
-    (subst (λ n. AreLast (loaded_of k) n after.run.reader after.run.made) (all (settled.had none)) (record { reader = settled.is.run.reader; made = settled.is.run.made }))
+    (subst (λ n. AreLast (loaded_of k) n after.run.reader after.run.made) (all (settled.had none)) (record { reader_is = settled.is.run.reader; made_is = settled.is.run.made }))
 
 told-last : (w : Workload) (ticks : ℕ) (o : Option Cycle) (reader : Option ℕ) (made : Option Made) → (o ≡ None → AreLast w ticks reader made)
     → o ≡ None → AreLast w ticks (reader_by o reader) (made_by o made)

@@ -19,8 +19,8 @@ searched_ticks ticks = if nat_lt ticks MAX_RUN_TICKS then ticks else MAX_RUN_TIC
 
 -- A thread of this process read the tick last in so many ticks, or nobody did; and this child was made last in them, or none was.
 pub record AreLast (w : Workload) (ticks : ℕ) (reader : Option ℕ) (made : Option Made) : Type 0 where
-  pub reader : IsLastReader w.config w.programs ticks reader
-  pub made : IsLastMade w.config w.programs ticks made
+  pub reader_is : IsLastReader w.config w.programs ticks reader
+  pub made_is : IsLastMade w.config w.programs ticks made
 
 -- so it is where a search found no cycle
 abbrev pub KnowsLast : Workload → ℕ → RunSearch → Type 0
