@@ -78,9 +78,11 @@ all_read None name needs ledger h d n l = tt
 all_read (Some at) name needs ledger h d n l = record { document = d; needs_are = n; ledger_is = l }
 
 -- nothing was read where no file is named
-pub none_read : (files : Option (List ℕ → Option (List ℕ))) (limit : ℕ) → IfSome files (λ at. IsReadAt at None limit [])
-none_read None limit = tt
-none_read (Some at) limit = ([], refl, refl)
+pub none_read : (files : Option (List ℕ → Option (List ℕ))) (name : Option (List ℕ)) (limit : ℕ) → name ≡ None
+    → IfSome files (λ at. IsReadAt at name limit [])
+none_read None name limit none = tt
+none_read (Some at) None limit none = ([], refl, refl)
+none_read (Some at) (Some name) limit none = absurd (cc)
 
 pub wider : {E : Type 0} (P Q : Answer → Type 0) (r : Result Answer E) → ((a : Answer) → P a → Q a) → IfOk r P → IfOk r Q
 wider P Q (Ok a) all is = all a is
