@@ -18,7 +18,7 @@ range_between (Some from) (Some to) = if nat_lt from to then Some (record { from
 range_between _ _ = None
 
 -- the range of two words that are ticks, the first below the second
-abbrev pub range_of : List ℕ → List ℕ → Option Range
+unfoldable pub range_of : List ℕ → List ℕ → Option Range
 range_of from to = range_between (ticks_in from) (ticks_in to)
 
 abbrev pub is_range : List ℕ → List ℕ → Bool

@@ -22,6 +22,7 @@ fn is_page(verb: &str, name: &str) -> bool
 }
 
 /// The range of these words, where they are two ticks, the first below the second.
+#[tactic(auto, unfolding(crate::specs::Asking::range_of))]
 fn range_of(from: &str, to: &str) -> Option<Range>
     ensures { result ≡ range_of from.now to.now }
 {
