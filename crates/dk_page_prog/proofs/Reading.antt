@@ -1,5 +1,5 @@
 -- A file that was read up to one byte more than it may have.
-use Rattle.std.proofs.Common.{◌≤◌, ◌+◌, ◌≡◌, ℕ, List, [], inl, inr, length, refl, take, arith, subst}
+use Rattle.std.proofs.Common.{◌≤◌, ◌+◌, ◌≡◌, ℕ, List, [], inl, inr, length, refl, sym, take, arith, subst, ◌∙◌}
 use Rattle.std.proofs.lemmas.List.{length-take, take_all}
 use Rattle.std.specs.Prelude.{IfOk, IfSome, Option, Some, None, Result, Ok, Err}
 use Rattle.dk_config.specs.declared.TheConstants.{MAX_CONFIG_BYTES, MAX_LEDGER_BYTES}
@@ -52,11 +52,12 @@ same_files name needs ledger range a d h b e i c ds hs bs is =
 
 -- so what was read comes to what the files come to
 pub of_read : (files : Option (List ℕ → Option (List ℕ))) (name : List ℕ) (needs ledger : Option (List ℕ)) (range : Option Range)
-    (h : Held) (result : Result Answer DepotError) → IfSome files (λ at. AreRead at name needs ledger h)
-    → IfOk result (λ a. IsOfFiles name needs ledger range a h.document.items h.needs.items h.ledger.items)
+    (h : Held) (document held bytes : List ℕ) (result : Result Answer DepotError) → document ≡ h.document.items → held ≡ h.needs.items
+    → bytes ≡ h.ledger.items → IfSome files (λ at. AreRead at name needs ledger h)
+    → IfOk result (λ a. IsOfFiles name needs ledger range a document held bytes)
     → IfSome files (λ at. IfOk result (IsAsked at name needs ledger range))
-of_read None name needs ledger range h result read is = tt
-of_read (Some at) name needs ledger range h (Ok a) read is = record {
+of_read None name needs ledger range h document held bytes result ds hs bs read is = tt
+of_read (Some at) name needs ledger range h document held bytes (Ok a) ds hs bs read is = record {
   document = read.document.0;
   held = read.needs_are.0;
   bytes = read.ledger_is.0;
@@ -64,9 +65,15 @@ of_read (Some at) name needs ledger range h (Ok a) read is = record {
   has_needs = read.needs_are.1;
   has_ledger = read.ledger_is.1;
   comes = files_whole name needs ledger range a read.document.0 read.needs_are.0 read.ledger_is.0
-      (same_files name needs ledger range a _ _ _ _ _ _ read.document.2 read.needs_are.2 read.ledger_is.2 is);
+      (same_files name needs ledger range a document held bytes _ _ _ (ds ∙ read.document.2) (hs ∙ read.needs_are.2)
+      (bs ∙ read.ledger_is.2) is);
 }
-of_read (Some at) name needs ledger range h (Err e) read is = tt
+of_read (Some at) name needs ledger range h document held bytes (Err e) ds hs bs read is = tt
+
+-- the depot has the same files later
+pub read_later : (later files : Option (List ℕ → Option (List ℕ))) (name : Option (List ℕ)) (limit : ℕ) (bytes : List ℕ) → later ≡ files
+    → IfSome later (λ at. IsReadAt at name limit bytes) → IfSome files (λ at. IsReadAt at name limit bytes)
+read_later later files name limit bytes same read = subst (λ fs. IfSome fs (λ at. IsReadAt at name limit bytes)) same read
 
 -- three files that were read
 pub all_read : (files : Option (List ℕ → Option (List ℕ))) (name : List ℕ) (needs ledger : Option (List ℕ)) (h : Held)
@@ -78,9 +85,11 @@ all_read None name needs ledger h d n l = tt
 all_read (Some at) name needs ledger h d n l = record { document = d; needs_are = n; ledger_is = l }
 
 -- nothing was read where no file is named
-pub none_read : (files : Option (List ℕ → Option (List ℕ))) (limit : ℕ) → IfSome files (λ at. IsReadAt at None limit [])
-none_read None limit = tt
-none_read (Some at) limit = ([], refl, refl)
+pub none_read : (files : Option (List ℕ → Option (List ℕ))) (name : Option (List ℕ)) (limit : ℕ) (bytes : List ℕ) → name ≡ None
+    → bytes ≡ [] → IfSome files (λ at. IsReadAt at name limit bytes)
+none_read None name limit bytes none nothing = tt
+none_read (Some at) None limit bytes none nothing = ([], refl, nothing ∙ sym (take_all (limit + 1) [] (omega arith)))
+none_read (Some at) (Some name) limit bytes none nothing = absurd (cc)
 
 pub wider : {E : Type 0} (P Q : Answer → Type 0) (r : Result Answer E) → ((a : Answer) → P a → Q a) → IfOk r P → IfOk r Q
 wider P Q (Ok a) all is = all a is

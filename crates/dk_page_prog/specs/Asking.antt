@@ -1,5 +1,5 @@
 -- What the words ask for.
-use Rattle.std.specs.Prelude.{ℕ, ◌==◌, ◌&&◌, ◌||◌, not, nat_lt, Bool, false, List, [], ◌∷◌, Option, Some, None, is_some, if◌then◌else◌, codes}
+use Rattle.std.specs.Prelude.{ℕ, ◌==◌, ◌&&◌, ◌||◌, not, nat_lt, Bool, true, false, List, [], ◌∷◌, Option, Some, None, is_some, if◌then◌else◌, codes}
 use Rattle.std.specs.Str.{bytes_eq}
 use Rattle.dk_review.specs.declared.drawing.Range.{Range}
 use Rattle.dk_page_prog.specs.Numbers.{ticks_in}
@@ -18,7 +18,7 @@ range_between (Some from) (Some to) = if nat_lt from to then Some (record { from
 range_between _ _ = None
 
 -- the range of two words that are ticks, the first below the second
-abbrev pub range_of : List ℕ → List ℕ → Option Range
+unfoldable pub range_of : List ℕ → List ℕ → Option Range
 range_of from to = range_between (ticks_in from) (ticks_in to)
 
 abbrev pub is_range : List ℕ → List ℕ → Bool
@@ -28,15 +28,26 @@ is_range from to = is_some (range_of from to)
 abbrev pub is_needs : List ℕ → List ℕ → Bool
 is_needs flag needs = bytes_eq flag (codes "--needs") && is_name needs
 
+-- they name a range, or a file of needs
+unfoldable pub is_either : List ℕ → List ℕ → Bool
+is_either first second = is_range first second || is_needs first second
+
+-- they name both
+unfoldable pub are_both : List ℕ → List ℕ → List ℕ → List ℕ → Bool
+are_both from to flag needs = is_range from to && is_needs flag needs
+
+-- the words may stand behind the name of the file
+unfoldable pub may_follow : List (List ℕ) → Bool
+may_follow [] = true
+may_follow (ledger ∷ []) = is_name ledger
+may_follow (flag ∷ needs ∷ []) = is_needs flag needs
+may_follow (ledger ∷ first ∷ second ∷ []) = is_name ledger && is_either first second
+may_follow (ledger ∷ from ∷ to ∷ flag ∷ needs ∷ []) = is_name ledger && are_both from to flag needs
+may_follow _ = false
+
 -- the name of the file whose page the words ask for; the first word is the program's name, and isn't looked at
 abbrev pub asked : List (List ℕ) → Option (List ℕ)
-asked (me ∷ verb ∷ name ∷ []) = if is_page verb name then Some name else None
-asked (me ∷ verb ∷ name ∷ ledger ∷ []) = if is_page verb name && is_name ledger then Some name else None
-asked (me ∷ verb ∷ name ∷ flag ∷ needs ∷ []) = if is_page verb name && is_needs flag needs then Some name else None
-asked (me ∷ verb ∷ name ∷ ledger ∷ first ∷ second ∷ []) =
-    if (is_page verb name && is_name ledger) && (is_range first second || is_needs first second) then Some name else None
-asked (me ∷ verb ∷ name ∷ ledger ∷ from ∷ to ∷ flag ∷ needs ∷ []) =
-    if ((is_page verb name && is_name ledger) && is_range from to) && is_needs flag needs then Some name else None
+asked (me ∷ verb ∷ name ∷ rest) = if is_page verb name && may_follow rest then Some name else None
 asked _ = None
 
 -- the name of the ledger, where the words name one

@@ -1,8 +1,6 @@
-use Rattle.std.proofs.Common.{List, subst, ℕ, ◌∙◌}
-use Rattle.std.specs.Prelude.{IfSome, Option}
+use Rattle.std.proofs.Common.{◌∙◌}
 use Rattle.dk_config.specs.declared.TheConstants.{MAX_CONFIG_BYTES, MAX_LEDGER_BYTES}
-use Rattle.dk_page_prog.specs.Answers.{IsReadAt}
-use Rattle.dk_page_prog.proofs.Reading.{all_read}
+use Rattle.dk_page_prog.proofs.Reading.{all_read, read_later}
 use Rattle.dk_page_prog.proofs.answers.read_files.Goals as goal
 
 pub returns-clause-held : goal.returns-clause-held
@@ -13,5 +11,5 @@ returns-clause-held g c =
     let third = c.in_ok-ledger.ensures in
     all_read files c.args.name.now _ _
     (record { document = c.in_ok-document.document; needs = c.in_ok-needs.needs; ledger = c.in_ok-ledger.ledger }) first.held
-    (subst (λ (fs : Option (List ℕ → Option (List ℕ))). IfSome fs (λ at. IsReadAt at _ MAX_CONFIG_BYTES c.in_ok-needs.needs.items)) first.same second.held)
-    (subst (λ (fs : Option (List ℕ → Option (List ℕ))). IfSome fs (λ at. IsReadAt at _ MAX_LEDGER_BYTES c.in_ok-ledger.ledger.items)) (second.same ∙ first.same) third.held)
+    (read_later _ files _ MAX_CONFIG_BYTES c.in_ok-needs.needs.items first.same second.held)
+    (read_later _ files _ MAX_LEDGER_BYTES c.in_ok-ledger.ledger.items (second.same ∙ first.same) third.held)

@@ -1,9 +1,9 @@
 use Rattle.dk_review.proofs.Ranges.{ends_before, of_range}
 use Rattle.dk_review.proofs.drawing.within.Goals as goal
 
-pub returns-then-to-ticks-clause-fault : goal.returns-then-to-ticks-clause-fault
-returns-then-to-ticks-clause-fault c =
-    ends_before c.args.range c.args.ticks c.requires.0 _ _ c.requires.1 c.range_within-range.result c.range_within-range.ensures c.if-to-ticks.true
+pub returns-then-range-ticks-clause-fault : goal.returns-then-range-ticks-clause-fault
+returns-then-range-ticks-clause-fault c =
+    ends_before c.args.range c.args.ticks c.requires.0 _ _ c.requires.1 c.range_within-range.result c.range_within-range.ensures c.if-range-ticks.true
 
 pub returns-in-Ok-clause-drawn : goal.returns-in-Ok-clause-drawn
 returns-in-Ok-clause-drawn c =
