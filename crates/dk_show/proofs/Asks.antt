@@ -56,13 +56,13 @@ asks_programs None c old new l r counts counted stray = record { given = tt; str
 asks_programs (Some at) c old new l r counts counted stray = record { given = λ loud. counts loud (bytes_read at c.processes) counted; strays = stray }
 
 -- the second part of a command is asked for where the first comes to something
-pub asks_after : {A B X : Type 0} (plan : Files → Result X Refusal) (first : Files → ℕ) (FirstMisses : Files → Type 0) (more : Files → X → ℕ)
+pub asks_after : {A B X : Type 0} (outcome : Files → Result X Refusal) (first : Files → ℕ) (FirstMisses : Files → Type 0) (more : Files → X → ℕ)
     (Missing : Files → X → Type 0) (old mid new : DepotView) (r : Result A Refusal) (files : Option Files) (b : B) (x : X)
-    → Asks files first FirstMisses old mid (Ok b) → IfSome files (λ at. plan at ≡ Ok x) → ((at : Files) → FirstMisses at → plan at ≡ Err why.Depot)
+    → Asks files first FirstMisses old mid (Ok b) → IfSome files (λ at. outcome at ≡ Ok x) → ((at : Files) → FirstMisses at → outcome at ≡ Err why.Depot)
     → Asks files (λ at. more at x) (λ at. Missing at x) mid new r
-    → Asks files (λ at. first at + handed_after (more at) (plan at)) (λ at. MissesAfter (Missing at) (plan at)) old new r
-asks_after plan first FirstMisses more Missing old mid new r None b x a is missed next = record { given = tt; strays = tt }
-asks_after plan first FirstMisses more Missing old mid new r (Some at) b x a is missed next = record {
+    → Asks files (λ at. first at + handed_after (more at) (outcome at)) (λ at. MissesAfter (Missing at) (outcome at)) old new r
+asks_after outcome first FirstMisses more Missing old mid new r None b x a is missed next = record { given = tt; strays = tt }
+asks_after outcome first FirstMisses more Missing old mid new r (Some at) b x a is missed next = record {
   given = λ loud.
       let much = ap (handed_after (more at)) is in
       let one = a.given tt in

@@ -1,21 +1,21 @@
 -- What stands in the output, and what a call leaves.
-use Rattle.dk_show.proofs.Names.{ℕ, ◌≡◌, ◌⊎◌, inl, inr, List, sym, subst, refl, Option, Some, None, IfSome, Ok, Err, true, false, SinkView, Work, Refusal, Status, IsAnswer, is_silent, refusal_status, refusal_text, Leaves, Says, HasText, Plans, ended_of}
+use Rattle.dk_show.proofs.Names.{ℕ, ◌≡◌, ◌⊎◌, inl, inr, List, sym, subst, refl, Option, Some, None, IfSome, Ok, Err, true, false, SinkView, Work, Refusal, Status, IsAnswer, is_silent, refusal_status, refusal_text, Leaves, Says, HasText, ComesTo, ended_of}
 use Rattle.dk_show.specs.declared.refusal.Refusal.TheVariants as why
 use Rattle.dk_show.specs.declared.status.Status.TheVariants as status
 use Rattle.dk_show.specs.Output.{Files}
 
 -- what stands by the files, where they are told
 module _ (Stands : Files → List ℕ → Status → Type 0) where
-  pub refusal_stands : (files : Option Files) (e : Refusal) → IfSome files (λ at. Plans (Stands at) (Err e)) → is_silent e ≡ false
+  pub refusal_stands : (files : Option Files) (e : Refusal) → IfSome files (λ at. ComesTo (Stands at) (Err e)) → is_silent e ≡ false
       → (text : List ℕ) (ended : Status) → Says e text ended → IfSome files (λ at. Stands at text ended)
-  refusal_stands None e plans loud text ended says = tt
-  refusal_stands (Some at) e plans loud text ended says =
-      subst (λ t. Stands at t ended) (sym says.0) (subst (λ s. Stands at (refusal_text e) s) (sym says.1) (plans loud))
+  refusal_stands None e comes loud text ended says = tt
+  refusal_stands (Some at) e comes loud text ended says =
+      subst (λ t. Stands at t ended) (sym says.0) (subst (λ s. Stands at (refusal_text e) s) (sym says.1) (comes loud))
 
-  pub work_stands : (files : Option Files) (w : Work) → IfSome files (λ at. Plans (Stands at) (Ok w))
+  pub work_stands : (files : Option Files) (w : Work) → IfSome files (λ at. ComesTo (Stands at) (Ok w))
       → (text : List ℕ) (ended : Status) → HasText w text × (ended ≡ ended_of w) → IfSome files (λ at. Stands at text ended)
-  work_stands None w plans text ended has = tt
-  work_stands (Some at) w plans text ended has = subst (λ s. Stands at text s) (sym has.1) (plans text has.0)
+  work_stands None w comes text ended has = tt
+  work_stands (Some at) w comes text ended has = subst (λ s. Stands at text s) (sym has.1) (comes text has.0)
 
 -- what a refusal leaves that isn't silent
 pub loud : (e : Refusal) (s : Status) → (is_silent e ≡ true → s ≡ refusal_status e) → IsAnswer s ⊎ (s ≡ status.SinkFault) → is_silent e ≡ false

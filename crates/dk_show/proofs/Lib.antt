@@ -1,7 +1,7 @@
 pub mod Names
 pub mod Leaving
 pub mod Picturing
-pub mod Planning
+pub mod Coming
 pub mod Hearing
 pub mod Changing
 pub mod Ends

@@ -10,10 +10,10 @@ few_bytes old new count more reads within few little took =
     let rose = took.rose in
     omega (arith, within, few, little, sum, rose)
 
--- want of memory stands for any plan
-pub silent_loads : {A : Type 0} (files : Option Files) (plan : Files → Result A Refusal) → IfSome files (λ at. Loads (Err why.NoMemory) (plan at))
-silent_loads None plan = tt
-silent_loads (Some at) plan = λ loud. absurd (cc)
+-- want of memory stands for any outcome
+pub silent_loads : {A : Type 0} (files : Option Files) (outcome : Files → Result A Refusal) → IfSome files (λ at. Loads (Err why.NoMemory) (outcome at))
+silent_loads None outcome = tt
+silent_loads (Some at) outcome = λ loud. absurd (cc)
 
 pub takes_few : {X : Type 0} (programs : X → List (List ℕ)) (count : ℕ) (result : Result X LoadFault) (old new : ℕ) → count ≤ MAX_PROCESSES
     → TakesAll programs count result old new → new ≤ old + 2 ^ 29

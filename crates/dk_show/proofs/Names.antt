@@ -44,7 +44,7 @@ pub use Rattle.dk_show.specs.Repeats.{IsOfRepeats}
 pub use Rattle.dk_show.specs.Replays.{IsOfProfile}
 pub use Rattle.dk_show.specs.Sources.{IsOfSource, is_source_name}
 pub use Rattle.dk_show.specs.Windowed.{AreTold, IsOfPage, IsOfWindows, done_end, sound_end, windows_end}
-pub use Rattle.dk_show.specs.Works.{HasText, IsReady, IsWhole, Plans, ended_of}
+pub use Rattle.dk_show.specs.Works.{ComesTo, HasText, IsReady, IsWhole, ended_of}
 pub use Rattle.dk_show.specs.declared.refusal.Refusal.{Refusal}
 pub use Rattle.dk_show.specs.declared.status.Status.{Status}
 pub use Rattle.dk_show.specs.declared.work.Work.{Work}

@@ -75,13 +75,13 @@ asks_ready_without None a view r asks = record { given = tt; strays = tt }
 asks_ready_without (Some at) a view r asks = record { given = rw asks (λ loud. omega arith); strays = λ there. refl }
 
 -- what was asked for was read, and it is made ready
-pub loads_ready : (files : Option Files) (plan : Files → Result AskedIn Refusal) (a : AskedIn) (r : Result ReadyIn Refusal)
-    → IfSome files (λ at. plan at ≡ Ok a) → IfSome files (λ at. Loads r (ready_of at a)) → IfSome files (λ at. Loads r (ready_by at (plan at)))
-loads_ready None plan a r is loads = tt
-loads_ready (Some at) plan a r is loads = subst (λ read. Loads r (ready_by at read)) (sym is) loads
+pub loads_ready : (files : Option Files) (outcome : Files → Result AskedIn Refusal) (a : AskedIn) (r : Result ReadyIn Refusal)
+    → IfSome files (λ at. outcome at ≡ Ok a) → IfSome files (λ at. Loads r (ready_of at a)) → IfSome files (λ at. Loads r (ready_by at (outcome at)))
+loads_ready None outcome a r is loads = tt
+loads_ready (Some at) outcome a r is loads = subst (λ read. Loads r (ready_by at read)) (sym is) loads
 
 -- it was refused
-pub refused_ready : (files : Option Files) (plan : Files → Result AskedIn Refusal) (e : Refusal) (r : Result ReadyIn Refusal)
-    → r ≡ Err e → IfSome files (λ at. Loads (Err e) (plan at)) → IfSome files (λ at. Loads r (ready_by at (plan at)))
-refused_ready None plan e r is loads = tt
-refused_ready (Some at) plan e r is loads = subst (λ x. Loads x (ready_by at (plan at))) (sym is) (λ loud. ap (ready_by at) (loads loud))
+pub refused_ready : (files : Option Files) (outcome : Files → Result AskedIn Refusal) (e : Refusal) (r : Result ReadyIn Refusal)
+    → r ≡ Err e → IfSome files (λ at. Loads (Err e) (outcome at)) → IfSome files (λ at. Loads r (ready_by at (outcome at)))
+refused_ready None outcome e r is loads = tt
+refused_ready (Some at) outcome e r is loads = subst (λ x. Loads x (ready_by at (outcome at))) (sym is) (λ loud. ap (ready_by at) (loads loud))

@@ -51,8 +51,8 @@ loaded at name = with_programs at (certified_at (at name))
 
 -- An answer is the one that the files come to, but a failed read or want of memory may come in its place.
 abbrev pub Loads : {A : Type 0} → Result A Refusal → Result A Refusal → Type 0
-Loads (Ok x) plan = plan ≡ Ok x
-Loads (Err e) plan = is_silent e ≡ false → plan ≡ Err e
+Loads (Ok x) outcome = outcome ≡ Ok x
+Loads (Err e) outcome = is_silent e ≡ false → outcome ≡ Err e
 
 -- It breaks no rule and is certified, and has a program for each process, none of them too long.
 pub record IsCertifiedLoad (w : Workload) : Type 0 where

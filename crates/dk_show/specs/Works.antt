@@ -46,9 +46,9 @@ ended_of (work.AllWindows windows) = status.Done
 ended_of (work.Page page ended) = ended
 
 -- The work writes a text that stands, and so does a refusal that isn't silent.
-abbrev pub Plans : (List ℕ → Status → Type 0) → Result Work Refusal → Type 0
-Plans Stands (Ok w) = (text : List ℕ) → HasText w text → Stands text (ended_of w)
-Plans Stands (Err e) = is_silent e ≡ false → Stands (refusal_text e) (refusal_status e)
+abbrev pub ComesTo : (List ℕ → Status → Type 0) → Result Work Refusal → Type 0
+ComesTo Stands (Ok w) = (text : List ℕ) → HasText w text → Stands text (ended_of w)
+ComesTo Stands (Err e) = is_silent e ≡ false → Stands (refusal_text e) (refusal_status e)
 
 -- What is made of bytes that were read: a work of this kind, or a refusal by no read.
 pub record IsMade (IsOf : Work → Type 0) (result : Result Work Refusal) : Type 0 where

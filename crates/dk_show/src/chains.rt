@@ -7,7 +7,7 @@ ghost use Rattle.dk_show.specs.Asking.{Asks, handed_out};
 ghost use Rattle.dk_show.specs.Chains.{IsCertifiedChain, IsChainTold, chain_at, chain_named};
 ghost use Rattle.dk_show.specs.Leaves.{Reads};
 ghost use Rattle.dk_show.specs.Loading.{IsOf, Loads};
-ghost use Rattle.dk_show.specs.Works.{IsMade, IsWhole, Plans};
+ghost use Rattle.dk_show.specs.Works.{ComesTo, IsMade, IsWhole};
 ghost use Rattle.std.specs.Prelude.{Ok};
 
 use crate::loading::certified_at;
@@ -80,7 +80,7 @@ pub(crate) fn chain_at<D: Depot>(
 /// When the chain answers.
 fn of_chain(alloc: Global, found: FoundChain) -> Result<Work, Refusal>
     requires { IsCertifiedChain found }
-    ensures plans { Plans (IsChainTold found) result }
+    ensures comes { ComesTo (IsChainTold found) result }
     ensures made { IsMade IsWhole result }
 {
     let FoundChain { mut config, chain } = found;
@@ -90,14 +90,14 @@ fn of_chain(alloc: Global, found: FoundChain) -> Result<Work, Refusal>
 
 /// When the chain answers under the configuration in the file of this name.
 #[tactic(auto, using(crate::proofs::Asks::asks_on, crate::proofs::Asks::asks_fails))]
-pub(crate) fn chain_plan<D: Depot>(
+pub(crate) fn chain_work<D: Depot>(
     alloc: Global,
     request: &ChainRequest,
     depot: &mut D,
 ) -> Result<Work, Refusal>
     requires given { (D.seen depot.old).given < 2 ^ 62 }
     requires few { length request.now.rest < MAX_PROCESSES }
-    ensures plans { IfSome (D.seen depot.old).files (λ at. Plans (IsOf (chain_at at request.now) IsChainTold) result) }
+    ensures comes { IfSome (D.seen depot.old).files (λ at. ComesTo (IsOf (chain_at at request.now) IsChainTold) result) }
     ensures whole { IfOk result IsWhole }
     ensures asks { Asks (D.seen depot.old).files (λ at. handed_out MAX_CONFIG_BYTES (at request.now.file)) (λ at. at request.now.file ≡ None)
         (D.seen depot.old) (D.seen depot.new) result }

@@ -10,7 +10,7 @@ ghost use Rattle.dk_show.specs.Asking.{Asks, MissesAfter, MissesLedger, MissesRe
 ghost use Rattle.dk_show.specs.Leaves.{Reads};
 ghost use Rattle.dk_show.specs.Loading.{IsOf, Loads, certified_at, programs_of};
 ghost use Rattle.dk_show.specs.Needed.{IsAskedOf, IsOfCheck, IsOfNeeds, IsReadyOf, asked_at, asked_of, asks_programs, ready_at, ready_of, running};
-ghost use Rattle.dk_show.specs.Works.{IsMade, IsWhole, Plans};
+ghost use Rattle.dk_show.specs.Works.{ComesTo, IsMade, IsWhole};
 ghost use Rattle.std.specs.Prelude.{Some};
 
 use crate::Refusal;
@@ -199,7 +199,7 @@ fn with_ledger<D: Depot>(
 ) -> Result<Work, Refusal>
     requires given { (D.seen depot.old).given < 2 ^ 62 + 2 ^ 32 }
     requires ready { IsReadyOf ready }
-    ensures plans { IfSome (D.seen depot.old).files (λ at. Plans (IsOfNamed at ledger.now MAX_LEDGER_BYTES Refusal.LongLedger
+    ensures comes { IfSome (D.seen depot.old).files (λ at. ComesTo (IsOfNamed at ledger.now MAX_LEDGER_BYTES Refusal.LongLedger
         (λ bytes. IsOfNeeds form ready.layout (Some bytes) ready.needs)) result) }
     ensures whole { IfOk result IsWhole }
     ensures asks { Asks (D.seen depot.old).files (λ at. handed_out MAX_LEDGER_BYTES (at ledger.now)) (λ at. at ledger.now ≡ None)
@@ -219,7 +219,7 @@ fn answered<D: Depot>(
 ) -> Result<Work, Refusal>
     requires given { (D.seen depot.old).given < 2 ^ 62 + 2 ^ 32 }
     requires ready { IsReadyOf ready }
-    ensures plans { IfSome (D.seen depot.old).files (λ at. Plans (IsOfCheck at request.now.form request.now.ledger ready) result) }
+    ensures comes { IfSome (D.seen depot.old).files (λ at. ComesTo (IsOfCheck at request.now.form request.now.ledger ready) result) }
     ensures whole { IfOk result IsWhole }
     ensures asks { Asks (D.seen depot.old).files (λ at. handed_ledger at request.now.ledger) (λ at. MissesLedger at request.now.ledger)
         (D.seen depot.old) (D.seen depot.new) result }
@@ -232,13 +232,13 @@ fn answered<D: Depot>(
 }
 
 /// Which of the needs in the one file the configuration in the other meets, where it is certified, and the ledger in a third.
-pub(crate) fn check_plan<D: Depot>(
+pub(crate) fn check_work<D: Depot>(
     alloc: Global,
     request: &CheckRequest,
     depot: &mut D,
 ) -> Result<Work, Refusal>
     requires { (D.seen depot.old).given < 2 ^ 62 }
-    ensures plans { IfSome (D.seen depot.old).files (λ at. Plans (IsOf (ready_at at request.now)
+    ensures comes { IfSome (D.seen depot.old).files (λ at. ComesTo (IsOf (ready_at at request.now)
         (IsOfCheck at request.now.form request.now.ledger)) result) }
     ensures whole { IfOk result IsWhole }
     ensures asks { Asks (D.seen depot.old).files (λ at. handed_ready at request.now

@@ -8,7 +8,7 @@ ghost use Rattle.dk_asm.specs.Causes.{causes_of};
 ghost use Rattle.dk_source_report.specs.Report.{faulty, source_text};
 ghost use Rattle.dk_show.specs.Output.{IsAllWrong, IsOfFaults, IsOfNamed, read_end};
 ghost use Rattle.dk_show.specs.Sources.{IsOfSource, is_source_name, most_of, source_end};
-ghost use Rattle.dk_show.specs.Works.{IsMade, IsWhole, Plans};
+ghost use Rattle.dk_show.specs.Works.{ComesTo, IsMade, IsWhole};
 
 use crate::files::file_at;
 use crate::work::Work;
@@ -38,7 +38,7 @@ fn read_end(alloc: Global, bytes: &[u8]) -> Result<Status, NoMemory>
 /// What is wrong with the document in these bytes.
 fn of_document(alloc: Global, bytes: &[u8]) -> Result<Work, Refusal>
     requires { length bytes.now ≤ MAX_CONFIG_BYTES }
-    ensures plans { Plans (IsOfFaults bytes.now) result }
+    ensures comes { ComesTo (IsOfFaults bytes.now) result }
     ensures made { IsMade IsWhole result }
 {
     let page = document_faults(alloc, bytes)?;
@@ -47,10 +47,10 @@ fn of_document(alloc: Global, bytes: &[u8]) -> Result<Work, Refusal>
 
 /// What is wrong with the document in the file of this name.
 #[tactic(auto, using(crate::proofs::Asks::asks_on, crate::proofs::Asks::asks_fails))]
-fn document_plan<D: Depot>(alloc: Global, file: &str, depot: &mut D) -> Result<Work, Refusal>
+fn document_work<D: Depot>(alloc: Global, file: &str, depot: &mut D) -> Result<Work, Refusal>
     requires { (D.seen depot.old).given < 2 ^ 62 }
-    ensures plans { IfSome (D.seen depot.old).files
-        (λ at. Plans (IsOfNamed at file.now MAX_CONFIG_BYTES Refusal.LongConfig IsOfFaults) result) }
+    ensures comes { IfSome (D.seen depot.old).files
+        (λ at. ComesTo (IsOfNamed at file.now MAX_CONFIG_BYTES Refusal.LongConfig IsOfFaults) result) }
     ensures whole { IfOk result IsWhole }
     ensures asks { Asks (D.seen depot.old).files (λ at. handed_out MAX_CONFIG_BYTES (at file.now)) (λ at. at file.now ≡ None)
         (D.seen depot.old) (D.seen depot.new) result }
@@ -88,7 +88,7 @@ fn report_of(alloc: Global, bytes: &[u8]) -> Result<SourceReport, NoMemory>
 /// What is wrong with the source in these bytes.
 fn of_source(alloc: Global, bytes: &[u8]) -> Result<Work, Refusal>
     requires { length bytes.now ≤ MAX_SOURCE_BYTES }
-    ensures plans { Plans (IsOfSource bytes.now) result }
+    ensures comes { ComesTo (IsOfSource bytes.now) result }
     ensures made { IsMade IsWhole result }
 {
     let report = report_of(alloc, bytes)?;
@@ -98,10 +98,10 @@ fn of_source(alloc: Global, bytes: &[u8]) -> Result<Work, Refusal>
 
 /// What is wrong with the source in the file of this name.
 #[tactic(auto, using(crate::proofs::Asks::asks_on, crate::proofs::Asks::asks_fails))]
-fn source_plan<D: Depot>(alloc: Global, file: &str, depot: &mut D) -> Result<Work, Refusal>
+fn source_work<D: Depot>(alloc: Global, file: &str, depot: &mut D) -> Result<Work, Refusal>
     requires { (D.seen depot.old).given < 2 ^ 62 }
-    ensures plans { IfSome (D.seen depot.old).files
-        (λ at. Plans (IsOfNamed at file.now MAX_SOURCE_BYTES Refusal.LongSource IsOfSource) result) }
+    ensures comes { IfSome (D.seen depot.old).files
+        (λ at. ComesTo (IsOfNamed at file.now MAX_SOURCE_BYTES Refusal.LongSource IsOfSource) result) }
     ensures whole { IfOk result IsWhole }
     ensures asks { Asks (D.seen depot.old).files (λ at. handed_out MAX_SOURCE_BYTES (at file.now)) (λ at. at file.now ≡ None)
         (D.seen depot.old) (D.seen depot.new) result }
@@ -112,21 +112,21 @@ fn source_plan<D: Depot>(alloc: Global, file: &str, depot: &mut D) -> Result<Wor
 }
 
 /// All that is wrong with the file of this name: a source of the assembler, if the name ends with `.s`, and else a document.
-pub(crate) fn faults_plan<D: Depot>(
+pub(crate) fn faults_work<D: Depot>(
     alloc: Global,
     file: &str,
     depot: &mut D,
 ) -> Result<Work, Refusal>
     requires { (D.seen depot.old).given < 2 ^ 62 }
-    ensures plans { IfSome (D.seen depot.old).files (λ at. Plans (IsAllWrong at file.now) result) }
+    ensures comes { IfSome (D.seen depot.old).files (λ at. ComesTo (IsAllWrong at file.now) result) }
     ensures whole { IfOk result IsWhole }
     ensures asks { Asks (D.seen depot.old).files (λ at. handed_out (most_of file.now) (at file.now)) (λ at. at file.now ≡ None)
         (D.seen depot.old) (D.seen depot.new) result }
     ensures reads { Reads (D.seen depot.old) (D.seen depot.new) result }
 {
     if is_source_name(file) {
-        source_plan(alloc, file, depot)
+        source_work(alloc, file, depot)
     } else {
-        document_plan(alloc, file, depot)
+        document_work(alloc, file, depot)
     }
 }

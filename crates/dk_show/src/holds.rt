@@ -9,7 +9,7 @@ ghost use Rattle.dk_config.specs.declared.TheConstants.{MAX_CONFIG_BYTES};
 ghost use Rattle.dk_show.specs.Held.{AreHoldsTold, IsHeldUnder, IsOfHeld, IsOfHolds, IsOfOwnHolds};
 ghost use Rattle.dk_show.specs.Leaves.{Reads};
 ghost use Rattle.dk_show.specs.Loading.{IsOf, certified_at};
-ghost use Rattle.dk_show.specs.Works.{IsMade, IsWhole, Plans};
+ghost use Rattle.dk_show.specs.Works.{ComesTo, IsMade, IsWhole};
 
 use crate::files::file_at;
 use crate::loading::certified_at;
@@ -32,7 +32,7 @@ fn told_holds(
 ) -> Result<Work, Refusal>
     requires readable { IsReadable ledger.now }
     requires text { text_of ledger.now ≡ bytes.now }
-    ensures plans { Plans (AreHoldsTold rows.now ledger.now) result }
+    ensures comes { ComesTo (AreHoldsTold rows.now ledger.now) result }
     ensures made { IsMade IsWhole result }
 {
     let text = holds_report(alloc, bytes, ledger, rows)?;
@@ -41,7 +41,7 @@ fn told_holds(
 
 /// How long each mutex was held in the ledger in these bytes.
 fn of_bytes(alloc: Global, bytes: &[u8]) -> Result<Work, Refusal>
-    ensures plans { Plans (IsOfHolds bytes.now) result }
+    ensures comes { ComesTo (IsOfHolds bytes.now) result }
     ensures made { IsMade IsWhole result }
 {
     match read_ledger(alloc, bytes) {
@@ -75,7 +75,7 @@ fn of_own(alloc: Global, config: &Config, bytes: &[u8], ledger: &Ledger) -> Resu
     requires accepted { IsAccepted config.now }
     requires readable { IsReadable ledger.now }
     requires text { text_of ledger.now ≡ bytes.now }
-    ensures plans { Plans (IsHeldUnder config.now ledger.now) result }
+    ensures comes { ComesTo (IsHeldUnder config.now ledger.now) result }
     ensures made { IsMade IsWhole result }
 {
     if !is_own(config, ledger) {
@@ -89,7 +89,7 @@ fn of_own_bytes(alloc: Global, config: &Config, bytes: &[u8]) -> Result<Work, Re
     requires checked { IsChecked config.now }
     requires limits { IsWithinLimits config.now }
     requires accepted { IsAccepted config.now }
-    ensures plans { Plans (IsOfOwnHolds config.now bytes.now) result }
+    ensures comes { ComesTo (IsOfOwnHolds config.now bytes.now) result }
     ensures made { IsMade IsWhole result }
 {
     match read_ledger(alloc, bytes) {
@@ -101,10 +101,10 @@ fn of_own_bytes(alloc: Global, config: &Config, bytes: &[u8]) -> Result<Work, Re
 
 /// How long each mutex was held in the ledger in the file of this name.
 #[tactic(auto, using(crate::proofs::Asks::asks_on, crate::proofs::Asks::asks_fails))]
-fn plain_plan<D: Depot>(alloc: Global, ledger: &str, depot: &mut D) -> Result<Work, Refusal>
+fn plain_work<D: Depot>(alloc: Global, ledger: &str, depot: &mut D) -> Result<Work, Refusal>
     requires { (D.seen depot.old).given < 2 ^ 62 }
-    ensures plans { IfSome (D.seen depot.old).files
-        (λ at. Plans (IsOfNamed at ledger.now MAX_LEDGER_BYTES Refusal.LongLedger IsOfHolds) result) }
+    ensures comes { IfSome (D.seen depot.old).files
+        (λ at. ComesTo (IsOfNamed at ledger.now MAX_LEDGER_BYTES Refusal.LongLedger IsOfHolds) result) }
     ensures whole { IfOk result IsWhole }
     ensures asks { Asks (D.seen depot.old).files (λ at. handed_out MAX_LEDGER_BYTES (at ledger.now)) (λ at. at ledger.now ≡ None)
         (D.seen depot.old) (D.seen depot.new) result }
@@ -126,8 +126,8 @@ fn holds_in<D: Depot>(
     requires checked { IsChecked config.now }
     requires limits { IsWithinLimits config.now }
     requires accepted { IsAccepted config.now }
-    ensures plans { IfSome (D.seen depot.old).files
-        (λ at. Plans (IsOfNamed at ledger.now MAX_LEDGER_BYTES Refusal.LongLedger (IsOfOwnHolds config.now)) result) }
+    ensures comes { IfSome (D.seen depot.old).files
+        (λ at. ComesTo (IsOfNamed at ledger.now MAX_LEDGER_BYTES Refusal.LongLedger (IsOfOwnHolds config.now)) result) }
     ensures whole { IfOk result IsWhole }
     ensures asks { Asks (D.seen depot.old).files (λ at. handed_out MAX_LEDGER_BYTES (at ledger.now)) (λ at. at ledger.now ≡ None)
         (D.seen depot.old) (D.seen depot.new) result }
@@ -138,14 +138,14 @@ fn holds_in<D: Depot>(
 }
 
 /// The same beside the certified configuration in the other file.
-fn own_plan<D: Depot>(
+fn own_work<D: Depot>(
     alloc: Global,
     file: &str,
     ledger: &str,
     depot: &mut D,
 ) -> Result<Work, Refusal>
     requires { (D.seen depot.old).given < 2 ^ 62 }
-    ensures plans { IfSome (D.seen depot.old).files (λ at. Plans (IsOf (certified_at (at file.now))
+    ensures comes { IfSome (D.seen depot.old).files (λ at. ComesTo (IsOf (certified_at (at file.now))
         (λ c. IsOfNamed at ledger.now MAX_LEDGER_BYTES Refusal.LongLedger (IsOfOwnHolds c))) result) }
     ensures whole { IfOk result IsWhole }
     ensures asks { Asks (D.seen depot.old).files (λ at. handed_out MAX_CONFIG_BYTES (at file.now)
@@ -159,21 +159,21 @@ fn own_plan<D: Depot>(
 
 /// How long each mutex was held in the ledger in the file of this name, beside the certified configuration in the other
 /// file, if there is one.
-pub(crate) fn holds_plan<D: Depot>(
+pub(crate) fn holds_work<D: Depot>(
     alloc: Global,
     ledger: &str,
     file: &Option<Text>,
     depot: &mut D,
 ) -> Result<Work, Refusal>
     requires { (D.seen depot.old).given < 2 ^ 62 }
-    ensures plans { IfSome (D.seen depot.old).files (λ at. Plans (IsOfHeld file.now at ledger.now) result) }
+    ensures comes { IfSome (D.seen depot.old).files (λ at. ComesTo (IsOfHeld file.now at ledger.now) result) }
     ensures whole { IfOk result IsWhole }
     ensures asks { Asks (D.seen depot.old).files (λ at. handed_held file.now at ledger.now) (λ at. MissesHeld file.now at ledger.now)
         (D.seen depot.old) (D.seen depot.new) result }
     ensures reads { Reads (D.seen depot.old) (D.seen depot.new) result }
 {
     match file {
-        Some(file) => own_plan(alloc, file.as_str(), ledger, depot),
-        None => plain_plan(alloc, ledger, depot),
+        Some(file) => own_work(alloc, file.as_str(), ledger, depot),
+        None => plain_work(alloc, ledger, depot),
     }
 }

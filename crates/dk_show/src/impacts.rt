@@ -6,7 +6,7 @@ ghost use Rattle.dk_show.specs.Impacts.{IsOfChange, IsOfImpact, impact_end, impa
 ghost use Rattle.dk_show.specs.Asking.{Asks, MissesAfter, handed_after, handed_load};
 ghost use Rattle.dk_show.specs.Leaves.{Reads};
 ghost use Rattle.dk_show.specs.Loading.{IsCertifiedLoad, IsOfLoaded, loaded};
-ghost use Rattle.dk_show.specs.Works.{IsMade, IsWhole, Plans};
+ghost use Rattle.dk_show.specs.Works.{ComesTo, IsMade, IsWhole};
 
 use crate::loading::loaded_at;
 use crate::work::Work;
@@ -57,7 +57,7 @@ fn of_change(
 ) -> Result<Work, Refusal>
     requires old { IsCertifiedLoad old.now }
     requires new { IsCertifiedLoad new.now }
-    ensures plans { Plans (IsOfChange request.now old.now new.now) result }
+    ensures comes { ComesTo (IsOfChange request.now old.now new.now) result }
     ensures made { IsMade IsWhole result }
 {
     let rows = impacts(alloc, old, new)?;
@@ -82,7 +82,7 @@ fn change_to<D: Depot>(
 ) -> Result<Work, Refusal>
     requires given { (D.seen depot.old).given < 2 ^ 62 + 2 ^ 30 }
     requires old { IsCertifiedLoad old.now }
-    ensures plans { IfSome (D.seen depot.old).files (λ at. Plans (IsOfLoaded at request.now.new (IsOfChange request.now old.now)) result) }
+    ensures comes { IfSome (D.seen depot.old).files (λ at. ComesTo (IsOfLoaded at request.now.new (IsOfChange request.now old.now)) result) }
     ensures whole { IfOk result IsWhole }
     ensures asks { Asks (D.seen depot.old).files (λ at. handed_load at request.now.new) (λ at. loaded at request.now.new ≡ Err Refusal.Depot)
         (D.seen depot.old) (D.seen depot.new) result }
@@ -93,13 +93,13 @@ fn change_to<D: Depot>(
 }
 
 /// What the change from the configuration in the one file to that in the other does.
-pub(crate) fn impact_plan<D: Depot>(
+pub(crate) fn impact_work<D: Depot>(
     alloc: Global,
     request: &ChangeRequest,
     depot: &mut D,
 ) -> Result<Work, Refusal>
     requires { (D.seen depot.old).given < 2 ^ 62 }
-    ensures plans { IfSome (D.seen depot.old).files (λ at. Plans (IsOfImpact at request.now) result) }
+    ensures comes { IfSome (D.seen depot.old).files (λ at. ComesTo (IsOfImpact at request.now) result) }
     ensures whole { IfOk result IsWhole }
     ensures asks { Asks (D.seen depot.old).files (λ at. handed_load at request.now.old
         + handed_after (λ _. handed_load at request.now.new) (loaded at request.now.old))

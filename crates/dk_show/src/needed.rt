@@ -6,7 +6,7 @@ ghost use Rattle.dk_needs.specs.Fit.{IsFit};
 ghost use Rattle.dk_needs_text.specs.Names.{AreNamed};
 ghost use Rattle.dk_show.specs.Answers.{IsEnd, is_silent, refusal_status, refusal_text};
 ghost use Rattle.dk_show.specs.Needed.{AreRowsTold, AreUnknownTold, IsCertified, IsFound, IsLaidOut, IsNoDocument, IsOfAll, IsOfBadLedger, IsOfNeeds, IsPageOf, IsReadyOf, IsRefused, IsTold, check_end, needs_told};
-ghost use Rattle.dk_show.specs.Works.{IsMade, IsWhole, Plans};
+ghost use Rattle.dk_show.specs.Works.{ComesTo, IsMade, IsWhole};
 
 use crate::checks::{Layout, Ready};
 use crate::work::Work;
@@ -59,7 +59,7 @@ fn of_rows(
 ) -> Result<Work, Refusal>
     requires fit { All IsFit needs.now.rows }
     requires named { AreNamed names.now }
-    ensures plans { Plans (IsPageOf form names.now needs.now rows.now) result }
+    ensures comes { ComesTo (IsPageOf form names.now needs.now rows.now) result }
     ensures made { IsMade IsWhole result }
 {
     let page = page_of(alloc, form, names, needs, rows)?;
@@ -76,7 +76,7 @@ fn of_decided(
 ) -> Result<Work, Refusal>
     requires laid { IsLaidOut layout }
     requires fit { All IsFit needs.now.rows }
-    ensures plans { Plans (AreRowsTold form layout needs.now before.now) result }
+    ensures comes { ComesTo (AreRowsTold form layout needs.now before.now) result }
     ensures made { IsMade IsWhole result }
 {
     match layout {
@@ -94,7 +94,7 @@ fn of_decided(
 
 /// All that the configuration hasn't got.
 fn of_unknown(alloc: Global, needs: &Needs, found: &[Unknown]) -> Result<Work, Refusal>
-    ensures plans { Plans (AreUnknownTold needs.now found.now) result }
+    ensures comes { ComesTo (AreUnknownTold needs.now found.now) result }
     ensures made { IsMade IsWhole result }
 {
     let page = unknown_page(alloc, needs, found)?;
@@ -111,7 +111,7 @@ fn of_found(
 ) -> Result<Work, Refusal>
     requires laid { IsLaidOut layout }
     requires fit { All IsFit needs.now.rows }
-    ensures plans { Plans (IsTold form layout needs.now found.now) result }
+    ensures comes { ComesTo (IsTold form layout needs.now found.now) result }
     ensures made { IsMade IsWhole result }
 {
     match found {
@@ -188,7 +188,7 @@ fn of_needs(
 ) -> Result<Work, Refusal>
     requires laid { IsLaidOut layout }
     requires fit { All IsFit needs.now.rows }
-    ensures plans { Plans (IsOfAll form layout (option_map (λ l. l.now) ledger.entry) needs.now) result }
+    ensures comes { ComesTo (IsOfAll form layout (option_map (λ l. l.now) ledger.entry) needs.now) result }
     ensures made { IsMade IsWhole result }
 {
     let found = found_of(alloc, layout.config(), needs, ledger)?;
@@ -199,7 +199,7 @@ fn of_needs(
 fn of_faults(alloc: Global, bytes: &[u8], faults: &Faults) -> Result<Work, Refusal>
     requires few { length bytes.now ≤ MAX_CONFIG_BYTES }
     requires refused { reading bytes.now ≡ Err (NeedsError.Refused faults.now) }
-    ensures plans { Plans (IsRefused bytes.now faults.now) result }
+    ensures comes { ComesTo (IsRefused bytes.now faults.now) result }
     ensures made { IsMade IsWhole result }
 {
     let page = needs_faults_page(alloc, bytes, faults.as_slice())?;
@@ -210,7 +210,7 @@ fn of_faults(alloc: Global, bytes: &[u8], faults: &Faults) -> Result<Work, Refus
 fn of_no_document(alloc: Global, bytes: &[u8]) -> Result<Work, Refusal>
     requires few { length bytes.now ≤ MAX_CONFIG_BYTES }
     requires refused { reading bytes.now ≡ Err NeedsError.NotToml }
-    ensures plans { Plans (IsNoDocument bytes.now) result }
+    ensures comes { ComesTo (IsNoDocument bytes.now) result }
     ensures made { IsMade IsWhole result }
 {
     let page = needs_not_toml_page(alloc, bytes)?;
@@ -227,7 +227,7 @@ fn of_bytes(
 ) -> Result<Work, Refusal>
     requires laid { IsLaidOut layout }
     requires few { length bytes.now ≤ MAX_CONFIG_BYTES }
-    ensures plans { Plans (IsOfNeeds form layout (option_map (λ l. l.now) ledger.entry) bytes.now) result }
+    ensures comes { ComesTo (IsOfNeeds form layout (option_map (λ l. l.now) ledger.entry) bytes.now) result }
     ensures made { IsMade IsWhole result }
 {
     match read_needs(alloc, bytes) {
@@ -246,7 +246,7 @@ pub(crate) fn of_ready(
     ledger: Option<&[u8]>,
 ) -> Result<Work, Refusal>
     requires { IsReadyOf ready }
-    ensures plans { Plans (IsOfNeeds form ready.layout (option_map (λ l. l.now) ledger.entry) ready.needs) result }
+    ensures comes { ComesTo (IsOfNeeds form ready.layout (option_map (λ l. l.now) ledger.entry) ready.needs) result }
     ensures made { IsMade IsWhole result }
 {
     let Ready { layout, needs } = ready;

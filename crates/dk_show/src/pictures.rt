@@ -10,11 +10,11 @@ ghost use Rattle.dk_show.specs.Asking.{Asks, MissesAfter, MissesHeld, handed_aft
 ghost use Rattle.dk_show.specs.Leaves.{Reads};
 ghost use Rattle.dk_show.specs.Loading.{IsOf, certified_at};
 ghost use Rattle.dk_show.specs.Pictured.{IsOfOwnPicture, IsOfPicture, IsOfShown, IsPicture, IsPictureUnder};
-ghost use Rattle.dk_show.specs.Works.{IsMade, IsWhole, Plans};
+ghost use Rattle.dk_show.specs.Works.{ComesTo, IsMade, IsWhole};
 
 use crate::files::file_at;
 use crate::loading::certified_at;
-use crate::plans::range_within;
+use crate::making::range_within;
 use crate::work::Work;
 use crate::{Refusal, Status};
 use dk_audit::is_own_heading;
@@ -37,7 +37,7 @@ fn within(
     promise: Promise,
 ) -> Result<Work, Refusal>
     requires { (j : Journal) × IsShown j header.now bytes.now ticks }
-    ensures plans { (j : Journal) → IsShown j header.now bytes.now ticks → Plans (IsPicture promise range j) result }
+    ensures comes { (j : Journal) → IsShown j header.now bytes.now ticks → ComesTo (IsPicture promise range j) result }
     ensures made { IsMade IsWhole result }
 {
     let Range { from, to } = range_within(range, ticks);
@@ -53,7 +53,7 @@ fn within(
 
 /// The picture of the ledger in these bytes.
 fn of_bytes(alloc: Global, bytes: &[u8], range: Option<Range>) -> Result<Work, Refusal>
-    ensures plans { Plans (IsOfPicture range bytes.now) result }
+    ensures comes { ComesTo (IsOfPicture range bytes.now) result }
     ensures made { IsMade IsWhole result }
 {
     match survey_ledger(alloc, bytes) {
@@ -79,8 +79,8 @@ fn of_own(
     requires limits { IsWithinLimits config.now }
     requires accepted { IsAccepted config.now }
     requires ledger { (j : Journal) × IsShown j header.now bytes.now ticks }
-    ensures plans { (j : Journal) → IsShown j header.now bytes.now ticks
-        → Plans (IsPictureUnder config.now range j) result }
+    ensures comes { (j : Journal) → IsShown j header.now bytes.now ticks
+        → ComesTo (IsPictureUnder config.now range j) result }
     ensures made { IsMade IsWhole result }
 {
     if !is_own_heading(config, header) {
@@ -100,7 +100,7 @@ fn of_own_bytes(
     requires checked { IsChecked config.now }
     requires limits { IsWithinLimits config.now }
     requires accepted { IsAccepted config.now }
-    ensures plans { Plans (IsOfOwnPicture config.now range bytes.now) result }
+    ensures comes { ComesTo (IsOfOwnPicture config.now range bytes.now) result }
     ensures made { IsMade IsWhole result }
 {
     match survey_ledger(alloc, bytes) {
@@ -112,15 +112,15 @@ fn of_own_bytes(
 
 /// The picture of the ledger in the file of this name.
 #[tactic(auto, using(crate::proofs::Asks::asks_on, crate::proofs::Asks::asks_fails))]
-fn plain_plan<D: Depot>(
+fn plain_work<D: Depot>(
     alloc: Global,
     ledger: &str,
     range: Option<Range>,
     depot: &mut D,
 ) -> Result<Work, Refusal>
     requires { (D.seen depot.old).given < 2 ^ 62 }
-    ensures plans { IfSome (D.seen depot.old).files
-        (λ at. Plans (IsOfNamed at ledger.now MAX_LEDGER_BYTES Refusal.LongLedger (IsOfPicture range)) result) }
+    ensures comes { IfSome (D.seen depot.old).files
+        (λ at. ComesTo (IsOfNamed at ledger.now MAX_LEDGER_BYTES Refusal.LongLedger (IsOfPicture range)) result) }
     ensures whole { IfOk result IsWhole }
     ensures asks { Asks (D.seen depot.old).files (λ at. handed_out MAX_LEDGER_BYTES (at ledger.now)) (λ at. at ledger.now ≡ None)
         (D.seen depot.old) (D.seen depot.new) result }
@@ -143,8 +143,8 @@ fn picture_in<D: Depot>(
     requires checked { IsChecked config.now }
     requires limits { IsWithinLimits config.now }
     requires accepted { IsAccepted config.now }
-    ensures plans { IfSome (D.seen depot.old).files
-        (λ at. Plans (IsOfNamed at ledger.now MAX_LEDGER_BYTES Refusal.LongLedger (IsOfOwnPicture config.now range)) result) }
+    ensures comes { IfSome (D.seen depot.old).files
+        (λ at. ComesTo (IsOfNamed at ledger.now MAX_LEDGER_BYTES Refusal.LongLedger (IsOfOwnPicture config.now range)) result) }
     ensures whole { IfOk result IsWhole }
     ensures asks { Asks (D.seen depot.old).files (λ at. handed_out MAX_LEDGER_BYTES (at ledger.now)) (λ at. at ledger.now ≡ None)
         (D.seen depot.old) (D.seen depot.new) result }
@@ -155,7 +155,7 @@ fn picture_in<D: Depot>(
 }
 
 /// The same beside the certified configuration in the other file.
-fn own_plan<D: Depot>(
+fn own_work<D: Depot>(
     alloc: Global,
     file: &str,
     ledger: &str,
@@ -163,7 +163,7 @@ fn own_plan<D: Depot>(
     depot: &mut D,
 ) -> Result<Work, Refusal>
     requires { (D.seen depot.old).given < 2 ^ 62 }
-    ensures plans { IfSome (D.seen depot.old).files (λ at. Plans (IsOf (certified_at (at file.now))
+    ensures comes { IfSome (D.seen depot.old).files (λ at. ComesTo (IsOf (certified_at (at file.now))
         (λ c. IsOfNamed at ledger.now MAX_LEDGER_BYTES Refusal.LongLedger (IsOfOwnPicture c range))) result) }
     ensures whole { IfOk result IsWhole }
     ensures asks { Asks (D.seen depot.old).files (λ at. handed_out MAX_CONFIG_BYTES (at file.now)
@@ -177,7 +177,7 @@ fn own_plan<D: Depot>(
 
 /// The picture of the ledger in the file of this name, with what the certified configuration in the other file promises, if
 /// there is one.
-pub(crate) fn picture_plan<D: Depot>(
+pub(crate) fn picture_work<D: Depot>(
     alloc: Global,
     ledger: &str,
     file: &Option<Text>,
@@ -185,14 +185,14 @@ pub(crate) fn picture_plan<D: Depot>(
     depot: &mut D,
 ) -> Result<Work, Refusal>
     requires { (D.seen depot.old).given < 2 ^ 62 }
-    ensures plans { IfSome (D.seen depot.old).files (λ at. Plans (IsOfShown file.now at range ledger.now) result) }
+    ensures comes { IfSome (D.seen depot.old).files (λ at. ComesTo (IsOfShown file.now at range ledger.now) result) }
     ensures whole { IfOk result IsWhole }
     ensures asks { Asks (D.seen depot.old).files (λ at. handed_held file.now at ledger.now) (λ at. MissesHeld file.now at ledger.now)
         (D.seen depot.old) (D.seen depot.new) result }
     ensures reads { Reads (D.seen depot.old) (D.seen depot.new) result }
 {
     match file {
-        Some(file) => own_plan(alloc, file.as_str(), ledger, range, depot),
-        None => plain_plan(alloc, ledger, range, depot),
+        Some(file) => own_work(alloc, file.as_str(), ledger, range, depot),
+        None => plain_work(alloc, ledger, range, depot),
     }
 }

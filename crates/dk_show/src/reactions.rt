@@ -8,7 +8,7 @@ ghost use Rattle.dk_show.specs.Asking.{Asks, MissesAfter, handed_after, handed_o
 ghost use Rattle.dk_show.specs.Chains.{AreReactionsTold, IsCertifiedChain, IsOfOther, IsOfReactions, chain_at};
 ghost use Rattle.dk_show.specs.Leaves.{Reads};
 ghost use Rattle.dk_show.specs.Loading.{IsOf};
-ghost use Rattle.dk_show.specs.Works.{IsMade, IsWhole, Plans};
+ghost use Rattle.dk_show.specs.Works.{ComesTo, IsMade, IsWhole};
 
 use crate::chains::{FoundChain, chain_at};
 use crate::files::file_at;
@@ -33,7 +33,7 @@ fn line_of(alloc: Global, seen: Option<Reactions>) -> Result<String, NoMemory>
 fn of_ledger(alloc: Global, found: FoundChain, ledger: &Ledger) -> Result<Work, Refusal>
     requires certified { IsCertifiedChain found }
     requires readable { IsReadable ledger.now }
-    ensures plans { Plans (λ text ended. AreReactionsTold found ledger.now text ended ⊎ IsOfOther found ledger.now text ended) result }
+    ensures comes { ComesTo (λ text ended. AreReactionsTold found ledger.now text ended ⊎ IsOfOther found ledger.now text ended) result }
     ensures made { IsMade IsWhole result }
 {
     let FoundChain { mut config, chain } = found;
@@ -50,7 +50,7 @@ fn of_ledger(alloc: Global, found: FoundChain, ledger: &Ledger) -> Result<Work, 
 /// The reactions of the chain that the ledger in these bytes has.
 fn of_bytes(alloc: Global, found: FoundChain, bytes: &[u8]) -> Result<Work, Refusal>
     requires { IsCertifiedChain found }
-    ensures plans { Plans (IsOfReactions found bytes.now) result }
+    ensures comes { ComesTo (IsOfReactions found bytes.now) result }
     ensures made { IsMade IsWhole result }
 {
     match read_ledger(alloc, bytes) {
@@ -70,7 +70,7 @@ fn reactions_in<D: Depot>(
 ) -> Result<Work, Refusal>
     requires given { (D.seen depot.old).given < 2 ^ 62 + 2 ^ 30 }
     requires certified { IsCertifiedChain found }
-    ensures plans { IfSome (D.seen depot.old).files (λ at. Plans (IsOfNamed at ledger.now MAX_LEDGER_BYTES Refusal.LongLedger (IsOfReactions found)) result) }
+    ensures comes { IfSome (D.seen depot.old).files (λ at. ComesTo (IsOfNamed at ledger.now MAX_LEDGER_BYTES Refusal.LongLedger (IsOfReactions found)) result) }
     ensures whole { IfOk result IsWhole }
     ensures asks { Asks (D.seen depot.old).files (λ at. handed_out MAX_LEDGER_BYTES (at ledger.now)) (λ at. at ledger.now ≡ None)
         (D.seen depot.old) (D.seen depot.new) result }
@@ -81,7 +81,7 @@ fn reactions_in<D: Depot>(
 }
 
 /// How long the chain takes in the ledger in the file of this name, and when it answers.
-pub(crate) fn reactions_plan<D: Depot>(
+pub(crate) fn reactions_work<D: Depot>(
     alloc: Global,
     request: &ChainRequest,
     ledger: &str,
@@ -89,7 +89,7 @@ pub(crate) fn reactions_plan<D: Depot>(
 ) -> Result<Work, Refusal>
     requires given { (D.seen depot.old).given < 2 ^ 62 }
     requires few { length request.now.rest < MAX_PROCESSES }
-    ensures plans { IfSome (D.seen depot.old).files (λ at. Plans (IsOf (chain_at at request.now)
+    ensures comes { IfSome (D.seen depot.old).files (λ at. ComesTo (IsOf (chain_at at request.now)
         (λ chain. IsOfNamed at ledger.now MAX_LEDGER_BYTES Refusal.LongLedger (IsOfReactions chain))) result) }
     ensures whole { IfOk result IsWhole }
     ensures asks { Asks (D.seen depot.old).files (λ at. handed_out MAX_CONFIG_BYTES (at request.now.file)

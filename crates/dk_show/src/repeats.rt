@@ -5,7 +5,7 @@ ghost use Rattle.dk_show.specs.Asking.{Asks, handed_load};
 ghost use Rattle.dk_show.specs.Leaves.{Reads};
 ghost use Rattle.dk_show.specs.Loading.{IsCertifiedLoad, IsOfLoaded, loaded};
 ghost use Rattle.dk_show.specs.Repeats.{IsOfRepeats, repeats_end};
-ghost use Rattle.dk_show.specs.Works.{IsMade, IsWhole, Plans};
+ghost use Rattle.dk_show.specs.Works.{ComesTo, IsMade, IsWhole};
 
 use crate::loading::loaded_at;
 use crate::work::Work;
@@ -26,7 +26,7 @@ fn repeats_end(whole: bool) -> Status
 /// What repeats in the run of a configuration with its programs.
 fn of_load(alloc: Global, loaded: Loaded, ticks: u32) -> Result<Work, Refusal>
     requires { IsCertifiedLoad loaded }
-    ensures plans { Plans (IsOfRepeats ticks loaded) result }
+    ensures comes { ComesTo (IsOfRepeats ticks loaded) result }
     ensures made { IsMade IsWhole result }
 {
     let found = find_repeats(alloc, loaded, ticks)?;
@@ -35,14 +35,14 @@ fn of_load(alloc: Global, loaded: Loaded, ticks: u32) -> Result<Work, Refusal>
 
 /// What repeats in the run of the configuration in the file of this name.
 #[tactic(auto, using(crate::proofs::Asks::asks_on, crate::proofs::Asks::asks_fails))]
-pub(crate) fn repeats_plan<D: Depot>(
+pub(crate) fn repeats_work<D: Depot>(
     alloc: Global,
     file: &str,
     ticks: u32,
     depot: &mut D,
 ) -> Result<Work, Refusal>
     requires { (D.seen depot.old).given < 2 ^ 62 }
-    ensures plans { IfSome (D.seen depot.old).files (λ at. Plans (IsOfLoaded at file.now (IsOfRepeats ticks)) result) }
+    ensures comes { IfSome (D.seen depot.old).files (λ at. ComesTo (IsOfLoaded at file.now (IsOfRepeats ticks)) result) }
     ensures whole { IfOk result IsWhole }
     ensures asks { Asks (D.seen depot.old).files (λ at. handed_load at file.now) (λ at. loaded at file.now ≡ Err Refusal.Depot)
         (D.seen depot.old) (D.seen depot.new) result }

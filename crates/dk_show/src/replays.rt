@@ -10,7 +10,7 @@ ghost use Rattle.dk_show.specs.Asking.{Asks, MissesAfter, handed_after, handed_o
 ghost use Rattle.dk_show.specs.Leaves.{Reads};
 ghost use Rattle.dk_show.specs.Loading.{IsOf, certified_at};
 ghost use Rattle.dk_show.specs.Replays.{IsOfProfile, replay_end};
-ghost use Rattle.dk_show.specs.Works.{IsMade, IsWhole, Plans};
+ghost use Rattle.dk_show.specs.Works.{ComesTo, IsMade, IsWhole};
 
 use crate::files::file_at;
 use crate::loading::certified_at;
@@ -59,7 +59,7 @@ fn of_profile(
 ) -> Result<Work, Refusal>
     requires limits { IsWithinLimits config.now }
     requires few { length bytes.now ≤ MAX_PROFILE_BYTES }
-    ensures plans { Plans (IsOfProfile config.now request.now.profile request.now.name bytes.now) result }
+    ensures comes { ComesTo (IsOfProfile config.now request.now.profile request.now.name bytes.now) result }
     ensures made { IsMade IsWhole result }
 {
     let replay = replay_of(alloc, request, config, bytes)?;
@@ -77,7 +77,7 @@ fn replay_at<D: Depot>(
 ) -> Result<Work, Refusal>
     requires given { (D.seen depot.old).given < 2 ^ 62 + 2 ^ 30 }
     requires limits { IsWithinLimits config.now }
-    ensures plans { IfSome (D.seen depot.old).files (λ at. Plans (IsOfNamed at request.now.profile MAX_PROFILE_BYTES
+    ensures comes { IfSome (D.seen depot.old).files (λ at. ComesTo (IsOfNamed at request.now.profile MAX_PROFILE_BYTES
         Refusal.LongProfile (IsOfProfile config.now request.now.profile request.now.name)) result) }
     ensures whole { IfOk result IsWhole }
     ensures asks { Asks (D.seen depot.old).files (λ at. handed_out MAX_PROFILE_BYTES (at request.now.profile)) (λ at. at request.now.profile ≡ None)
@@ -90,13 +90,13 @@ fn replay_at<D: Depot>(
 }
 
 /// The program of the profile in the one file for a process of the configuration in the other, where it is certified.
-pub(crate) fn replay_plan<D: Depot>(
+pub(crate) fn replay_work<D: Depot>(
     alloc: Global,
     request: &ReplayRequest,
     depot: &mut D,
 ) -> Result<Work, Refusal>
     requires { (D.seen depot.old).given < 2 ^ 62 }
-    ensures plans { IfSome (D.seen depot.old).files (λ at. Plans (IsOf (certified_at (at request.now.file))
+    ensures comes { IfSome (D.seen depot.old).files (λ at. ComesTo (IsOf (certified_at (at request.now.file))
         (λ c. IsOfNamed at request.now.profile MAX_PROFILE_BYTES Refusal.LongProfile (IsOfProfile c request.now.profile request.now.name))) result) }
     ensures whole { IfOk result IsWhole }
     ensures asks { Asks (D.seen depot.old).files (λ at. handed_out MAX_CONFIG_BYTES (at request.now.file)

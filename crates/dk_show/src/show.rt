@@ -12,7 +12,7 @@ ghost use Rattle.dk_show_request.specs.Usage.{usage_text};
 ghost use Rattle.dk_show.specs.Output.{IsOfRequest, IsOutput, IsUsage, Says, StandsInOutput};
 ghost use Rattle.dk_show.specs.Works.{HasText, IsRangeReady, IsReady, IsWhole, ended_of};
 
-use crate::plans::plan;
+use crate::making::work_for;
 use crate::work::{RangeWork, Work, draw};
 use crate::{Refusal, Status};
 use dk_config_report::Page;
@@ -180,7 +180,7 @@ fn perform<D: Depot, S: Sink>(
         → (D.seen depot.new).strays ≡ (D.seen depot.old).strays) }
     ensures same { (D.seen depot.new).files ≡ (D.seen depot.old).files }
 {
-    match plan(alloc, request, depot) {
+    match work_for(alloc, request, depot) {
         Ok(work) => put(alloc, &work, sink),
         Err(refusal) => say(alloc, sink, &refusal),
     }

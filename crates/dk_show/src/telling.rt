@@ -10,7 +10,7 @@ ghost use Rattle.dk_margin_report.specs.Margins.{AreMargins};
 ghost use Rattle.dk_warning_report.specs.WarningLines.{warnings_of};
 ghost use Rattle.dk_when_report.specs.When.{IsWhen};
 ghost use Rattle.dk_show.specs.Output.{IsOfDocument, IsOfNamed, IsToldOf, certified_end, form_of};
-ghost use Rattle.dk_show.specs.Works.{IsMade, IsWhole, Plans};
+ghost use Rattle.dk_show.specs.Works.{ComesTo, IsMade, IsWhole};
 
 use crate::files::file_at;
 use crate::work::Work;
@@ -82,7 +82,7 @@ fn warnings_page(alloc: Global, as_csv: bool, config: &Config) -> Result<Page, N
 fn when_work(alloc: Global, as_csv: bool, config: &Config) -> Result<Work, Refusal>
     requires checked { IsChecked config.now }
     requires limits { IsWithinLimits config.now }
-    ensures plans { Plans (IsToldOf Telling.When as_csv config.now (verdict_of config.now)) result }
+    ensures comes { ComesTo (IsToldOf Telling.When as_csv config.now (verdict_of config.now)) result }
     ensures made { IsMade IsWhole result }
 {
     match certify(config) {
@@ -117,7 +117,7 @@ fn certificate_work(alloc: Global, as_csv: bool, config: &Config) -> Result<Work
     requires unbroken { BreaksNoRule config.now }
     requires checked { IsChecked config.now }
     requires limits { IsWithinLimits config.now }
-    ensures plans { Plans (IsToldOf Telling.Certify as_csv config.now (verdict_of config.now)) result }
+    ensures comes { ComesTo (IsToldOf Telling.Certify as_csv config.now (verdict_of config.now)) result }
     ensures made { IsMade IsWhole result }
 {
     Ok(Work::Page(
@@ -131,7 +131,7 @@ fn margins_work(alloc: Global, as_csv: bool, config: &Config) -> Result<Work, Re
     requires unbroken { BreaksNoRule config.now }
     requires checked { IsChecked config.now }
     requires limits { IsWithinLimits config.now }
-    ensures plans { Plans (IsToldOf Telling.Margins as_csv config.now (verdict_of config.now)) result }
+    ensures comes { ComesTo (IsToldOf Telling.Margins as_csv config.now (verdict_of config.now)) result }
     ensures made { IsMade IsWhole result }
 {
     Ok(Work::Page(margins_page(alloc, as_csv, config)?, Status::Done))
@@ -142,7 +142,7 @@ fn warnings_work(alloc: Global, as_csv: bool, config: &Config) -> Result<Work, R
     requires unbroken { BreaksNoRule config.now }
     requires checked { IsChecked config.now }
     requires limits { IsWithinLimits config.now }
-    ensures plans { Plans (IsToldOf Telling.Warnings as_csv config.now (verdict_of config.now)) result }
+    ensures comes { ComesTo (IsToldOf Telling.Warnings as_csv config.now (verdict_of config.now)) result }
     ensures made { IsMade IsWhole result }
 {
     Ok(Work::Page(warnings_page(alloc, as_csv, config)?, Status::Done))
@@ -153,7 +153,7 @@ fn told_of(alloc: Global, telling: Telling, as_csv: bool, config: &Config) -> Re
     requires unbroken { BreaksNoRule config.now }
     requires checked { IsChecked config.now }
     requires limits { IsWithinLimits config.now }
-    ensures plans { Plans (IsToldOf telling as_csv config.now (verdict_of config.now)) result }
+    ensures comes { ComesTo (IsToldOf telling as_csv config.now (verdict_of config.now)) result }
     ensures made { IsMade IsWhole result }
 {
     match telling {
@@ -167,7 +167,7 @@ fn told_of(alloc: Global, telling: Telling, as_csv: bool, config: &Config) -> Re
 /// What is told of the document in these bytes.
 fn of_document(alloc: Global, telling: Telling, as_csv: bool, bytes: &[u8]) -> Result<Work, Refusal>
     requires { length bytes.now ≤ MAX_CONFIG_BYTES }
-    ensures plans { Plans (IsOfDocument telling as_csv bytes.now) result }
+    ensures comes { ComesTo (IsOfDocument telling as_csv bytes.now) result }
     ensures made { IsMade IsWhole result }
 {
     match read_config(alloc, bytes) {
@@ -180,13 +180,13 @@ fn of_document(alloc: Global, telling: Telling, as_csv: bool, bytes: &[u8]) -> R
 
 /// What is told of the document in the file of the request's name.
 #[tactic(auto, using(crate::proofs::Asks::asks_on, crate::proofs::Asks::asks_fails))]
-pub(crate) fn telling_plan<D: Depot>(
+pub(crate) fn telling_work<D: Depot>(
     alloc: Global,
     request: &TellRequest,
     depot: &mut D,
 ) -> Result<Work, Refusal>
     requires { (D.seen depot.old).given < 2 ^ 62 }
-    ensures plans { IfSome (D.seen depot.old).files (λ at. Plans (IsOfNamed at request.now.file MAX_CONFIG_BYTES Refusal.LongConfig
+    ensures comes { IfSome (D.seen depot.old).files (λ at. ComesTo (IsOfNamed at request.now.file MAX_CONFIG_BYTES Refusal.LongConfig
         (IsOfDocument request.now.telling request.now.as_csv)) result) }
     ensures whole { IfOk result IsWhole }
     ensures asks { Asks (D.seen depot.old).files (λ at. handed_out MAX_CONFIG_BYTES (at request.now.file))

@@ -8,7 +8,7 @@ ghost use Rattle.dk_show.specs.Asking.{Asks, handed_out};
 ghost use Rattle.dk_show.specs.Leaves.{Reads};
 ghost use Rattle.dk_show.specs.Output.{IsOfNamed};
 ghost use Rattle.dk_show.specs.Windowed.{AreTold, IsOfPage, IsOfWindows, done_end, lines_end, sound_end};
-ghost use Rattle.dk_show.specs.Works.{HasText, IsMade, IsWhole, Plans, ended_of};
+ghost use Rattle.dk_show.specs.Works.{ComesTo, HasText, IsMade, IsWhole, ended_of};
 ghost use Rattle.dk_window_lines.specs.Lines.{windows_lines};
 ghost use Rattle.dk_window_overruns.specs.Overruns.{all_windows};
 ghost use Rattle.dk_window_table.specs.Table.{windows_csv};
@@ -48,7 +48,7 @@ fn lines_work(report: WindowReport, strictness: Strictness) -> Work
 
 /// What the threads of the ledger in these bytes did, as lines.
 fn of_lines(alloc: Global, strictness: Strictness, bytes: &[u8]) -> Result<Work, Refusal>
-    ensures plans { Plans (IsOfPage (windows_lines strictness) (lines_end strictness) bytes.now) result }
+    ensures comes { ComesTo (IsOfPage (windows_lines strictness) (lines_end strictness) bytes.now) result }
     ensures made { IsMade IsWhole result }
 {
     match WindowReport::of(alloc, bytes) {
@@ -61,8 +61,8 @@ fn of_lines(alloc: Global, strictness: Strictness, bytes: &[u8]) -> Result<Work,
 /// What is told of a report as a table.
 fn table_work(alloc: Global, report: &WindowReport) -> Result<Work, Refusal>
     requires { IsPrintable report.now.heading }
-    ensures plans { (past : List Entry) → IsKeptOf report.now.heading past report.now.kept
-        → Plans (AreTold windows_csv done_end report.now.heading past) result }
+    ensures comes { (past : List Entry) → IsKeptOf report.now.heading past report.now.kept
+        → ComesTo (AreTold windows_csv done_end report.now.heading past) result }
     ensures made { IsMade IsWhole result }
 {
     let table = windows_csv(alloc, report)?;
@@ -71,7 +71,7 @@ fn table_work(alloc: Global, report: &WindowReport) -> Result<Work, Refusal>
 
 /// What the threads of the ledger in these bytes did, as a table.
 fn of_table(alloc: Global, bytes: &[u8]) -> Result<Work, Refusal>
-    ensures plans { Plans (IsOfPage windows_csv done_end bytes.now) result }
+    ensures comes { ComesTo (IsOfPage windows_csv done_end bytes.now) result }
     ensures made { IsMade IsWhole result }
 {
     match WindowReport::of(alloc, bytes) {
@@ -83,7 +83,7 @@ fn of_table(alloc: Global, bytes: &[u8]) -> Result<Work, Refusal>
 
 /// What the threads of the ledger in these bytes did, with each window that was overrun.
 fn of_all(alloc: Global, bytes: &[u8]) -> Result<Work, Refusal>
-    ensures plans { Plans (IsOfPage all_windows done_end bytes.now) result }
+    ensures comes { ComesTo (IsOfPage all_windows done_end bytes.now) result }
     ensures made { IsMade IsWhole result }
 {
     match AllWindows::of(alloc, bytes) {
@@ -95,7 +95,7 @@ fn of_all(alloc: Global, bytes: &[u8]) -> Result<Work, Refusal>
 
 /// What the threads of the ledger in these bytes did.
 fn of_ledger(alloc: Global, form: WindowsForm, bytes: &[u8]) -> Result<Work, Refusal>
-    ensures plans { Plans (IsOfWindows form bytes.now) result }
+    ensures comes { ComesTo (IsOfWindows form bytes.now) result }
     ensures made { IsMade IsWhole result }
 {
     match form {
@@ -109,15 +109,15 @@ fn of_ledger(alloc: Global, form: WindowsForm, bytes: &[u8]) -> Result<Work, Ref
 
 /// What the threads of the ledger in the file of this name did.
 #[tactic(auto, using(crate::proofs::Asks::asks_on, crate::proofs::Asks::asks_fails))]
-pub(crate) fn windows_plan<D: Depot>(
+pub(crate) fn windows_work<D: Depot>(
     alloc: Global,
     ledger: &str,
     form: WindowsForm,
     depot: &mut D,
 ) -> Result<Work, Refusal>
     requires { (D.seen depot.old).given < 2 ^ 62 }
-    ensures plans { IfSome (D.seen depot.old).files
-        (λ at. Plans (IsOfNamed at ledger.now MAX_LEDGER_BYTES Refusal.LongLedger (IsOfWindows form)) result) }
+    ensures comes { IfSome (D.seen depot.old).files
+        (λ at. ComesTo (IsOfNamed at ledger.now MAX_LEDGER_BYTES Refusal.LongLedger (IsOfWindows form)) result) }
     ensures whole { IfOk result IsWhole }
     ensures asks { Asks (D.seen depot.old).files (λ at. handed_out MAX_LEDGER_BYTES (at ledger.now)) (λ at. at ledger.now ≡ None)
         (D.seen depot.old) (D.seen depot.new) result }

@@ -1,16 +1,16 @@
 use Rattle.dk_show.proofs.Names.{[], inl, inr, rules, AreHoldsTold, IsOfHolds}
-use Rattle.dk_show.proofs.Planning.{plans_wider}
+use Rattle.dk_show.proofs.Coming.{comes_wider}
 use Rattle.dk_show.proofs.holds.of_bytes.Goals as goal
 
-pub returns-in-Ok-clause-plans : goal.returns-in-Ok-clause-plans
-returns-in-Ok-clause-plans c =
+pub returns-in-Ok-clause-comes : goal.returns-in-Ok-clause-comes
+returns-in-Ok-clause-comes c =
     let j = c.in-Ok.ledger in
     let read = c.in-Ok.ensures.ok in
-    plans_wider (AreHoldsTold [] j) (IsOfHolds c.args.bytes.now)
-    (λ t s told. inr (record { ledger = j; readable = read.0; bytes_are = read.1; told = told })) c.told_holds.result c.told_holds.ensures.plans
+    comes_wider (AreHoldsTold [] j) (IsOfHolds c.args.bytes.now)
+    (λ t s told. inr (record { ledger = j; readable = read.0; bytes_are = read.1; told = told })) c.told_holds.result c.told_holds.ensures.comes
 
-pub returns-in-Err-Line-clause-plans : goal.returns-in-Err-Line-clause-plans
-returns-in-Err-Line-clause-plans c = λ told.
+pub returns-in-Err-Line-clause-comes : goal.returns-in-Err-Line-clause-comes
+returns-in-Err-Line-clause-comes c = λ told.
     let n = c.in-Err-Line.line in
     let found = c.read_ledger.ensures.line n (cc) in
     inl (record { line = n; wrong = found.0; none = found.1; says = search rules })

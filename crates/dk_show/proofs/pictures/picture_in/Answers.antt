@@ -1,11 +1,11 @@
-use Rattle.dk_show.proofs.Names.{ℕ, List, subst, MAX_LEDGER_BYTES, IsOfOwnPicture, Plans}
+use Rattle.dk_show.proofs.Names.{ℕ, List, subst, MAX_LEDGER_BYTES, IsOfOwnPicture, ComesTo}
 use Rattle.dk_show.specs.declared.refusal.Refusal.TheVariants as why
-use Rattle.dk_show.proofs.Planning.{named_by}
+use Rattle.dk_show.proofs.Coming.{named_by}
 use Rattle.dk_show.proofs.pictures.picture_in.Goals as goal
 
-pub returns-clause-plans : goal.returns-clause-plans
-returns-clause-plans g c =
+pub returns-clause-comes : goal.returns-clause-comes
+returns-clause-comes g c =
     let IsOf = IsOfOwnPicture c.args.config.now c.args.range in
-    let plans = subst (λ (bytes : List ℕ). Plans (IsOf bytes) c.of_own_bytes.result) c.as_slice.ensures.value c.of_own_bytes.ensures.plans in
+    let comes = subst (λ (bytes : List ℕ). ComesTo (IsOf bytes) c.of_own_bytes.result) c.as_slice.ensures.value c.of_own_bytes.ensures.comes in
     named_by (g.D.Depot.seen c.args.depot.now).files c.args.ledger.now MAX_LEDGER_BYTES why.LongLedger IsOf c.in_ok-bytes.bytes.items c.of_own_bytes.result
-    c.in_ok-bytes.ensures.held c.in_ok-bytes.ensures.short plans
+    c.in_ok-bytes.ensures.held c.in_ok-bytes.ensures.short comes

@@ -12,8 +12,8 @@ chain_report-requires-clause-there c =
     let there = subst (λ (f : ChainIn). AreThere f.config (f.first ∷ f.rest)) (sym c.found.view_is) c.requires.certified.there in
     subst (λ (ps : List ℕ). AreThere c.found.inside.config (c.found.inside.chain.first ∷ ps)) (sym c.as_slice-rest.ensures.value) there
 
-pub returns-clause-plans : goal.returns-clause-plans
-returns-clause-plans c = λ text has.
+pub returns-clause-comes : goal.returns-clause-comes
+returns-clause-comes c = λ text has.
     let exact = rw (c.as_slice-rest.ensures.value, c.as_slice.ensures.value) at c.in_ok-seen.ensures in
     let told = rw c.as_slice-rest.ensures.value at c.in_ok-page.ensures.text in
     inl (told_of c.args.found c.args.ledger.now _ _ _ _ _ _ text _ _ c.found.view_is c.ledger.view_is

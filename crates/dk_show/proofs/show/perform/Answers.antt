@@ -6,13 +6,13 @@ use Rattle.dk_show.proofs.show.perform.Goals as goal
 pub returns-in-Ok-clause-output : goal.returns-in-Ok-clause-output
 returns-in-Ok-clause-output g c =
     leaves_wider g.S.Sink.seen _ _ c.args.sink.now c.put.new.sink c.put.result
-    (work_stands (IsOfRequest c.args.request.now) (g.D.Depot.seen c.args.depot.now).files c.in-Ok.work c.in-Ok.ensures.plans)
+    (work_stands (IsOfRequest c.args.request.now) (g.D.Depot.seen c.args.depot.now).files c.in-Ok.work c.in-Ok.ensures.comes)
     c.put.ensures.left
 
 pub returns-in-Err-clause-output : goal.returns-in-Err-clause-output
 returns-in-Err-clause-output g c =
     leaves_said g.S.Sink.seen _ _ c.args.sink.now c.say.new.sink c.say.result
-    (λ speaks. refusal_stands (IsOfRequest c.args.request.now) (g.D.Depot.seen c.args.depot.now).files c.in-Err.refusal c.in-Err.ensures.plans
+    (λ speaks. refusal_stands (IsOfRequest c.args.request.now) (g.D.Depot.seen c.args.depot.now).files c.in-Err.refusal c.in-Err.ensures.comes
     (loud c.in-Err.refusal c.say.result c.say.ensures.silent speaks))
     c.say.ensures.untouched c.say.ensures.left
 

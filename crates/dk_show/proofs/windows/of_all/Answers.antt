@@ -1,13 +1,13 @@
 use Rattle.dk_show.proofs.Names.{◌∙◌, inl, inr, refl, rules}
 use Rattle.dk_show.proofs.windows.of_all.Goals as goal
 
-pub returns-in-Ok-clause-plans : goal.returns-in-Ok-clause-plans
-returns-in-Ok-clause-plans c = λ text has.
+pub returns-in-Ok-clause-comes : goal.returns-in-Ok-clause-comes
+returns-in-Ok-clause-comes c = λ text has.
     let all = c.in-Ok.ensures.text in
     inr (record { ledger = all.0; readable = all.1; bytes_are = all.2; told = (has ∙ all.3, refl) })
 
-pub returns-in-Err-Line-clause-plans : goal.returns-in-Err-Line-clause-plans
-returns-in-Err-Line-clause-plans c = λ told.
+pub returns-in-Err-Line-clause-comes : goal.returns-in-Err-Line-clause-comes
+returns-in-Err-Line-clause-comes c = λ told.
     let n = c.in-Err-Line.line in
     let found = c.of.ensures.line n (cc) in
     inl (record { line = n; wrong = found.0; none = found.1; says = search rules })

@@ -6,21 +6,21 @@ ghost use Rattle.dk_show.specs.Asking.{Asks, Misses, WordsMiss, handed_for, hand
 ghost use Rattle.dk_show.specs.Leaves.{Reads};
 ghost use Rattle.dk_show_request.specs.Meaning.{DrawsNothing, HasFewNames, MeansNothing, meaning};
 ghost use Rattle.dk_show.specs.Output.{from_of, to_of, IsBehind, IsDrawn, IsOfBytes, IsOfNamed, IsOfRequest, IsOutput};
-ghost use Rattle.dk_show.specs.Works.{IsMade, IsReady, IsWhole, Plans};
+ghost use Rattle.dk_show.specs.Works.{ComesTo, IsMade, IsReady, IsWhole};
 
 use crate::Refusal;
-use crate::chains::chain_plan;
-use crate::checks::check_plan;
-use crate::faults::faults_plan;
+use crate::chains::chain_work;
+use crate::checks::check_work;
+use crate::faults::faults_work;
 use crate::files::file_at;
-use crate::holds::holds_plan;
-use crate::impacts::impact_plan;
-use crate::pictures::picture_plan;
-use crate::reactions::reactions_plan;
-use crate::repeats::repeats_plan;
-use crate::replays::replay_plan;
-use crate::telling::telling_plan;
-use crate::windows::windows_plan;
+use crate::holds::holds_work;
+use crate::impacts::impact_work;
+use crate::pictures::picture_work;
+use crate::reactions::reactions_work;
+use crate::repeats::repeats_work;
+use crate::replays::replay_work;
+use crate::telling::telling_work;
+use crate::windows::windows_work;
 use crate::work::{RangeWork, Work};
 use dk_config::MAX_LEDGER_BYTES;
 use dk_groups::survey_ledger;
@@ -43,8 +43,8 @@ pub(crate) fn range_within(range: Option<Range>, ticks: u32) -> Range
 /// What is drawn of so many ticks, which are those of the ledger in these bytes.
 fn within(request: &RangeRequest, bytes: Vec<u8>, ticks: u32) -> Result<Work, Refusal>
     requires { (j : Journal) × IsReadable j × (text_of j ≡ bytes.items) × (ticks ≡ length j.entries) }
-    ensures plans { (j : Journal) → IsReadable j → text_of j ≡ bytes.items → ticks ≡ length j.entries
-        → Plans (λ text ended. IsDrawn request.now j text ended ⊎ IsBehind request.now j text ended) result }
+    ensures comes { (j : Journal) → IsReadable j → text_of j ≡ bytes.items → ticks ≡ length j.entries
+        → ComesTo (λ text ended. IsDrawn request.now j text ended ⊎ IsBehind request.now j text ended) result }
     ensures made { IsMade IsReady result }
 {
     let range = range_within(request.range, ticks);
@@ -62,7 +62,7 @@ fn within(request: &RangeRequest, bytes: Vec<u8>, ticks: u32) -> Result<Work, Re
 /// What is drawn of the ledger in these bytes.
 fn of_bytes(alloc: Global, request: &RangeRequest, bytes: Vec<u8>) -> Result<Work, Refusal>
     requires { length bytes.items ≤ MAX_LEDGER_BYTES }
-    ensures plans { Plans (IsOfBytes request.now bytes.items) result }
+    ensures comes { ComesTo (IsOfBytes request.now bytes.items) result }
     ensures made { IsMade IsReady result }
 {
     match survey_ledger(alloc, bytes.as_slice()) {
@@ -74,13 +74,13 @@ fn of_bytes(alloc: Global, request: &RangeRequest, bytes: Vec<u8>) -> Result<Wor
 
 /// What is drawn of the ledger of a request.
 #[tactic(auto, using(crate::proofs::Asks::asks_on, crate::proofs::Asks::asks_fails))]
-fn drawing_plan<D: Depot>(
+fn drawing_work<D: Depot>(
     alloc: Global,
     request: &RangeRequest,
     depot: &mut D,
 ) -> Result<Work, Refusal>
     requires { (D.seen depot.old).given < 2 ^ 62 }
-    ensures plans { IfSome (D.seen depot.old).files (λ at. Plans (IsOfNamed at request.now.ledger MAX_LEDGER_BYTES
+    ensures comes { IfSome (D.seen depot.old).files (λ at. ComesTo (IsOfNamed at request.now.ledger MAX_LEDGER_BYTES
         Refusal.LongLedger (IsOfBytes request.now)) result) }
     ensures ready { IfOk result IsReady }
     ensures asks { Asks (D.seen depot.old).files (λ at. handed_out MAX_LEDGER_BYTES (at request.now.ledger)) (λ at. at request.now.ledger ≡ None)
@@ -94,14 +94,14 @@ fn drawing_plan<D: Depot>(
 
 /// What a request comes to over a depot.
 #[tactic(auto, using(crate::proofs::Wholes::whole_ready))]
-pub(crate) fn plan<D: Depot>(
+pub(crate) fn work_for<D: Depot>(
     alloc: Global,
     request: &Request,
     depot: &mut D,
 ) -> Result<Work, Refusal>
     requires given { (D.seen depot.old).given < 2 ^ 62 }
     requires few { HasFewNames request.now }
-    ensures plans { IfSome (D.seen depot.old).files (λ at. Plans (IsOfRequest request.now at) result) }
+    ensures comes { IfSome (D.seen depot.old).files (λ at. ComesTo (IsOfRequest request.now at) result) }
     ensures ready { IfOk result IsReady }
     ensures whole { DrawsNothing request.now → IfOk result IsWhole }
     ensures asks { Asks (D.seen depot.old).files (handed_for request.now) (Misses request.now)
@@ -109,23 +109,23 @@ pub(crate) fn plan<D: Depot>(
     ensures reads { Reads (D.seen depot.old) (D.seen depot.new) result }
 {
     match request {
-        Request::Draw(request) => drawing_plan(alloc, request, depot),
+        Request::Draw(request) => drawing_work(alloc, request, depot),
         Request::Picture {
             ledger,
             file,
             range,
-        } => picture_plan(alloc, ledger.as_str(), file, *range, depot),
-        Request::Windows { ledger, form } => windows_plan(alloc, ledger.as_str(), *form, depot),
-        Request::Holds { ledger, file } => holds_plan(alloc, ledger.as_str(), file, depot),
-        Request::Faults(file) => faults_plan(alloc, file.as_str(), depot),
-        Request::Tell(request) => telling_plan(alloc, request, depot),
-        Request::Chain(request) => chain_plan(alloc, request, depot),
+        } => picture_work(alloc, ledger.as_str(), file, *range, depot),
+        Request::Windows { ledger, form } => windows_work(alloc, ledger.as_str(), *form, depot),
+        Request::Holds { ledger, file } => holds_work(alloc, ledger.as_str(), file, depot),
+        Request::Faults(file) => faults_work(alloc, file.as_str(), depot),
+        Request::Tell(request) => telling_work(alloc, request, depot),
+        Request::Chain(request) => chain_work(alloc, request, depot),
         Request::Reactions { chain, ledger } => {
-            reactions_plan(alloc, chain, ledger.as_str(), depot)
+            reactions_work(alloc, chain, ledger.as_str(), depot)
         }
-        Request::Impact(request) => impact_plan(alloc, request, depot),
-        Request::Repeats { file, ticks } => repeats_plan(alloc, file.as_str(), *ticks, depot),
-        Request::Check(request) => check_plan(alloc, request, depot),
-        Request::Replay(request) => replay_plan(alloc, request, depot),
+        Request::Impact(request) => impact_work(alloc, request, depot),
+        Request::Repeats { file, ticks } => repeats_work(alloc, file.as_str(), *ticks, depot),
+        Request::Check(request) => check_work(alloc, request, depot),
+        Request::Replay(request) => replay_work(alloc, request, depot),
     }
 }

@@ -1,0 +1,11 @@
+use Rattle.dk_show.proofs.Names.{ℕ, List, subst, MAX_LEDGER_BYTES, IsOfPicture, ComesTo}
+use Rattle.dk_show.specs.declared.refusal.Refusal.TheVariants as why
+use Rattle.dk_show.proofs.Coming.{named_by}
+use Rattle.dk_show.proofs.pictures.plain_work.Goals as goal
+
+pub returns-clause-comes : goal.returns-clause-comes
+returns-clause-comes g c =
+    let IsOf = IsOfPicture c.args.range in
+    let comes = subst (λ (bytes : List ℕ). ComesTo (IsOf bytes) c.of_bytes.result) c.as_slice.ensures.value c.of_bytes.ensures.comes in
+    named_by (g.D.Depot.seen c.args.depot.now).files c.args.ledger.now MAX_LEDGER_BYTES why.LongLedger IsOf c.in_ok-bytes.bytes.items c.of_bytes.result
+    c.in_ok-bytes.ensures.held c.in_ok-bytes.ensures.short comes
