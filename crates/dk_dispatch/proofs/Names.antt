@@ -27,9 +27,9 @@ pub use Rattle.dk_dispatch.specs.Calls.{IsCreated, IsDone, IsEnding, IsFree, IsI
 pub use Rattle.dk_dispatch.specs.Leading.{Borrows as BorrowsBy, Leads, Runs as RunsBy}
 pub use Rattle.dk_dispatch.specs.Levels.{IsFirstWish, IsFirstWork}
 pub use Rattle.dk_dispatch.specs.Questions.{IsTelling, IsTellingAt}
-pub use Rattle.dk_dispatch.specs.Standing.{Dispatched, Stands, StandsAt, dispatched, slots as seen}
+pub use Rattle.dk_dispatch.specs.Standing.{Dispatched, HasSlot, Stands, StandsAt, dispatched, slots as seen}
 pub use Rattle.dk_dispatch.specs.Sums.{IsAdded}
-pub use Rattle.dk_dispatch.specs.Ticks.{Borrows, Goes, IsShut, IsWhole, MayLend, MayRun, Runs}
+pub use Rattle.dk_dispatch.specs.Ticks.{Borrows, Goes, HasRow, IsShut, IsWhole, MayLend, MayRun, Runs}
 pub use Rattle.dk_dispatch.specs.contracts.tables.AllTables.{the_view}
 pub use Rattle.dk_dispatch.specs.declared.tables.choosing.FirstWork.{FirstWork}
 pub use Rattle.dk_dispatch.specs.declared.tables.leading.Lead.{Lead}
