@@ -12,7 +12,7 @@ pub use Rattle.dk_cpu.specs.declared.Outcome.{Outcome}
 pub use Rattle.dk_cpu.specs.declared.kernel_call.KernelCall.{KernelCall}
 pub use Rattle.dk_dispatch.specs.Calls.{IsCreated, IsDone, IsEnding, IsInCall, IsNotCreated, IsRefused, call_refusal}
 pub use Rattle.dk_dispatch.specs.Questions.{IsTelling, IsTellingAt}
-pub use Rattle.dk_dispatch.specs.Standing.{Dispatched, slots}
+pub use Rattle.dk_dispatch.specs.Standing.{Dispatched, HasSlot, slots}
 pub use Rattle.dk_dispatch.specs.Ticks.{Goes, IsShut}
 pub use Rattle.dk_isa.specs.declared.FaultKind.{FaultKind}
 pub use Rattle.dk_kernel.specs.Booting.{first_states}

@@ -19,7 +19,7 @@ few-steps L s before between after first second = omega (arith, first, second)
 -- a thread's turn
 module _ (executor : Executor) (old : Dispatched) (states : List State) (default : State) (may : MayBook old states executor.cost)
     (ruled : IsRuled old.past.config old.past.entries) (audits : StepsAreAudited)
-    (runs : executes (choice_at old.past) ≡ Some executor.thread) (at : slots old executor.thread ≡ Some executor.slot) (fits : executor.slot ≤ MAX_CHILDREN) where
+    (runs : executes (choice_at old.past) ≡ Some executor.thread) (seat : HasSlot (slots old) executor.thread executor.slot) where
   abbrev x : ThreadId
   x = executor.thread
 
@@ -51,7 +51,7 @@ module _ (executor : Executor) (old : Dispatched) (states : List State) (default
   breaks = breaks_at executor p state
 
   pub within : x.process < length states
-  within = may.running.images.rows x slot at
+  within = may.running.images.rows x slot seat.at
 
   tied : IsImage (slots old) x.process image state
   tied = subst (λ z. IsImage (slots old) x.process image z) (get_or_default states x.process no_state default within) (may.running.images.each x.process within)
@@ -61,12 +61,12 @@ module _ (executor : Executor) (old : Dispatched) (states : List State) (default
   same-tick =
       ap (λ k. body_tick k state.code (context_at state slot) state.memory) (sym may.price)
       ∙ ap (λ z. body_tick p.config.costs.call z (context_at state slot) state.memory) tied.code
-      ∙ ap (λ z. body_tick p.config.costs.call image.code z state.memory) (tied.contexts x.serial slot at)
+      ∙ ap (λ z. body_tick p.config.costs.call image.code z state.memory) (tied.contexts x.serial slot seat.at)
       ∙ ap (λ z. body_tick p.config.costs.call image.code (image.contexts x.serial) z) tied.memory
 
   breaks-is : breaks ≡ breaks_hold p.config (held_by x p.entries) (image.contexts x.serial) tick.outcome
   breaks-is =
-      ap (λ z. breaks_hold p.config (held_by x p.entries) z seen.outcome) (tied.contexts x.serial slot at)
+      ap (λ z. breaks_hold p.config (held_by x p.entries) z seen.outcome) (tied.contexts x.serial slot seat.at)
       ∙ ap (λ (t : Tick). breaks_hold p.config (held_by x p.entries) (image.contexts x.serial) t.outcome) same-tick
 
   next-is : next_world p states ≡ turned w x.process turn
@@ -100,6 +100,7 @@ module _ (executor : Executor) (old : Dispatched) (states : List State) (default
   effect-is : turn_effect false executor p state ≡ effect_by state.code seen
   effect-is =
       let nine = tied.nine in
+      let fits = seat.fits in
       ap (λ context. effect p.config (length p.entries) (with_label p (label_at p seen.outcome)) (caller p x) (length state.code / 4) context seen.outcome)
       (context_at-after_tick state slot seen (omega (arith, nine, fits)))
 
@@ -115,23 +116,24 @@ module _ (executor : Executor) (old : Dispatched) (states : List State) (default
     ready = may.running.ready;
     runs = runs;
     room = may.room;
-    fits = fits;
+    fits = seat.fits;
     cost = may.some;
     follows = subst (Follows p.config p.entries) entry-is turn-follows;
   }
 
   -- the image after the turn
-  tied-after : (b : Bool) (new : Dispatched) (done : Done) → HasOwn (slots old) x slot
+  tied-after : (b : Bool) (new : Dispatched) (done : Done)
       → HasRows (slots old) (slots new) x done.child → effect_of done ≡ turn_effect b executor p state
       → IsImage (slots new) x.process (turn_by b).image (finished (turn_state b executor state) slot done)
-  tied-after true new done own rows is =
+  tied-after true new done rows is =
       let answer = no-answer done.answer (ap (λ (f : Effect). f.reply) is) in
       let child = no-child done.child (ap (λ (f : Effect). f.child) is) in
       let keeps : Keeps (slots old) (slots new) = subst (HasRows (slots old) (slots new) x) child rows in
       rw (answer, child) (keeps-image (slots old) (slots new) x.process image state keeps tied)
-  tied-after false new done own rows is =
+  tied-after false new done rows is =
       let nine = tied.nine in
-      let seated = image-finished (slots old) (slots new) x slot image state seen done.answer done.child tied (omega (arith, nine, fits)) at own rows in
+      let fits = seat.fits in
+      let seated = image-finished (slots old) (slots new) x slot image state seen done.answer done.child tied (omega (arith, nine, fits)) seat.at seat.own rows in
       let timed = subst (λ (t : Tick). IsImage (slots new) x.process (image_after image x.serial t (effect_of done)) (finished (after_tick state slot seen) slot done)) same-tick seated in
       subst (λ (f : Effect). IsImage (slots new) x.process (image_after image x.serial tick f) (finished (after_tick state slot seen) slot done)) (is ∙ effect-is) timed
 
@@ -139,18 +141,18 @@ module _ (executor : Executor) (old : Dispatched) (states : List State) (default
   code-after true = refl
   code-after false = refl
 
-  pub turn-booked : (new : Dispatched) (written : State) (entry : Entry) (before between after : ℕ) → HasOwn (slots old) x slot
+  pub turn-booked : (new : Dispatched) (written : State) (entry : Entry) (before between after : ℕ)
       → between ≤ before + 4 * length p.config.levels
       → HasTurned executor (snapshot old state between) (snapshot new written after) entry
       → HasBooked (snapshot old states before) (snapshot new (slice_set states x.process written) after) entry
-  turn-booked new written entry before between after own chose turned =
+  turn-booked new written entry before between after chose turned =
       let same : entry ≡ turn.entry =
       turned.newest ∙ ap (λ (f : Effect). entry_of (turn_label executor p state) f.event) turned.effect ∙ sym entry-is in
       let is = turn-is breaks breaks-is in
       let image-is : IsImage (slots new) x.process turn.image written =
       subst (λ (t : Turn). IsImage (slots new) x.process t.image written) (sym is)
       (subst (λ z. IsImage (slots new) x.process (turn_by breaks).image z) (sym turned.image)
-      (tied-after breaks new turned.done own turned.rows turned.effect)) in
+      (tied-after breaks new turned.done turned.rows turned.effect)) in
       record {
         past = turned.past;
         newest = ap (λ (v : World). v.past) next-is ∙ ap (λ e. e ∷ p.entries) (sym same);
