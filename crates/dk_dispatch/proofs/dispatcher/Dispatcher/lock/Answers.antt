@@ -17,14 +17,14 @@ returns-clause-answer g c =
     c.lock-answer.result _ _ c.note_done.ensures.same c.note_done.ensures.past c.lock-answer.ensures.answer
 
 -- what follows where nothing is against the call
-where-done : {T : Type 0} (P : Type 0) (answer : Result T Refusal) {result : Result T Refusal} {reason : Option Refusal} {old made new : Tables} → result ≡ answer
+where-done : {T : Type 0} (P : Type 0) (answer : Result T Refusal) {result : Result T Refusal} (reason : Option Refusal) (old made new : Tables) → result ≡ answer
     → Makes answer reason old made new → (reason ≡ None → P) → IfOk result (λ _. P)
-where-done P (Ok y) same told follows = subst (λ r. IfOk r (λ _. P)) (sym same) (follows told.0)
-where-done P (Err why) same told follows = subst (λ r. IfOk r (λ _. P)) (sym same) tt
+where-done P (Ok y) reason old made new same told follows = subst (λ r. IfOk r (λ _. P)) (sym same) (follows told.0)
+where-done P (Err why) reason old made new same told follows = subst (λ r. IfOk r (λ _. P)) (sym same) tt
 
 pub returns-clause-free : goal.returns-clause-free
 returns-clause-free g c =
-    where-done (IsFree c.args.mutex c.args.self.now.past) c.lock-answer.result c.note_done.ensures.same c.lock-answer.ensures.answer (λ met.
+    where-done (IsFree c.args.mutex c.args.self.now.past) c.lock-answer.result _ _ _ _ c.note_done.ensures.same c.lock-answer.ensures.answer (λ met.
     subst (λ (v : Dispatched). IsFree c.args.mutex v.past) c.self.view_is
     (c.locking_makes_the_recount.ensures.free c.args.mutex c.args.id _ _ _ c.self.inside.tables (calling c.args.id _ _ _ c.self.view_is c.requires c.self.invariant) c.are_sound.ensures.sound c.are_sound.ensures.families
     met))
