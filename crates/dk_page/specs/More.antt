@@ -1,5 +1,5 @@
 -- What chains of processes, and what repeats in a run, add to a page.
-use Rattle.std.specs.Prelude.{ℕ, ◌≡◌, Bool, true, false, List, [], ◌∷◌, ◌++◌, flat_map, codes, decimal}
+use Rattle.std.specs.Prelude.{ℕ, ◌≡◌, Bool, true, false, List, [], ◌∷◌, flat_map, codes, decimal}
 use Rattle.dk_html.specs.Escaping.{escaped}
 use Rattle.dk_html.specs.Outputs.{output}
 use Rattle.dk_html.specs.Parts.{joined}
