@@ -1,0 +1,6 @@
+pub mod Living
+pub mod Sums
+pub mod Counting
+pub mod Idling
+pub mod Telling
+pub mod Naming
