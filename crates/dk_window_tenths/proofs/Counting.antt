@@ -33,10 +33,10 @@ with-one b ds d few =
     let here : min (get_or (tenth_counts b ds) k 0 + 1) 4294967295 ≡ new k = omega (arith, at, most, own, last, few) in
     let others : (j : ℕ) → eqb j k ≡ false → old j ≡ new j =
     λ j off.
-        let apart : k ≢ j = λ is. let both : true ≡ false = sym (eq-eqb j k (sym is)) ∙ off in absurd (cc) in
-        let other : one_if (is_tenth b j d) ≡ 0 = ap one_if (ne_eqb k j apart) in
-        let more : new j ≡ old j + one_if (is_tenth b j d) = count-last b j ds d in
-        omega (arith, other, more) in
+    let apart : k ≢ j = λ is. let both : true ≡ false = sym (eq-eqb j k (sym is)) ∙ off in absurd (cc) in
+    let other : one_if (is_tenth b j d) ≡ 0 = ap one_if (ne_eqb k j apart) in
+    let more : new j ≡ old j + one_if (is_tenth b j d) = count-last b j ds d in
+    omega (arith, other, more) in
     set-level old new 11 k (min (get_or (tenth_counts b ds) k 0 + 1) 4294967295) (omega arith) here others
 
 with-none : (b : ℕ) (ds : List Did) → length ds ≤ 4294967295 → with_more 0 0 (tenth_counts b ds) ≡ tenth_counts b ds

@@ -4,3 +4,4 @@ pub mod Counting
 pub mod Idling
 pub mod Telling
 pub mod Naming
+pub mod Placing

@@ -7,7 +7,7 @@ ghost use Rattle.dk_trace.specs.declared.Entry.{Entry};
 ghost use Rattle.dk_ledger.specs.Heading.{IsPrintable, name_of};
 ghost use Rattle.dk_table.specs.Records.{IsPlain, IsSmall, record_text};
 ghost use Rattle.dk_window_tenths.specs.Table.{columns, main_record, process_record, tenths_csv};
-ghost use Rattle.dk_window_tenths.specs.Told.{AreTold};
+ghost use Rattle.dk_window_tenths.specs.Told.{AreTold, IsTold};
 
 use crate::told::{Told, told_at};
 use dk_config::{MAX_RUN_TICKS, NoMemory};
@@ -62,6 +62,23 @@ fn main_record(alloc: Global, name: &str, told: &Told) -> Result<String, AllocEr
     record_of_two(alloc, name, windows.as_str(), numbers.as_slice())
 }
 
+/// The record of a process, whose main is told up to its last entry but for ticks in which nothing happened to it.
+fn process_record(
+    alloc: Global,
+    header: &Header,
+    process: u8,
+    ticks: u32,
+    told: &Told,
+) -> Result<String, AllocError>
+    requires printable { IsPrintable header.now }
+    requires few { ticks ≤ MAX_RUN_TICKS }
+    ensures { IfOk result (λ s. (past : List Entry) → IsTold header.now past process told.now → ticks ≡ length past
+        → string_bytes s ≡ process_record header.now past process) }
+{
+    let now = told_at(ticks, *told);
+    main_record(alloc, name_at(header, process), &now)
+}
+
 /// A record for each process.
 fn add_records(
     alloc: Global,
@@ -77,9 +94,7 @@ fn add_records(
         → string_bytes text.new ≡ string_bytes text.old ++ flat_map (process_record header.now past) (below (length mains.now))) }
 {
     for process in 0..mains.len() {
-        let told = told_at(ticks, mains[process]);
-        let name = name_at(header, process as u8);
-        let line = main_record(alloc, name, &told)?;
+        let line = process_record(alloc, header, process as u8, ticks, &mains[process])?;
         text.push_str(line.as_str())?;
     }
     Ok(())
