@@ -60,7 +60,7 @@ _deosk_show_arguments() {
         return
     fi
     case ${COMP_WORDS[first]}:$((COMP_CWORD - first)):$word in
-    windows:*:-* | windows:2:*) COMPREPLY=($(compgen -W '--strict --sparing --all --csv' -- "$word")) ;;
+    windows:*:-* | windows:2:*) COMPREPLY=($(compgen -W '--strict --sparing --all --tenths --csv' -- "$word")) ;;
     impact:*:-*) COMPREPLY=($(compgen -W --csv -- "$word")) ;;
     check:*:-*) COMPREPLY=($(compgen -W '--csv --junit' -- "$word")) ;;
     certify:[2-9]:* | margins:[2-9]:* | when:[2-9]:* | warnings:[2-9]:* | certify:1:-* | margins:1:-* | when:1:-* | warnings:1:-*)
