@@ -1,5 +1,5 @@
 -- A tick goes from the world of the run to its next one.
-use Rattle.dk_kernel.proofs.Names.{ℕ, ◌≡◌, ◌+◌, ◌*◌, ◌/◌, ◌∷◌, ◌∙◌, ◌<◌, ◌≤◌, Bool, true, false, List, length, map, Option, Some, None, option_map, get_or, arith, refl, ap, sym, subst, slice_set, get_or_default, map-set_same, MAX_CHILDREN, FaultKind, ThreadId, Event, Entry, held_by, Audited, Follows, Tick, body_tick, State, after_tick, context_at, tick_at, IsRuled, moved, stopped, entry_of, HasOwn, Keeps, StepsAreAudited, Effect, effect, Image, Turn, World, breaks_hold, executes, image_after, step, thread_turn, tick_in, turned, world, Past, Ready, charged, choice_at, closed, opened, Dispatched, slots, Executor, Answer, Done, NewChild, snapshot, IsShut, HasRows, after_told, caller, child_of, effect_of, finished, label_at, reply_of, with_label, HasTurned, MayTurn, breaks_at, turn_effect, turn_entry, turn_label, turn_state, AreImages, HasBooked, IsImage, IsRunning, MayBook, code_of, next_world, no_state, run_of, world_at}
+use Rattle.dk_kernel.proofs.Names.{HasSlot, ℕ, ◌≡◌, ◌+◌, ◌*◌, ◌/◌, ◌∷◌, ◌∙◌, ◌<◌, ◌≤◌, Bool, true, false, List, length, map, Option, Some, None, option_map, get_or, arith, refl, ap, sym, subst, slice_set, get_or_default, map-set_same, FaultKind, ThreadId, Event, Entry, held_by, Audited, Follows, Tick, body_tick, State, after_tick, context_at, tick_at, IsRuled, moved, stopped, entry_of, Keeps, StepsAreAudited, Effect, effect, Image, Turn, World, breaks_hold, executes, image_after, step, thread_turn, tick_in, turned, world, Past, Ready, charged, choice_at, closed, opened, Dispatched, slots, Executor, Answer, Done, NewChild, snapshot, IsShut, HasRows, after_told, caller, child_of, effect_of, finished, label_at, reply_of, with_label, HasTurned, MayTurn, breaks_at, turn_effect, turn_entry, turn_label, turn_state, AreImages, HasBooked, IsImage, IsRunning, MayBook, code_of, next_world, no_state, run_of, world_at}
 use Rattle.dk_kernel.proofs.Called.{same-rows}
 use Rattle.dk_kernel.proofs.Images.{context_at-after_tick, finished-code, image-finished, keeps-image}
 use Rattle.dk_kernel.proofs.Steps.{stopped-moved, sum-of-steps}

@@ -1,5 +1,5 @@
 -- The ticks of a thread that computes, one after the other, in each of the worlds that they lead to.
-use Rattle.dk_kernel.proofs.Names.{ℕ, zero, suc, ◌≡◌, ◌<◌, ◌≤◌, ◌∷◌, List, length, map, get_or, set, false, Some, None, refl, ap, ◌∙◌, sym, subst, arith, inl, get_or-set_same, get_or_default, set-get_or, set-set, map-set_same, MAX_CHILDREN, Configuration, ThreadId, Choice, Work, Entry, quiet, thread_of, held_by, innermost_left, chosen, label_of, Outcome, Tick, body_tick, State, Works, WorksFor, after_tick, context_at, tick_at, HasOwn, Slots, Image, World, body_step, breaks_hold, executes, step, thread_turn, tick_in, turned, world, Past, choice_at, later, Dispatched, slots, Goes, AreImages, IsImage, IsRunning, code_of, no_state, run_of, state_at, IsAt, Running, running_of}
+use Rattle.dk_kernel.proofs.Names.{HasSlot, ℕ, zero, suc, ◌≡◌, ◌<◌, ◌∷◌, List, length, map, get_or, set, false, Some, None, refl, ap, ◌∙◌, sym, subst, arith, inl, get_or-set_same, get_or_default, set-get_or, set-set, map-set_same, Configuration, ThreadId, Choice, Work, Entry, quiet, thread_of, held_by, innermost_left, chosen, label_of, Outcome, Tick, body_tick, State, Works, WorksFor, after_tick, context_at, tick_at, Slots, Image, World, body_step, breaks_hold, executes, step, thread_turn, tick_in, turned, world, Past, choice_at, later, Dispatched, slots, Goes, AreImages, IsImage, IsRunning, code_of, no_state, run_of, state_at, IsAt, Running, running_of}
 use Rattle.dk_kernel.proofs.Called.{same-rows}
 use Rattle.dk_kernel.proofs.Fields.{IsLater, later-fields}
 use Rattle.dk_kernel.proofs.Images.{image-finished, image_with}
