@@ -1,3 +1,4 @@
+pub mod Files
 pub mod Needs
 pub mod Reviews
 pub mod Runs

@@ -24,6 +24,7 @@ use Rattle.dk_page.specs.Needs.{IsAddedByNeeds}
 use Rattle.dk_page.specs.declared.needing.Standing.{Standing}
 use Rattle.dk_page.specs.declared.needing.Wants.{Wants}
 use Rattle.dk_page.specs.declared.told.Additions.{Additions}
+use Rattle.dk_review.specs.Files.{File}
 
 abbrev pub standing_of : Bool → Standing
 standing_of true = Standing.Met
@@ -95,14 +96,14 @@ pub record AddsNothing (a : Additions) : Type 0 where
   pub sections : a.sections.items ≡ []
   pub outputs : a.outputs.items ≡ []
 
--- what the needs of the one name in these bytes add to the page of the file of the other, and how they stand
-pub record AreNeeded (name : List ℕ) (c : Configuration) (needs held : List ℕ) (s : Standing) (a : Additions) : Type 0 where
+-- what the needs in this file add to the page of the file of that name, and how they stand
+pub record AreNeeded (name : List ℕ) (c : Configuration) (needs : File) (s : Standing) (a : Additions) : Type 0 where
   pub wants : Wants
-  pub are : AreWants c held wants
-  pub adds : IsAddedByNeeds name needs held wants a
+  pub are : AreWants c needs.bytes wants
+  pub adds : IsAddedByNeeds name needs.name needs.bytes wants a
   pub stand : s ≡ wants.standing
 
 -- that, or nothing where there are none
-abbrev pub AddsNeeds : List ℕ → Configuration → Option (List ℕ) → List ℕ → Standing → Additions → Type 0
-AddsNeeds name c (Some needs) held s a = AreNeeded name c needs held s a
-AddsNeeds name c None held s a = AddsNothing a × (s ≡ Standing.Met)
+abbrev pub AddsNeeds : List ℕ → Configuration → Option File → Standing → Additions → Type 0
+AddsNeeds name c (Some needs) s a = AreNeeded name c needs s a
+AddsNeeds name c None s a = AddsNothing a × (s ≡ Standing.Met)

@@ -3,6 +3,7 @@
 
 mod drawing;
 mod fault;
+mod file;
 mod needing;
 mod reviewing;
 mod running;
@@ -10,4 +11,5 @@ mod telling;
 
 pub use drawing::Range;
 pub use fault::RunFault;
+pub use file::NamedFile;
 pub use reviewing::{Ending, Review, review_of, review_with};

@@ -1,12 +1,14 @@
 //! What is told of a document of needs.
-ghost use Rattle.std.specs.Prelude.{◌≡◌, ◌≤◌, All, Err, IfOk, length, option_map};
+ghost use Rattle.std.specs.Prelude.{◌≡◌, ◌≤◌, All, Err, IfOk, IfSome, length, option_map};
 ghost use Rattle.dk_config.specs.Checked.{BreaksNoRule, IsChecked, IsWithinLimits};
 ghost use Rattle.dk_config.specs.declared.TheConstants.{MAX_CONFIG_BYTES};
 ghost use Rattle.dk_needs.specs.Fit.{IsFit};
 ghost use Rattle.dk_needs.specs.Reading.{reading};
 ghost use Rattle.dk_needs.specs.declared.fault.NeedsError.{NeedsError as Why};
+ghost use Rattle.dk_review.specs.Files.{file_of};
 ghost use Rattle.dk_review.specs.Needs.{AddsNeeds, AreNeeded, AreRowsTold, AreWants, IsDecided, IsNoDocument, IsNotDecided, IsRefusedFor, IsTold, asks_programs, is_for_ever, standing_of};
 
+use crate::file::NamedFile;
 use crate::telling::bytes_of;
 use dk_config::{Config, NoMemory};
 use dk_config_report::Page;
@@ -151,37 +153,35 @@ fn with_needs(
     alloc: Global,
     config: &Config,
     name: &str,
-    needs: &str,
-    held: &[u8],
+    needs: NamedFile,
 ) -> Result<Needed, NoMemory>
     requires unbroken { BreaksNoRule config.now }
     requires checked { IsChecked config.now }
     requires limits { IsWithinLimits config.now }
-    requires few { length held.now ≤ MAX_CONFIG_BYTES }
-    ensures { IfOk result (λ n. AreNeeded name.now config.now needs.now held.now n.standing n.added) }
+    requires few { length needs.bytes.now ≤ MAX_CONFIG_BYTES }
+    ensures { IfOk result (λ n. AreNeeded name.now config.now (file_of needs.entry) n.standing n.added) }
 {
-    let wants = wants_of(alloc, config, held)?;
-    let added = needs_additions(alloc, name, needs, held, &wants)?;
+    let wants = wants_of(alloc, config, needs.bytes)?;
+    let added = needs_additions(alloc, name, needs.name, needs.bytes, &wants)?;
     let standing = wants.standing;
     Ok(Needed { added, standing })
 }
 
-/// What the needs in the file of this name add, which holds these bytes; where there is none, nothing.
+/// What the needs in that file add to the page of the file of this name; where there is none, nothing.
 pub(crate) fn needed_of(
     alloc: Global,
     config: &Config,
     name: &str,
-    needs: Option<&str>,
-    held: &[u8],
+    needs: Option<NamedFile>,
 ) -> Result<Needed, NoMemory>
     requires unbroken { BreaksNoRule config.now }
     requires checked { IsChecked config.now }
     requires limits { IsWithinLimits config.now }
-    requires few { length held.now ≤ MAX_CONFIG_BYTES }
-    ensures { IfOk result (λ n. AddsNeeds name.now config.now (option_map (λ w. w.now) needs.entry) held.now n.standing n.added) }
+    requires few { IfSome needs (λ n. length n.bytes.now ≤ MAX_CONFIG_BYTES) }
+    ensures { IfOk result (λ n. AddsNeeds name.now config.now (option_map file_of needs.entry) n.standing n.added) }
 {
     match needs {
-        Some(needs) => with_needs(alloc, config, name, needs, held),
+        Some(needs) => with_needs(alloc, config, name, needs),
         None => Ok(Needed {
             added: Additions::none(alloc),
             standing: Standing::Met,
