@@ -3,9 +3,9 @@ use Rattle.std.specs.Prelude.{ℕ, List, flat_map, decimal}
 use Rattle.dk_html.specs.Checksums.{file_row}
 use Rattle.dk_html.specs.Escaping.{escaped}
 use Rattle.dk_html.specs.Outputs.{output}
-use Rattle.dk_html.specs.Tables.{rows, word_rows}
+use Rattle.dk_html.specs.Tables.{columns, rows, word_rows}
 use Rattle.dk_html.specs.declared.parts.Part.{Part}
-use Rattle.dk_html.specs.declared.parts.Part.TheVariants.{Words, Made, Text, Number, Rows, Lines, Output, File}
+use Rattle.dk_html.specs.declared.parts.Part.TheVariants.{Words, Made, Text, Number, Columns, Rows, Lines, Output, File}
 
 -- one text behind the other
 abbrev pub joined : List (List ℕ) → List ℕ
@@ -17,6 +17,7 @@ part_text (Words words) = words.now
 part_text (Made bytes) = bytes.now
 part_text (Text text) = escaped text.now
 part_text (Number n) = decimal n
+part_text (Columns table) = columns table.now
 part_text (Rows table) = rows table.now
 part_text (Lines text) = word_rows text.now
 part_text (Output command name text) = output command.now name.now text.now

@@ -53,6 +53,19 @@ rows_of between lines = flat_map (row_of between) lines
 abbrev pub rows : List ℕ → List ℕ
 rows text = rows_of 44 (drop 1 (pieces 10 text))
 
+-- the name of a column
+abbrev pub column_cell : List ℕ → List ℕ
+column_cell field = codes "<th scope=\"col\">" ++ (escaped field ++ codes "</th>")
+
+-- a cell for each name, and one for the bar
+unfoldable pub column_row : List (List ℕ) → List ℕ
+column_row names = codes "<tr>"
+    ++ (flat_map column_cell names ++ codes "<th class=\"fill\" aria-hidden=\"true\"></th></tr>\n")
+
+-- the row of the names of the columns, which stand in the first line
+abbrev pub columns : List ℕ → List ℕ
+columns text = column_row (pieces 44 (first_of (pieces 10 text)))
+
 -- a row for each line; its words stand between spaces
 abbrev pub word_rows : List ℕ → List ℕ
 word_rows text = rows_of 32 (pieces 10 text)

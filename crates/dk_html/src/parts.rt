@@ -6,7 +6,7 @@ use crate::checksums::add_file;
 use crate::escaping::add_escaped;
 use crate::outputs::add_output;
 use crate::pieces::{add_string, add_words};
-use crate::tables::{add_rows, add_word_rows};
+use crate::tables::{add_columns, add_rows, add_word_rows};
 use std::alloc::{AllocError, Global};
 
 /// A part of a page.
@@ -19,6 +19,8 @@ pub enum Part<'a> {
     /// A text, as a browser shows it.
     Text(&'a [u8]),
     Number(u64),
+    /// The names of the columns of a table of comma-separated values, a row of heads.
+    Columns(&'a [u8]),
     /// The rows of a table of comma-separated values, but the first, which has the names of the columns. Each has a cell for
     /// each field, and those that are numbers once more as properties, `--c0`, `--c1` and so on by their columns, from which a
     /// style sheet draws its bar.
@@ -54,6 +56,7 @@ fn add_part(alloc: Global, out: &mut Vec<u8>, part: &Part) -> Result<(), AllocEr
         Part::Made(bytes) => out.extend_from_slice(bytes),
         Part::Text(text) => add_escaped(out, text),
         Part::Number(number) => add_string(out, number_text(alloc, number)?),
+        Part::Columns(table) => add_columns(alloc, out, table),
         Part::Rows(table) => add_rows(alloc, out, table),
         Part::Lines(text) => add_word_rows(alloc, out, text),
         Part::Output {

@@ -3,7 +3,7 @@ ghost use Rattle.std.specs.Prelude.{◌≡◌, ◌++◌, drop, flat_map, map, On
 ghost use Rattle.std.specs.Char.{is_ascii_digit};
 ghost use Rattle.std.specs.List.{list_all};
 ghost use Rattle.dk_html.specs.Escaping.{escaped};
-ghost use Rattle.dk_html.specs.Tables.{cell, first_of, is_number, number_property, properties_from, property, row_end, row_of, row_start, rows, rows_of, word_rows};
+ghost use Rattle.dk_html.specs.Tables.{cell, column_cell, column_row, columns, first_of, is_number, number_property, properties_from, property, row_end, row_of, row_start, rows, rows_of, word_rows};
 
 use crate::cutting::pieces_of;
 use crate::escaping::add_escaped;
@@ -160,6 +160,42 @@ pub(crate) fn add_rows(alloc: Global, out: &mut Vec<u8>, text: &[u8]) -> Result<
 {
     let lines = pieces_of(alloc, text, b'\n')?;
     add_lines(alloc, out, b',', behind_first(lines.as_slice()))
+}
+
+fn add_column_cell(out: &mut Vec<u8>, field: &[u8]) -> Result<(), AllocError>
+    ensures { OnOk result (out.new.items ≡ out.old.items ++ column_cell field.now) }
+{
+    add_words(out, "<th scope=\"col\">")?;
+    add_escaped(out, field)?;
+    add_words(out, "</th>")?;
+    Ok(())
+}
+
+fn add_column_cells(out: &mut Vec<u8>, names: &[&[u8]]) -> Result<(), AllocError>
+    ensures { OnOk result (out.new.items ≡ out.old.items ++ flat_map column_cell (map (λ f. f.now) names.now)) }
+{
+    for name in names {
+        add_column_cell(out, name)?;
+    }
+    Ok(())
+}
+
+fn add_column_row(out: &mut Vec<u8>, names: &[&[u8]]) -> Result<(), AllocError>
+    ensures { OnOk result (out.new.items ≡ out.old.items ++ column_row (map (λ f. f.now) names.now)) }
+{
+    add_words(out, "<tr>")?;
+    add_column_cells(out, names)?;
+    add_words(out, "<th class=\"fill\" aria-hidden=\"true\"></th></tr>\n")?;
+    Ok(())
+}
+
+/// Adds the row of the names of the columns, which stand in the first line.
+pub(crate) fn add_columns(alloc: Global, out: &mut Vec<u8>, text: &[u8]) -> Result<(), AllocError>
+    ensures { OnOk result (out.new.items ≡ out.old.items ++ columns text.now) }
+{
+    let lines = pieces_of(alloc, text, b'\n')?;
+    let names = pieces_of(alloc, first_of(lines.as_slice()), b',')?;
+    add_column_row(out, names.as_slice())
 }
 
 /// Adds such a row for each line of words with a space between each two.

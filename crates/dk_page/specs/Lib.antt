@@ -1,3 +1,4 @@
+pub mod More
 pub mod Needs
 pub mod Pages
 pub mod Runs

@@ -4,8 +4,8 @@ use Rattle.dk_html.specs.Checksums.{file_row}
 use Rattle.dk_html.specs.Escaping.{escaped}
 use Rattle.dk_html.specs.Outputs.{output}
 use Rattle.dk_html.specs.Parts.{joined}
-use Rattle.dk_html.specs.Tables.{rows}
-use Rattle.dk_page.specs.declared.template.TheConstants.{BY_WHEN, BY_WHEN_END, CERTIFIED, CERTIFIED_TILE, DOCUMENT, ENDING, FAULTS, FAULTS_TILE, HEAD, INPUTS, LEVELS_END, NOT_BY_WHEN, OUTPUTS, ROOM, ROOM_END, STYLE, TABLE_END, TEXT_END, TILES, UNCERTIFIED, WARNINGS}
+use Rattle.dk_html.specs.Tables.{columns, rows}
+use Rattle.dk_page.specs.declared.template.TheConstants.{BY_WHEN, BY_WHEN_END, CERTIFIED, CERTIFIED_TILE, DOCUMENT, COLUMNS_END, ENDING, FAULTS, FAULTS_TILE, HEAD, INPUTS, LEVELS_END, NOT_BY_WHEN, OUTPUTS, ROOM, ROOM_END, STYLE, TABLE_END, TEXT_END, TILES, UNCERTIFIED, WARNINGS}
 use Rattle.dk_page.specs.declared.told.Additions.{Additions}
 use Rattle.dk_page.specs.declared.told.Certification.{Certification}
 use Rattle.dk_page.specs.declared.told.Certification.TheVariants.{Certified, Failing}
@@ -48,9 +48,10 @@ abbrev pub certification_head : Certification → List ℕ
 certification_head (Certified when table) = CERTIFIED.now
 certification_head (Failing level needs window) = UNCERTIFIED.now
 
--- the certificate, and what takes the ticks of each level
-unfoldable pub certification : List ℕ → List ℕ → List ℕ
-certification head table = joined (head ∷ rows table ∷ LEVELS_END.now ∷ [])
+-- the certificate, what takes the ticks of each level, and that as one matrix
+unfoldable pub certification : List ℕ → List ℕ → List ℕ → List ℕ
+certification head table matrix = joined (head ∷ rows table ∷ LEVELS_END.now ∷ columns matrix ∷ COLUMNS_END.now
+    ∷ rows matrix ∷ TABLE_END.now ∷ [])
 
 -- by when each main has its ticks
 unfoldable pub timings : List ℕ → List ℕ
@@ -90,7 +91,7 @@ top_text name document t added = title name ++ (certification_tile t.certificati
 -- the sections
 unfoldable pub findings_text : List ℕ → Told → Additions → List ℕ
 findings_text document t added = configuration document
-    ++ (certification (certification_head t.certification) t.certificate_table.items
+    ++ (certification (certification_head t.certification) t.certificate_table.items t.matrix.items
     ++ (by_when t.certification ++ (room t.margins_table.items t.warnings.items ++ added.sections.items)))
 
 -- the outputs, and the end

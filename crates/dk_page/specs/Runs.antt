@@ -1,11 +1,11 @@
 -- What a ledger adds to a page.
-use Rattle.std.specs.Prelude.{ℕ, ◌≡◌, Bool, true, false, List, [], ◌∷◌, codes, decimal}
+use Rattle.std.specs.Prelude.{ℕ, ◌≡◌, Bool, true, false, List, [], ◌∷◌, ◌++◌, codes, decimal}
 use Rattle.dk_html.specs.Checksums.{file_row}
 use Rattle.dk_html.specs.Escaping.{escaped}
 use Rattle.dk_html.specs.Outputs.{output}
 use Rattle.dk_html.specs.Parts.{joined}
-use Rattle.dk_html.specs.Tables.{rows, word_rows}
-use Rattle.dk_page.specs.declared.template.TheConstants.{AUDIT, FAILED_TILE, PASSED_TILE, PICTURE, PICTURE_END, RUN, RUN_END, TEXT_END, TOTALS, TOTALS_END}
+use Rattle.dk_html.specs.Tables.{columns, rows, word_rows}
+use Rattle.dk_page.specs.declared.template.TheConstants.{AUDIT, COLUMNS_END, FAILED_TILE, PASSED_TILE, PICTURE, PICTURE_END, RUN, RUN_END, TENTHS_END, TEXT_END, TOTALS, TOTALS_END}
 use Rattle.dk_page.specs.declared.running.Drawing.{Drawing}
 use Rattle.dk_page.specs.declared.running.Drawing.TheVariants.{Drawn, TooMany}
 use Rattle.dk_page.specs.declared.running.Run.{Run}
@@ -26,10 +26,23 @@ abbrev pub drawing_text : Drawing → List ℕ
 drawing_text (Drawn picture) = picture.items
 drawing_text (TooMany tick) = undrawn tick
 
--- what the audit finds, the picture, what each thread did in its windows, and the totals, a row for each line
-unfoldable pub run_sections : List ℕ → List ℕ → List ℕ → List ℕ → List ℕ
-run_sections audit drawing windows totals = joined (AUDIT.now ∷ escaped audit ∷ TEXT_END.now ∷ PICTURE.now ∷ drawing
-    ∷ PICTURE_END.now ∷ RUN.now ∷ rows windows ∷ RUN_END.now ∷ TOTALS.now ∷ word_rows totals ∷ TOTALS_END.now ∷ [])
+-- what the audit finds, and the picture
+unfoldable pub audit_sections : List ℕ → List ℕ → List ℕ
+audit_sections audit drawing = joined (AUDIT.now ∷ escaped audit ∷ TEXT_END.now ∷ PICTURE.now ∷ drawing ∷ PICTURE_END.now ∷ [])
+
+-- what each thread did in its windows, and in how many of them each main used how many tenths of its budget
+unfoldable pub windows_section : List ℕ → List ℕ → List ℕ
+windows_section windows tenths = joined (RUN.now ∷ rows windows ∷ RUN_END.now ∷ columns tenths ∷ COLUMNS_END.now
+    ∷ rows tenths ∷ TENTHS_END.now ∷ [])
+
+-- the totals, a row for each line
+unfoldable pub totals_section : List ℕ → List ℕ
+totals_section totals = joined (TOTALS.now ∷ word_rows totals ∷ TOTALS_END.now ∷ [])
+
+-- these, one behind the other
+unfoldable pub run_sections : List ℕ → List ℕ → List ℕ → List ℕ → List ℕ → List ℕ
+run_sections audit drawing windows tenths totals =
+    audit_sections audit drawing ++ (windows_section windows tenths ++ totals_section totals)
 
 -- the names of two files
 unfoldable pub both_names : List ℕ → List ℕ → List ℕ
@@ -45,6 +58,7 @@ run_outputs both ledger audit windows report = joined (output (codes "deosk audi
 pub record IsAddedBy (name ledger bytes : List ℕ) (run : Run) (a : Additions) : Type 0 where
   pub tile : a.tile.items ≡ audit_tile run.passed
   pub file : a.file.items ≡ joined (file_row (codes "ledger") ledger bytes ∷ [])
-  pub sections : a.sections.items ≡ run_sections run.audit.items (drawing_text run.drawing) run.windows.items run.totals.items
+  pub sections : a.sections.items ≡ run_sections run.audit.items (drawing_text run.drawing) run.windows.items run.tenths.items
+      run.totals.items
   pub outputs : a.outputs.items ≡ run_outputs (both_names name ledger) ledger run.audit.items run.windows.items
       run.report.items

@@ -3,8 +3,8 @@ ghost use Rattle.std.specs.Prelude.{◌≡◌, ◌++◌, OnOk};
 ghost use Rattle.dk_page.specs.Pages.{by_when, certification, certification_head, configuration, findings_text, room, timings};
 
 use crate::template::{
-    BY_WHEN, BY_WHEN_END, CERTIFIED, DOCUMENT, LEVELS_END, NOT_BY_WHEN, ROOM, ROOM_END, TEXT_END,
-    UNCERTIFIED, WARNINGS,
+    BY_WHEN, BY_WHEN_END, CERTIFIED, COLUMNS_END, DOCUMENT, LEVELS_END, NOT_BY_WHEN, ROOM,
+    ROOM_END, TABLE_END, TEXT_END, UNCERTIFIED, WARNINGS,
 };
 use crate::told::{Additions, Certification, Told};
 use crate::top::{add_made, add_words};
@@ -36,13 +36,18 @@ fn add_certification<'x>(
     out: &mut Vec<u8>,
     head: &'x str,
     table: &'x [u8],
+    matrix: &'x [u8],
 ) -> Result<(), AllocError>
-    ensures { OnOk result (out.new.items ≡ out.old.items ++ certification head.now table.now) }
+    ensures { OnOk result (out.new.items ≡ out.old.items ++ certification head.now table.now matrix.now) }
 {
     let parts = [
         Part::Words(head),
         Part::Rows(table),
         Part::Words(LEVELS_END),
+        Part::Columns(matrix),
+        Part::Words(COLUMNS_END),
+        Part::Rows(matrix),
+        Part::Words(TABLE_END),
     ];
     add_parts(alloc, out, &parts)
 }
@@ -102,7 +107,13 @@ pub(crate) fn add_findings(
 {
     add_configuration(alloc, out, document)?;
     let head = certification_head(&told.certification);
-    add_certification(alloc, out, head, told.certificate_table.as_slice())?;
+    add_certification(
+        alloc,
+        out,
+        head,
+        told.certificate_table.as_slice(),
+        told.matrix.as_slice(),
+    )?;
     add_by_when(alloc, out, &told.certification)?;
     add_room(
         alloc,

@@ -2,11 +2,11 @@
 ghost use Rattle.std.specs.Prelude.{◌≡◌, ◌++◌, [], ◌∷◌, IfOk, OnOk, codes};
 ghost use Rattle.dk_html.specs.Checksums.{file_row};
 ghost use Rattle.dk_html.specs.Parts.{joined};
-ghost use Rattle.dk_page.specs.Runs.{IsAddedBy, audit_tile, both_names, drawing_text, run_outputs, run_sections, undrawn};
+ghost use Rattle.dk_page.specs.Runs.{IsAddedBy, audit_sections, audit_tile, both_names, drawing_text, run_outputs, run_sections, totals_section, undrawn, windows_section};
 
 use crate::template::{
-    AUDIT, FAILED_TILE, PASSED_TILE, PICTURE, PICTURE_END, RUN, RUN_END, TEXT_END, TOTALS,
-    TOTALS_END,
+    AUDIT, COLUMNS_END, FAILED_TILE, PASSED_TILE, PICTURE, PICTURE_END, RUN, RUN_END, TENTHS_END,
+    TEXT_END, TOTALS, TOTALS_END,
 };
 use crate::told::Additions;
 use dk_html::{Part, add_parts};
@@ -30,6 +30,8 @@ pub struct Run {
     pub drawing: Drawing,
     /// What `windows` writes of it as a table.
     pub windows: Vec<u8>,
+    /// In how many of its windows each main used how many tenths of its budget, as a table.
+    pub tenths: Vec<u8>,
     /// What `deosk ledger --report` writes of it: the lines of its header, and its totals.
     pub report: Vec<u8>,
     /// The totals alone.
@@ -95,15 +97,13 @@ fn drawing_of(alloc: Global, drawing: &Drawing) -> Result<Vec<u8>, AllocError>
     }
 }
 
-fn add_sections<'x>(
+fn add_audit<'x>(
     alloc: Global,
     out: &mut Vec<u8>,
     audit: &'x [u8],
     drawing: &'x [u8],
-    windows: &'x [u8],
-    totals: &'x [u8],
 ) -> Result<(), AllocError>
-    ensures { OnOk result (out.new.items ≡ out.old.items ++ run_sections audit.now drawing.now windows.now totals.now) }
+    ensures { OnOk result (out.new.items ≡ out.old.items ++ audit_sections audit.now drawing.now) }
 {
     let parts = [
         Part::Words(AUDIT),
@@ -112,9 +112,34 @@ fn add_sections<'x>(
         Part::Words(PICTURE),
         Part::Made(drawing),
         Part::Words(PICTURE_END),
+    ];
+    add_parts(alloc, out, &parts)
+}
+
+fn add_windows<'x>(
+    alloc: Global,
+    out: &mut Vec<u8>,
+    windows: &'x [u8],
+    tenths: &'x [u8],
+) -> Result<(), AllocError>
+    ensures { OnOk result (out.new.items ≡ out.old.items ++ windows_section windows.now tenths.now) }
+{
+    let parts = [
         Part::Words(RUN),
         Part::Rows(windows),
         Part::Words(RUN_END),
+        Part::Columns(tenths),
+        Part::Words(COLUMNS_END),
+        Part::Rows(tenths),
+        Part::Words(TENTHS_END),
+    ];
+    add_parts(alloc, out, &parts)
+}
+
+fn add_totals(alloc: Global, out: &mut Vec<u8>, totals: &[u8]) -> Result<(), AllocError>
+    ensures { OnOk result (out.new.items ≡ out.old.items ++ totals_section totals.now) }
+{
+    let parts = [
         Part::Words(TOTALS),
         Part::Lines(totals),
         Part::Words(TOTALS_END),
@@ -122,20 +147,28 @@ fn add_sections<'x>(
     add_parts(alloc, out, &parts)
 }
 
+fn add_sections(
+    alloc: Global,
+    out: &mut Vec<u8>,
+    drawing: &[u8],
+    run: &Run,
+) -> Result<(), AllocError>
+    ensures { OnOk result (out.new.items ≡ out.old.items ++ run_sections run.now.audit.items drawing.now run.now.windows.items
+        run.now.tenths.items run.now.totals.items) }
+{
+    add_audit(alloc, out, run.audit.as_slice(), drawing)?;
+    add_windows(alloc, out, run.windows.as_slice(), run.tenths.as_slice())?;
+    add_totals(alloc, out, run.totals.as_slice())?;
+    Ok(())
+}
+
 fn sections_of(alloc: Global, run: &Run) -> Result<Vec<u8>, AllocError>
     ensures { IfOk result (λ v. v.items ≡ run_sections run.now.audit.items (drawing_text run.now.drawing) run.now.windows.items
-        run.now.totals.items) }
+        run.now.tenths.items run.now.totals.items) }
 {
     let drawing = drawing_of(alloc, &run.drawing)?;
     let mut out = Vec::new(alloc);
-    add_sections(
-        alloc,
-        &mut out,
-        run.audit.as_slice(),
-        drawing.as_slice(),
-        run.windows.as_slice(),
-        run.totals.as_slice(),
-    )?;
+    add_sections(alloc, &mut out, drawing.as_slice(), run)?;
     Ok(out)
 }
 

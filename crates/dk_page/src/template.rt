@@ -186,10 +186,16 @@ pub(crate) const UNCERTIFIED: &str =
 <tbody>
 ";
 
-/// What stands behind the rows of certification: what their bars show.
+/// What stands behind the rows of certification, what their bars show, and before the sums as one matrix.
 pub(crate) const LEVELS_END: &str = "</tbody></table></div>
 <ul class=\"legend\" aria-hidden=\"true\"><li><i class=\"demand\"></i>demand</li><li><i class=\"blocking\"></i>blocking</li><li><i></i>spare</li><li><i class=\"limit\"></i>the end of the period</li></ul>
-</section>
+<div class=\"scroll\"><table id=\"matrix\"><caption>The sums as one matrix</caption>
+<thead>
+";
+
+/// What stands between the names of the columns of a table and its rows.
+pub(crate) const COLUMNS_END: &str = "</thead>
+<tbody>
 ";
 
 /// What stands before the rows of by when.
@@ -279,6 +285,47 @@ pub(crate) const NEEDS_REFUSED: &str = "<section id=\"needs\" aria-labelledby=\"
 <pre tabindex=\"0\">
 ";
 
+/// What stands before the chains.
+pub(crate) const CHAINS: &str = "<section id=\"chains\" aria-labelledby=\"chains-title\">
+<div class=\"head\"><h2 id=\"chains-title\">Chains</h2><span class=\"scope every\">holds for every run</span></div>
+<p class=\"why\">How long each process of a chain takes to answer what the one before found, the last within the reaction time, in every run, whatever the programs do. All ticks are counted from an event that has to wait longest. A bar begins where the window starts in which the process answers; the whole length is the reaction time.</p>
+";
+
+/// What stands before the names of a chain.
+pub(crate) const CHAIN: &str = "<h3>";
+
+/// What stands between them and the reaction time.
+pub(crate) const CHAIN_NAMED: &str = "</h3>
+<div class=\"scroll\" style=\"--reaction:";
+
+/// What stands before the lines of a chain.
+pub(crate) const CHAIN_LINES: &str =
+    "\"><table><caption class=\"hidden\">When the chain has answered, line by line</caption>
+<tbody>
+";
+
+/// What stands behind them.
+pub(crate) const CHAIN_END: &str = "</tbody></table></div>
+";
+
+/// What stands behind the chains: what their bars show.
+pub(crate) const CHAINS_END: &str =
+    "<ul class=\"legend\" aria-hidden=\"true\"><li><i></i>no window of it, or before the event’s</li><li><i class=\"wait\"></i>its first tick comes in here</li><li><i class=\"work\"></i>it is done by the end of this</li></ul>
+</section>
+";
+
+/// The tile of a run that repeats as a whole.
+pub(crate) const REPEATING_TILE: &str =
+    "<li class=\"tile good\"><span class=\"what\">The run</span><b>repeats</b><span>with these programs, for ever</span></li>
+";
+
+/// What stands before what repeats.
+pub(crate) const REPEATS: &str = "<section id=\"repeats\" aria-labelledby=\"repeats-title\">
+<div class=\"head\"><h2 id=\"repeats-title\">What repeats</h2><span class=\"scope programs\">of these programs, for ever</span></div>
+<p class=\"why\">What the run does with these programs, from the tick that is told on, for ever; what is told of a process by itself holds in every run in which it has this program. What isn’t found to repeat may repeat all the same.</p>
+<pre tabindex=\"0\">
+";
+
 /// The tile of a ledger that passed.
 pub(crate) const PASSED_TILE: &str =
     "<li class=\"tile good\"><span class=\"what\">Audit</span><b>passed</b><span>this ledger follows the rules</span></li>
@@ -317,9 +364,16 @@ pub(crate) const RUN: &str = "<section id=\"run\" aria-labelledby=\"run-title\">
 <tbody>
 ";
 
-/// What stands behind that: what its bars show.
+/// What stands behind that: what its bars show; and before the tenths of the budgets.
 pub(crate) const RUN_END: &str = "</tbody></table></div>
 <ul class=\"legend\" aria-hidden=\"true\"><li><i class=\"now\"></i>used least</li><li><i class=\"most\"></i>used most</li><li><i></i>budget</li></ul>
+<div class=\"scroll\"><table id=\"tenths\"><caption>In how many of its windows each main used how many tenths of its budget</caption>
+<thead>
+";
+
+/// What stands behind the tenths.
+pub(crate) const TENTHS_END: &str = "</tbody></table></div>
+<p class=\"why\">The first column counts the windows with less than a tenth of the budget, the last those with the whole of it. A bar is as high as its part of all windows.</p>
 </section>
 ";
 

@@ -16,6 +16,8 @@ pub enum Certification {
 pub struct Told {
     pub certificate: Vec<u8>,
     pub certificate_table: Vec<u8>,
+    /// The sums of the certificate as one table: what each part takes of each level's window.
+    pub matrix: Vec<u8>,
     pub certification: Certification,
     pub margins: Vec<u8>,
     pub margins_table: Vec<u8>,
@@ -24,7 +26,7 @@ pub struct Told {
     pub count: usize,
 }
 
-/// What a ledger adds to a page: its tile, its row among the files, its sections, and outputs.
+/// What needs, chains, what repeats, or a ledger add to a page: tiles, rows among the files, sections, and outputs.
 #[derive(Drop)]
 pub struct Additions {
     pub tile: Vec<u8>,
@@ -37,7 +39,7 @@ impl Additions {
     ghost use Rattle.std.specs.Prelude.{◌≡◌, [], IfOk};
     ghost use Rattle.dk_page.specs.Needs.{IsBoth};
 
-    /// Nothing, where there is no ledger.
+    /// Nothing.
     pub fn none(alloc: Global) -> Additions
         ensures tile { result.tile.items ≡ [] }
         ensures file { result.file.items ≡ [] }
