@@ -1,0 +1,3 @@
+pub mod Tenths
+pub mod Table
+pub mod Laws
