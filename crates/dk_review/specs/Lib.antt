@@ -1,3 +1,4 @@
+pub mod Chains
 pub mod Files
 pub mod Needs
 pub mod Reviews

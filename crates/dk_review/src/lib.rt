@@ -1,6 +1,7 @@
 //! The page for the design review of the layout in a document, with all that is told of it, and of a ledger.
 #![tactic(auto)]
 
+mod chains;
 mod drawing;
 mod fault;
 mod file;

@@ -79,15 +79,15 @@ fn of_uncertified(alloc: Global, file: NamedFile, config: &Config) -> Result<Rev
 fn of_certified(
     alloc: Global,
     file: NamedFile,
-    config: &Config,
+    config: &mut Config,
     needs: Option<NamedFile>,
     more: &Additions,
 ) -> Result<Review, NoMemory>
-    requires unbroken { BreaksNoRule config.now }
-    requires checked { IsChecked config.now }
-    requires limits { IsWithinLimits config.now }
+    requires unbroken { BreaksNoRule config.old }
+    requires checked { IsChecked config.old }
+    requires limits { IsWithinLimits config.old }
     requires few { IfSome needs (λ n. length n.bytes.now ≤ MAX_CONFIG_BYTES) }
-    ensures { IfOk result (IsReviewed (file_of file.entry) (option_map file_of needs.entry) more.now config.now) }
+    ensures { IfOk result (IsReviewed (file_of file.entry) (option_map file_of needs.entry) more.now config.old) }
 {
     let told = told_of(alloc, config)?;
     let needed = needed_of(alloc, config, file.name, needs)?;
@@ -100,15 +100,15 @@ fn of_certified(
 fn of_config(
     alloc: Global,
     file: NamedFile,
-    config: &Config,
+    config: &mut Config,
     needs: Option<NamedFile>,
     more: &Additions,
 ) -> Result<Review, NoMemory>
-    requires unbroken { BreaksNoRule config.now }
-    requires checked { IsChecked config.now }
-    requires limits { IsWithinLimits config.now }
+    requires unbroken { BreaksNoRule config.old }
+    requires checked { IsChecked config.old }
+    requires limits { IsWithinLimits config.old }
     requires few { IfSome needs (λ n. length n.bytes.now ≤ MAX_CONFIG_BYTES) }
-    ensures { IfOk result (IsReviewedAlone (file_of file.entry) (option_map file_of needs.entry) more.now config.now) }
+    ensures { IfOk result (IsReviewedAlone (file_of file.entry) (option_map file_of needs.entry) more.now config.old) }
 {
     match certify(config) {
         Verdict::Accepted(_) => of_certified(alloc, file, config, needs, more),
@@ -141,7 +141,7 @@ pub fn review_of(
     ensures { IfOk result (IsReview (file_of file.entry) (option_map file_of needs.entry) more.now) }
 {
     match read_config(alloc, file.bytes) {
-        Ok(config) => of_config(alloc, file, &config, needs, more),
+        Ok(mut config) => of_config(alloc, file, &mut config, needs, more),
         Err(LoadFault::NoMemory) => Err(NoMemory),
         Err(_) => of_faults(alloc, file),
     }
@@ -151,20 +151,20 @@ pub fn review_of(
 fn page_of(
     alloc: Global,
     file: NamedFile,
-    config: &Config,
+    config: &mut Config,
     needs: Option<NamedFile>,
     ledger: NamedFile,
     range: Option<Range>,
     run: &Run,
     more: &Additions,
 ) -> Result<Review, NoMemory>
-    requires unbroken { BreaksNoRule config.now }
-    requires checked { IsChecked config.now }
-    requires limits { IsWithinLimits config.now }
+    requires unbroken { BreaksNoRule config.old }
+    requires checked { IsChecked config.old }
+    requires limits { IsWithinLimits config.old }
     requires few { IfSome needs (λ n. length n.bytes.now ≤ MAX_CONFIG_BYTES) }
-    requires ran { IsRunOf config.now range ledger.bytes.now run.now }
+    requires ran { IsRunOf config.old range ledger.bytes.now run.now }
     ensures { IfOk result (IsReviewedRun (file_of file.entry) (option_map file_of needs.entry) (file_of ledger.entry) range more.now
-        config.now) }
+        config.old) }
 {
     let _range = range;
     let told = told_of(alloc, config)?;
@@ -180,20 +180,20 @@ fn page_of(
 fn of_run(
     alloc: Global,
     file: NamedFile,
-    config: &Config,
+    config: &mut Config,
     needs: Option<NamedFile>,
     ledger: NamedFile,
     range: Option<Range>,
     more: &Additions,
 ) -> Result<Review, RunFault>
-    requires unbroken { BreaksNoRule config.now }
-    requires checked { IsChecked config.now }
-    requires limits { IsWithinLimits config.now }
-    requires accepted { IsAccepted config.now }
+    requires unbroken { BreaksNoRule config.old }
+    requires checked { IsChecked config.old }
+    requires limits { IsWithinLimits config.old }
+    requires accepted { IsAccepted config.old }
     requires few { IfSome needs (λ n. length n.bytes.now ≤ MAX_CONFIG_BYTES) }
     ensures is { IfOk result (IsReviewedRun (file_of file.entry) (option_map file_of needs.entry) (file_of ledger.entry) range more.now
-        config.now) }
-    ensures fault { IfErr result (IsFaultOf (IsFoundIn config.now ledger.entry.bytes.now Found.Header) range ledger.entry.bytes.now) }
+        config.old) }
+    ensures fault { IfErr result (IsFaultOf (IsFoundIn config.old ledger.entry.bytes.now Found.Header) range ledger.entry.bytes.now) }
 {
     match run_of(alloc, config, ledger.bytes, range) {
         Ok(run) => match page_of(alloc, file, config, needs, ledger, range, &run, more) {
@@ -207,19 +207,19 @@ fn of_run(
 fn of_both(
     alloc: Global,
     file: NamedFile,
-    config: &Config,
+    config: &mut Config,
     needs: Option<NamedFile>,
     ledger: NamedFile,
     range: Option<Range>,
     more: &Additions,
 ) -> Result<Review, RunFault>
-    requires unbroken { BreaksNoRule config.now }
-    requires checked { IsChecked config.now }
-    requires limits { IsWithinLimits config.now }
+    requires unbroken { BreaksNoRule config.old }
+    requires checked { IsChecked config.old }
+    requires limits { IsWithinLimits config.old }
     requires few { IfSome needs (λ n. length n.bytes.now ≤ MAX_CONFIG_BYTES) }
     ensures is { IfOk result (IsReviewedWith (file_of file.entry) (option_map file_of needs.entry) (file_of ledger.entry) range more.now
-        config.now) }
-    ensures fault { IfErr result (IsFaultOf (IsFoundIn config.now ledger.entry.bytes.now Found.Header) range ledger.entry.bytes.now) }
+        config.old) }
+    ensures fault { IfErr result (IsFaultOf (IsFoundIn config.old ledger.entry.bytes.now Found.Header) range ledger.entry.bytes.now) }
 {
     match certify(config) {
         Verdict::Accepted(_) => of_run(alloc, file, config, needs, ledger, range, more),
@@ -258,7 +258,7 @@ pub fn review_with(
     ensures fault { IfErr result (IsFaultOf (IsOfOther file.entry.bytes.now ledger.entry.bytes.now) range ledger.entry.bytes.now) }
 {
     match read_config(alloc, file.bytes) {
-        Ok(config) => of_both(alloc, file, &config, needs, ledger, range, more),
+        Ok(mut config) => of_both(alloc, file, &mut config, needs, ledger, range, more),
         Err(LoadFault::NoMemory) => Err(RunFault::NoMemory),
         Err(_) => with_faults(alloc, file),
     }
