@@ -54,7 +54,7 @@ abbrev pub rows : List ℕ → List ℕ
 rows text = rows_of 44 (drop 1 (pieces 10 text))
 
 -- the name of a column
-abbrev pub column_cell : List ℕ → List ℕ
+unfoldable pub column_cell : List ℕ → List ℕ
 column_cell field = codes "<th scope=\"col\">" ++ (escaped field ++ codes "</th>")
 
 -- a cell for each name, and one for the bar

@@ -40,7 +40,7 @@ h2{font-size:1.22rem;margin:0;line-height:1.3}
 section{margin:0 0 2.6rem}
 .head{display:flex;flex-wrap:wrap;align-items:baseline;gap:.3rem .8rem;border-bottom:1px solid var(--strong);padding-bottom:.3rem;margin-bottom:.7rem}
 .scope{margin-left:auto;font-size:.75rem;font-weight:600;padding:.1rem .55rem;border-radius:1rem;border:1px solid currentColor;white-space:nowrap}
-.scope.every{color:var(--good)}.scope.layout{color:var(--ink)}.scope.one{color:var(--blue)}.scope.given{color:var(--soft)}
+.scope.every{color:var(--good)}.scope.programs{color:var(--amber-ink)}.scope.layout{color:var(--ink)}.scope.one{color:var(--blue)}.scope.given{color:var(--soft)}
 .why{margin:.2rem 0 .9rem;break-inside:avoid;color:var(--soft);max-width:78ch}
 .tiles{display:grid;grid-template-columns:repeat(auto-fit,minmax(165px,1fr));gap:.7rem;margin:1.2rem 0 2rem;padding:0;list-style:none}
 .tile{border:1px solid var(--line);border-left:5px solid var(--strong);border-radius:4px;padding:.55rem .8rem;background:var(--raised)}
@@ -54,6 +54,7 @@ section{margin:0 0 2.6rem}
 table{border-collapse:collapse;width:100%;font-size:.93rem}
 th,td{padding:.28rem .6rem;border-bottom:1px solid var(--line);vertical-align:middle;text-align:left}
 th.number,td.number{text-align:right}
+caption:not(.hidden){text-align:left;font-weight:600;padding:1.2rem 0 .3rem}
 thead th{font-size:.75rem;font-weight:600;color:var(--soft);vertical-align:bottom;border-bottom:1px solid var(--strong);line-height:1.25}
 thead th.number{font-family:inherit;font-size:.75rem}
 tbody th{font-weight:400;white-space:nowrap}
@@ -62,20 +63,20 @@ td{font-variant-numeric:tabular-nums}
 td.fill{width:24%;min-width:9rem}
 .bar{position:relative;height:14px;background:var(--raised);box-shadow:inset 0 0 0 1px var(--line);border-radius:2px;overflow:hidden}
 .bar i{position:absolute;top:0;bottom:0;left:0}
-#certification tr:not([data-kind=level]) .bar,#by-when tr:not([data-kind=process]) .bar,#room tr:is([data-kind=growth],[data-kind=switch]) .bar{display:none}
-#certification tr[data-kind=level] td{font-weight:600;border-top:1px solid var(--strong)}
-#certification tr{--whole:max(var(--c6),var(--c7) + var(--c8))}
-#certification .bar i:nth-child(1){background:var(--blue);width:calc(var(--c7)/var(--whole)*100%)}
-#certification .bar i:nth-child(2){background:repeating-linear-gradient(45deg,var(--amber) 0 5px,var(--warn-soft) 5px 9px);left:calc(var(--c7)/var(--whole)*100%);width:calc(var(--c8)/var(--whole)*100%)}
-#certification .bar i:nth-child(3){width:3px;background:var(--alert);left:calc(var(--c6)/var(--whole)*100% - 3px)}
+#levels tr:not([data-kind=level]) .bar,#by-when tr:not([data-kind=process]) .bar,#room tr:is([data-kind=growth],[data-kind=switch]) .bar{display:none}
+#levels tr[data-kind=level] td{font-weight:600;border-top:1px solid var(--strong)}
+#levels tr{--whole:max(var(--c6),var(--c7) + var(--c8))}
+#levels .bar i:nth-child(1){background:var(--blue);width:calc(var(--c7)/var(--whole)*100%)}
+#levels .bar i:nth-child(2){background:repeating-linear-gradient(45deg,var(--amber) 0 5px,var(--warn-soft) 5px 9px);left:calc(var(--c7)/var(--whole)*100%);width:calc(var(--c8)/var(--whole)*100%)}
+#levels .bar i:nth-child(3){width:3px;background:var(--alert);left:calc(var(--c6)/var(--whole)*100% - 3px)}
 #by-when .bar i:nth-child(1){background:repeating-linear-gradient(135deg,var(--blue-soft) 0 4px,transparent 4px 8px);width:calc(var(--c5)/var(--c3)*100%)}
 #by-when .bar i:nth-child(2){background:var(--blue);left:calc((var(--c5) - 1)/var(--c3)*100%);width:calc((var(--c6) - var(--c5) + 1)/var(--c3)*100%)}
 #room .bar i:nth-child(1){background:var(--blue);width:calc(var(--c5)/var(--c7)*100%)}
-#run .bar i:nth-child(1){background:var(--blue-soft);width:calc(var(--c10)/var(--c13)*100%)}
-#run .bar i:nth-child(2){background:var(--blue);width:calc(var(--c9)/var(--c13)*100%)}
-#certification :is(td,th):nth-child(n+4):nth-child(-n+11),#by-when :is(td,th):nth-child(n+3):nth-child(-n+8),#room :is(td,th):nth-child(n+5):nth-child(-n+10),#run :is(td,th):nth-child(n+3):nth-child(-n+20),#inputs :is(td,th):nth-child(3){text-align:right}
-#run :is(td,th):is(:nth-child(8),:nth-child(9),:nth-child(16),:nth-child(18),:nth-child(20)){display:none}
-#run :is(td,th){padding-left:.35rem;padding-right:.35rem}
+#windows .bar i:nth-child(1){background:var(--blue-soft);width:calc(var(--c10)/var(--c13)*100%)}
+#windows .bar i:nth-child(2){background:var(--blue);width:calc(var(--c9)/var(--c13)*100%)}
+#levels :is(td,th):nth-child(n+4):nth-child(-n+11),#by-when :is(td,th):nth-child(n+3):nth-child(-n+8),#room :is(td,th):nth-child(n+5):nth-child(-n+10),#windows :is(td,th):nth-child(n+3):nth-child(-n+20),#inputs :is(td,th):nth-child(3){text-align:right}
+#windows :is(td,th):is(:nth-child(8),:nth-child(9),:nth-child(16),:nth-child(18),:nth-child(20)){display:none}
+#windows :is(td,th){padding-left:.35rem;padding-right:.35rem}
 #needs tr[data-kind=missed] td:first-child{color:var(--alert);font-weight:700}#needs tr[data-kind=open] td:first-child{color:var(--amber-ink);font-weight:700}#needs tr[data-kind=met] td:first-child{color:var(--good);font-weight:600}
 #needs :is(td,th):nth-child(n+5):nth-child(-n+6){text-align:right}#needs .fill{display:none}
 #totals td:is(:nth-child(odd),.fill){color:var(--soft)}#totals td:nth-child(even){text-align:right}
@@ -87,6 +88,25 @@ td.fill{width:24%;min-width:9rem}
 #totals .bar i:nth-child(1){background:var(--amber);width:calc((var(--c3) + var(--c9))/var(--whole)*100%)}
 #totals .bar i:nth-child(2){background:var(--blue);left:calc((var(--c3) + var(--c9))/var(--whole)*100%);width:calc((var(--c5) + var(--c7))/var(--whole)*100%)}
 #totals .bar i:nth-child(3){background:var(--blue-soft);left:calc((var(--c3) + var(--c5) + var(--c7) + var(--c9))/var(--whole)*100%);width:calc((var(--c11) + var(--c13))/var(--whole)*100%)}
+#matrix{width:auto;min-width:60%}#matrix .fill,#tenths .fill,#chains tr:not([data-kind=process]) .fill,#chains tr[data-kind=end]{display:none}
+#matrix :is(td,th):nth-child(n+3){text-align:right}#matrix td:first-child{color:var(--soft)}
+#matrix td:nth-child(n+3):not(.fill):empty::after{content:'·'/'';color:var(--soft)}
+#matrix tr:is([data-kind=period],[data-kind=demand],[data-kind=blocking],[data-kind=spare],[data-kind=over]) td{font-weight:600}
+#matrix tr[data-kind=demand] td{border-top:1px solid var(--strong)}#matrix tr[data-kind=over] td:nth-child(n+3){color:var(--alert)}
+#tenths :is(td,th):nth-child(2){text-align:right}#tenths :is(td,th):nth-child(n+3){text-align:center;padding-left:.15rem;padding-right:.15rem}
+#tenths td:nth-child(3){--n:var(--c2)}#tenths td:nth-child(4){--n:var(--c3)}#tenths td:nth-child(5){--n:var(--c4)}#tenths td:nth-child(6){--n:var(--c5)}
+#tenths td:nth-child(7){--n:var(--c6)}#tenths td:nth-child(8){--n:var(--c7)}#tenths td:nth-child(9){--n:var(--c8)}#tenths td:nth-child(10){--n:var(--c9)}
+#tenths td:nth-child(11){--n:var(--c10)}#tenths td:nth-child(12){--n:var(--c11)}#tenths td:nth-child(13){--n:var(--c12)}
+#tenths td{vertical-align:bottom}
+#tenths td:nth-child(n+3){padding-top:3rem;font-size:.8em;background:linear-gradient(var(--blue),var(--blue)) no-repeat left 2px bottom 1.9em/calc(100% - 4px) max(min(2px,var(--n)*2px),var(--n)/max(1,var(--c1))*2.5rem)}
+h3{font-size:1rem;margin:1.2rem 0 .2rem;overflow-wrap:anywhere}
+#chains td:is(:nth-child(1),:nth-child(3),:nth-child(5),:nth-child(7)){color:var(--soft)}
+#chains tr[data-kind=process] td:is(:nth-child(9),:nth-child(11),:nth-child(12),:nth-child(14),:nth-child(15)){color:var(--soft)}
+#chains tr[data-kind=process] td:is(:nth-child(4),:nth-child(6),:nth-child(10),:nth-child(13),:nth-child(16)){text-align:right}
+#chains tr[data-kind=process] td:nth-child(2),#chains tr[data-kind=reaction] td{font-weight:600}
+#chains td{padding-left:.25rem;padding-right:.25rem}#chains table{font-size:.84rem}#chains tr{border-bottom:1px solid var(--line)}
+#chains .bar i:nth-child(1){background:repeating-linear-gradient(135deg,var(--blue-soft) 0 4px,transparent 4px 8px);left:calc(var(--c9)/var(--reaction)*100%);width:calc((var(--c12) - var(--c9))/var(--reaction)*100%)}
+#chains .bar i:nth-child(2){background:var(--blue);left:calc((var(--c12) - 1)/var(--reaction)*100%);width:calc((var(--c15) - var(--c12) + 1)/var(--reaction)*100%)}
 .picture{overflow-x:auto}.picture svg{display:block;min-width:60rem}
 .legend{display:flex;flex-wrap:wrap;gap:.2rem 1rem;margin:.5rem 0 0;padding:0;list-style:none;font-size:.8rem;color:var(--soft)}
 .legend i{display:inline-block;width:14px;height:11px;margin-right:.35em;vertical-align:-1px;box-shadow:inset 0 0 0 1px var(--line)}
@@ -171,7 +191,7 @@ pub(crate) const CERTIFIED: &str =
     "<section id=\"certification\" aria-labelledby=\"certification-title\">
 <div class=\"head\"><h2 id=\"certification-title\">Certification</h2><span class=\"scope every\">holds for every run</span></div>
 <p class=\"why\">Certified: at no level do the demand of a window and the longest blocking exceed the period. So each thread gets its whole budget in each of its windows in which it neither waits nor is stopped, in every run, whatever the programs do. All numbers are ticks.</p>
-<div class=\"scroll\"><table><caption class=\"hidden\">Certification, level by level</caption>
+<div class=\"scroll\"><table id=\"levels\"><caption class=\"hidden\">Certification, level by level</caption>
 <thead><tr><th scope=\"col\">Of</th><th scope=\"col\">Name</th><th scope=\"col\">User</th><th scope=\"col\">Level</th><th scope=\"col\">Release of</th><th scope=\"col\">Ticks</th><th scope=\"col\">Period</th><th scope=\"col\">Demand</th><th scope=\"col\">Blocking</th><th scope=\"col\">Spare</th><th scope=\"col\">Over</th><th class=\"fill\" aria-hidden=\"true\"></th></tr></thead>
 <tbody>
 ";
@@ -181,7 +201,7 @@ pub(crate) const UNCERTIFIED: &str =
     "<section id=\"certification\" aria-labelledby=\"certification-title\">
 <div class=\"head\"><h2 id=\"certification-title\">Certification</h2><span class=\"scope layout\">of the configuration</span></div>
 <p class=\"why\"><strong class=\"tight\">Not certified.</strong> At some level the demand of a window and the longest blocking exceed the period, so nothing is said of any run. All numbers are ticks.</p>
-<div class=\"scroll\"><table><caption class=\"hidden\">Certification, level by level</caption>
+<div class=\"scroll\"><table id=\"levels\"><caption class=\"hidden\">Certification, level by level</caption>
 <thead><tr><th scope=\"col\">Of</th><th scope=\"col\">Name</th><th scope=\"col\">User</th><th scope=\"col\">Level</th><th scope=\"col\">Release of</th><th scope=\"col\">Ticks</th><th scope=\"col\">Period</th><th scope=\"col\">Demand</th><th scope=\"col\">Blocking</th><th scope=\"col\">Spare</th><th scope=\"col\">Over</th><th class=\"fill\" aria-hidden=\"true\"></th></tr></thead>
 <tbody>
 ";
@@ -310,7 +330,7 @@ pub(crate) const CHAIN_END: &str = "</tbody></table></div>
 
 /// What stands behind the chains: what their bars show.
 pub(crate) const CHAINS_END: &str =
-    "<ul class=\"legend\" aria-hidden=\"true\"><li><i></i>no window of it, or before the event’s</li><li><i class=\"wait\"></i>its first tick comes in here</li><li><i class=\"work\"></i>it is done by the end of this</li></ul>
+    "<ul class=\"legend\" aria-hidden=\"true\"><li><i></i>before its window</li><li><i class=\"wait\"></i>its first tick comes in here</li><li><i class=\"work\"></i>it is done by the end of this</li></ul>
 </section>
 ";
 
@@ -359,7 +379,7 @@ pub(crate) const PICTURE_END: &str = "</div>
 pub(crate) const RUN: &str = "<section id=\"run\" aria-labelledby=\"run-title\">
 <div class=\"head\"><h2 id=\"run-title\">Use of windows</h2><span class=\"scope one\">of this ledger</span></div>
 <p class=\"why\">What each thread did in its windows that have ended: in how many it waited, was stopped, or overran (it had ticks of its budget, and neither waited nor was stopped), the least and the most ticks of its budget in one, and the first and the last tick of a window with which it was done; then what befell its process. All times are ticks.</p>
-<div class=\"scroll\"><table><caption class=\"hidden\">What each thread did in its windows</caption>
+<div class=\"scroll\"><table id=\"windows\"><caption class=\"hidden\">What each thread did in its windows</caption>
 <thead><tr><th scope=\"col\">Process</th><th scope=\"col\">Thread</th><th scope=\"col\">Serial</th><th scope=\"col\">Windows</th><th scope=\"col\">Waited</th><th scope=\"col\">Stopped</th><th scope=\"col\">Overran</th><th scope=\"col\">First window</th><th scope=\"col\">First tick</th><th scope=\"col\">Used least</th><th scope=\"col\">Used most</th><th scope=\"col\">Done first</th><th scope=\"col\">Done last</th><th scope=\"col\">Budget</th><th scope=\"col\">Refused</th><th scope=\"col\">First refused</th><th scope=\"col\">Faults</th><th scope=\"col\">First fault</th><th scope=\"col\">Slack</th><th scope=\"col\">First slack</th><th class=\"fill\" aria-hidden=\"true\"></th></tr></thead>
 <tbody>
 ";
@@ -394,7 +414,7 @@ pub(crate) const TOTALS_END: &str = "</tbody></table></div>
 /// What stands before the outputs: what the page says, and what not.
 pub(crate) const OUTPUTS: &str = "<section id=\"says\" aria-labelledby=\"says-title\">
 <div class=\"head\"><h2 id=\"says-title\">What this page says, and what not</h2><span class=\"scope given\">scope</span></div>
-<p class=\"why\">The parts marked “holds for every run” are proved of this configuration, with any programs. The parts marked “of the configuration” are exact for it, and say nothing of a run by themselves. The parts marked “of this ledger” are exact for the ledger with the checksum above, and say nothing of another run. The checksums tell of which files.</p>
+<p class=\"why\">The parts marked “holds for every run” are proved of this configuration, with any programs. The parts marked “of the configuration” are exact for it, and say nothing of a run by themselves. The parts marked “of these programs, for ever” are proved of this configuration with the programs that it names, from the tick that they tell on; what they tell of a process by itself holds with any programs of the others. The parts marked “of this ledger” are exact for the ledger with the checksum above, and say nothing of another run. The checksums tell of which files.</p>
 <p class=\"why\">deosk is a model of a time-partitioned kernel on a small simulated processor. Nothing here is a statement about real hardware, wall-clock time or the real system. What a tick is in the real system, and whether the budgets are enough for its work, is for this review to decide.</p>
 </section>
 <section id=\"outputs\" aria-labelledby=\"outputs-title\">

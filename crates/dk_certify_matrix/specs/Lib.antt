@@ -1,0 +1,2 @@
+pub mod Matrix
+pub use Rattle.dk_config.specs.Checked
