@@ -19,7 +19,7 @@ one_told c needs i need told old new inside is are more so_far rest others =
     let left : drop i needs ≡ need ∷ drop (i + 1) needs = drop_more needs i need inside ∙ ap (λ n. n ∷ drop (i + 1) needs) (sym is) in
     let here : AreChains c needs i (need ∷ drop (i + 1) needs) (option_to_list told ++ rest) = (told, rest, are, others, refl) in
     let whole : AreChains c needs 0 needs (old ++ (option_to_list told ++ rest)) =
-        so_far (option_to_list told ++ rest) (subst (λ (ns : List Need). AreChains c needs i ns (option_to_list told ++ rest)) (sym left) here) in
+    so_far (option_to_list told ++ rest) (subst (λ (ns : List Need). AreChains c needs i ns (option_to_list told ++ rest)) (sym left) here) in
     subst (λ (cs : List ChainTold). AreChains c needs 0 needs cs) (sym (ap (λ cs. cs ++ rest) more ∙ append_assoc old (option_to_list told) rest)) whole
 
 pub all_told : (c : Configuration) (needs : List Need) (i : ℕ) (chains : List ChainTold) → length needs ≤ i → AreSoFar c needs i chains

@@ -4,6 +4,7 @@ use Rattle.dk_config.specs.Configuration.{Configuration}
 use Rattle.dk_certify.specs.declared.certifying.Verdict.{Verdict}
 use Rattle.dk_certify.specs.declared.certifying.Verdict.TheVariants as verdict
 use Rattle.dk_certify.specs.Verdicts.{verdict_of}
+use Rattle.dk_certify_matrix.specs.Matrix.{matrix_csv}
 use Rattle.dk_certify_report.specs.Certificate.{certificate_csv, certificate_text}
 use Rattle.dk_document_report.specs.Telling.{Tells}
 use Rattle.dk_loader.specs.declared.fault.LoadFault.{LoadFault}
@@ -46,6 +47,7 @@ IsCertification c (verdict.Fails level needs window) k = k ≡ Failing level nee
 pub record IsTold (c : Configuration) (t : Told) : Type 0 where
   pub certificate : t.certificate.items ≡ certificate_text c
   pub certificate_table : t.certificate_table.items ≡ certificate_csv c
+  pub matrix : t.matrix.items ≡ matrix_csv c
   pub certification : IsCertification c (verdict_of c) t.certification
   pub margins : AreMargins Form.Line c t.margins.items
   pub margins_table : AreMargins Form.Record c t.margins_table.items

@@ -24,9 +24,7 @@ fn are_same(names: &[Text], others: &[Text]) -> bool
         [] => others.is_empty(),
         [name, names @ ..] => match others {
             [] => false,
-            [other, others @ ..] => {
-                name.as_str() == other.as_str() && are_same(names, others)
-            }
+            [other, others @ ..] => { name.as_str() == other.as_str() && are_same(names, others) }
         },
     }
 }
