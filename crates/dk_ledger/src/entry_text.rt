@@ -1,4 +1,4 @@
-ghost use Rattle.std.specs.Prelude.{◌≡◌, ◌+◌, ◌<◌, ◌≤◌, ◌++◌, length, decimal, codes};
+ghost use Rattle.std.specs.Prelude.{◌≡◌, ◌+◌, ◌<◌, ◌≤◌, ◌++◌, length, take, decimal, codes};
 ghost use Rattle.dk_trace.specs.declared.Event.{Event};
 ghost use Rattle.dk_ledger.specs.Heading.{IsPrintable};
 ghost use Rattle.dk_ledger.specs.LineText.{thread_text, source_text, work_text, slack_text, label_text, fault_text, event_text, event_part, line_body, IsNamed};
@@ -20,18 +20,33 @@ pub fn push_thread(line: &mut TextLine, header: &Header, thread: ThreadId)
     line.number(thread.serial);
 }
 
-/// A word and the thread after it.
+/// A word, which is the first bytes of these, and the thread after it.
 #[inline(always)]
-fn push_work_of(line: &mut TextLine, word: &str, header: &Header, thread: ThreadId)
+fn push_work_of(line: &mut TextLine, padded: &str, len: usize, header: &Header, thread: ThreadId)
     requires printable { IsPrintable header.now }
     requires named { thread.process < length header.now.processes }
-    requires short { length word.now ≤ 8 }
+    requires part { len ≤ length padded.now }
+    requires short { length padded.now ≤ 8 }
     requires room { length line.old + 35 ≤ 200 }
-    ensures bytes { line.new ≡ line.old ++ (word.now ++ thread_text header.now thread) }
+    ensures bytes { line.new ≡ line.old ++ (take len padded.now ++ thread_text header.now thread) }
     ensures len { length line.new ≤ length line.old + 35 }
 {
-    line.word(word);
+    line.beginning(padded, len);
     push_thread(line, header, thread);
+}
+
+/// A word, which is the first bytes of these, and the number after it.
+#[inline(always)]
+fn push_number_of(line: &mut TextLine, padded: &str, len: usize, n: u32)
+    requires part { len ≤ length padded.now }
+    requires short { len ≤ 10 }
+    requires block { length padded.now ≤ 16 }
+    requires room { length line.old + 20 ≤ 200 }
+    ensures bytes { line.new ≡ line.old ++ (take len padded.now ++ decimal n) }
+    ensures len { length line.new ≤ length line.old + 20 }
+{
+    line.beginning(padded, len);
+    line.number(n);
 }
 
 /// A word and the number after it.
@@ -53,7 +68,7 @@ fn push_source(line: &mut TextLine, source: Source)
 {
     match source {
         Source::Timeline => line.word("timeline"),
-        Source::Reclaimed(level) => push_counted(line, "reclaimed ", level as u32),
+        Source::Reclaimed(level) => push_number_of(line, "reclaimed       ", 10, level as u32),
     }
 }
 
@@ -76,7 +91,7 @@ fn push_slack(line: &mut TextLine, header: &Header, thread: ThreadId, source: So
     ensures bytes { line.new ≡ line.old ++ slack_text header.now thread source work }
     ensures len { length line.new ≤ length line.old + 60 }
 {
-    line.word("slack ");
+    line.beginning("slack   ", 6);
     push_source(line, source);
     line.word(" ");
     push_work(line, work);
@@ -93,11 +108,11 @@ fn push_label(line: &mut TextLine, header: &Header, label: &Label)
     ensures len { length line.new ≤ length line.old + 60 }
 {
     match *label {
-        Label::Kernel(level) => push_counted(line, "kernel ", level as u32),
-        Label::In(thread) => push_work_of(line, "in ", header, thread),
-        Label::Run(thread) => push_work_of(line, "run ", header, thread),
-        Label::Call(thread) => push_work_of(line, "call ", header, thread),
-        Label::Out(thread) => push_work_of(line, "out ", header, thread),
+        Label::Kernel(level) => push_number_of(line, "kernel  ", 7, level as u32),
+        Label::In(thread) => push_work_of(line, "in  ", 3, header, thread),
+        Label::Run(thread) => push_work_of(line, "run ", 4, header, thread),
+        Label::Call(thread) => push_work_of(line, "call    ", 5, header, thread),
+        Label::Out(thread) => push_work_of(line, "out ", 4, header, thread),
         Label::Slack {
             thread,
             source,
@@ -151,20 +166,25 @@ fn push_event(line: &mut TextLine, event: &Event)
     ensures len { length line.new ≤ length line.old + 41 }
 {
     match *event {
-        Event::Wait => line.word(" wait"),
-        Event::Exit => line.word(" exit"),
+        Event::Wait => line.beginning(" wait   ", 5),
+        Event::Exit => line.beginning(" exit   ", 5),
         Event::Fault(kind) => push_fault(line, kind),
         Event::Create {
             serial,
             level,
             quota,
         } => push_create(line, serial, level, quota),
-        Event::Delete(serial) => push_counted(line, " delete ", serial),
-        Event::Lock(mutex) => push_counted(line, " lock ", mutex as u32),
-        Event::Unlock(mutex) => push_counted(line, " unlock ", mutex as u32),
-        Event::Slack(amount) => push_counted(line, " slack ", amount),
-        Event::Put(value) => push_counted(line, " put ", value),
-        Event::Refused(refusal) => push_counted(line, " refused ", refusal.number() as u32),
+        Event::Delete(serial) => push_number_of(line, " delete ", 8, serial),
+        Event::Lock(mutex) => push_number_of(line, " lock   ", 6, mutex as u32),
+        Event::Unlock(mutex) => push_number_of(line, " unlock ", 8, mutex as u32),
+        Event::Slack(amount) => push_number_of(line, " slack  ", 7, amount),
+        Event::Put(value) => push_number_of(line, " put    ", 5, value),
+        Event::Refused(refusal) => push_number_of(
+            line,
+            " refused        ",
+            9,
+            refusal.number() as u32,
+        ),
     }
 }
 
@@ -203,8 +223,8 @@ fn push_ticks(text: &mut TextLine, header: &Header, line: &LedgerLine)
     ensures len { length text.new ≤ length text.old + 72 }
 {
     match line.label {
-        Label::Call(thread) if line.count == 1 => push_work_of(text, " 1 call ", header, thread),
-        Label::Run(thread) if line.count == 1 => push_work_of(text, " 1 run ", header, thread),
+        Label::Call(thread) if line.count == 1 => push_work_of(text, " 1 call ", 8, header, thread),
+        Label::Run(thread) if line.count == 1 => push_work_of(text, " 1 run  ", 7, header, thread),
         _ => {
             push_count(text, line.count);
             push_label(text, header, &line.label);

@@ -103,6 +103,17 @@ impl TextLine {
         self.part(name.block(), name.len());
     }
 
+    /// Appends the first bytes of a text, so many. A constant of 8 or 16 bytes is copied at once.
+    #[inline(always)]
+    pub(crate) fn beginning(&mut self, text: &str, len: usize)
+        requires part { len ≤ length text.now }
+        requires room { length self.old + length text.now ≤ 200 }
+        ensures bytes { self.new ≡ self.old ++ take len text.now }
+        ensures len { length self.new ≡ length self.old + len }
+    {
+        self.part(text.as_bytes(), len);
+    }
+
     /// Appends the first bytes of these, so many.
     #[inline(always)]
     fn part(&mut self, bytes: &[u8], len: usize)
