@@ -3,6 +3,7 @@
 
 mod answers;
 mod asking;
+mod files;
 mod numbers;
 mod page;
 mod program;
