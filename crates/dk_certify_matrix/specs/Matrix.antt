@@ -46,8 +46,9 @@ part_name c (part.Release i) = decimal i
 part_name c (part.Process p) = process_name c p
 part_name c _ = []
 
--- the process is one of the configuration
+-- the level, or the process, is one of the configuration
 abbrev pub IsPart : Configuration → Part → Type 0
+IsPart c (part.Release i) = i < length c.levels
 IsPart c (part.Process p) = p < length c.processes
 IsPart c _ = Unit {0}
 
@@ -56,14 +57,14 @@ abbrev pub level_column : ℕ → List ℕ
 level_column j = codes "level_" ++ decimal j
 
 -- the names of the columns
-abbrev pub columns_record : Configuration → List ℕ
+unfoldable pub columns_record : Configuration → List ℕ
 columns_record c = record_text (codes "part" ∷ codes "name" ∷ map level_column (below (length c.levels)))
 
 -- what the part takes of each level
 abbrev pub part_numbers : Configuration → Part → List (Option ℕ)
 part_numbers c p = map (takes c p) (below (length c.levels))
 
-abbrev pub part_record : Configuration → Part → List ℕ
+unfoldable pub part_record : Configuration → Part → List ℕ
 part_record c p = record_text (part_word p ∷ part_name c p ∷ map number_field (part_numbers c p))
 
 -- the kernel's own work of each level

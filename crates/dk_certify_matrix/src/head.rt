@@ -1,5 +1,5 @@
 //! The names of the columns.
-ghost use Rattle.std.specs.Prelude.{◌≡◌, ◌++◌, ◌≤◌, codes, flat_map, IfOk, OnOk, string_bytes};
+ghost use Rattle.std.specs.Prelude.{◌≡◌, ◌++◌, flat_map, length, IfOk, OnOk, string_bytes};
 ghost use Rattle.dk_config.specs.Checked.{IsWithinLimits};
 ghost use Rattle.dk_config.specs.Sums.{below};
 ghost use Rattle.dk_table.specs.Records.{behind_comma};
@@ -15,11 +15,12 @@ fn level_column(alloc: Global, level: u32) -> Result<String, AllocError>
     format!(in alloc; ",level_{level}")
 }
 
-fn add_levels(alloc: Global, text: &mut String, levels: u32) -> Result<(), AllocError>
+fn add_levels(alloc: Global, text: &mut String, config: &Config) -> Result<(), AllocError>
+    requires { IsWithinLimits config.now }
     ensures { OnOk result (string_bytes text.new
-        ≡ string_bytes text.old ++ flat_map (λ j. behind_comma (level_column j)) (below levels)) }
+        ≡ string_bytes text.old ++ flat_map (λ j. behind_comma (level_column j)) (below (length config.now.levels))) }
 {
-    for level in 0..levels {
+    for level in 0..config.levels.len() as u32 {
         let column = level_column(alloc, level)?;
         push_line(text, column)?;
     }
@@ -32,7 +33,7 @@ pub(crate) fn columns_record(alloc: Global, config: &Config) -> Result<String, A
     ensures { IfOk result (λ s. string_bytes s ≡ columns_record config.now) }
 {
     let mut text = String::from_str(alloc, "part,name")?;
-    add_levels(alloc, &mut text, config.levels.len() as u32)?;
+    add_levels(alloc, &mut text, config)?;
     text.push_str("\n")?;
     Ok(text)
 }

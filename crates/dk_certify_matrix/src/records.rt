@@ -57,6 +57,7 @@ fn part_numbers(alloc: Global, config: &Config, part: Part) -> Result<Vec<Option
 }
 
 /// The record of a part: what it is, its name, and what it takes of each level.
+#[tactic(auto, unfolding(crate::specs::Matrix::part_record))]
 pub(crate) fn part_record(alloc: Global, config: &Config, part: Part) -> Result<String, AllocError>
     requires checked { IsChecked config.now }
     requires limits { IsWithinLimits config.now }

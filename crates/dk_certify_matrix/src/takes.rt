@@ -1,9 +1,11 @@
 //! What a part takes of a window of a level.
-ghost use Rattle.std.specs.Prelude.{◌≡◌, ◌+◌, ◌<◌, ◌≤◌, length};
+ghost use Rattle.std.specs.Prelude.{◌≡◌, ◌-◌, ◌<◌, ◌≤◌, length, nat_lt};
+ghost use Rattle.dk_config.specs.Certification.{level_blocking};
 ghost use Rattle.dk_config.specs.Checked.{IsChecked, IsWithinLimits};
-ghost use Rattle.dk_certify.specs.Bounds.{most_demand};
-ghost use Rattle.dk_certify_report.specs.Certificate.{budget_ticks, needs, release_ticks};
-ghost use Rattle.dk_certify_matrix.specs.Matrix.{IsPart, is_over, takes, told_unless, told_where};
+ghost use Rattle.dk_config.specs.Windows.{period};
+ghost use Rattle.dk_certify_report.specs.Certificate.{needs, release_ticks};
+ghost use Rattle.dk_certify_matrix.specs.Matrix.{IsPart, takes, told_unless, told_where};
+ghost use Rattle.dk_certify_matrix.specs.declared.part.Part.{Part as Of};
 
 use crate::part::Part;
 use dk_certify::{demand_of, level_row, longest_delay};
@@ -25,7 +27,7 @@ fn release_taken(config: &Config, level: u32, of: u32) -> Option<u64>
     requires checked { IsChecked config.now }
     requires limits { IsWithinLimits config.now }
     requires level { level < length config.now.levels }
-    ensures { result ≡ takes config.now (Part.Release of) level }
+    ensures { result ≡ takes config.now (Of.Release of) level }
 {
     if level < of {
         None
@@ -39,7 +41,7 @@ fn budget_taken(config: &Config, level: u32, process: u32) -> Option<u64>
     requires limits { IsWithinLimits config.now }
     requires level { level < length config.now.levels }
     requires process { process < length config.now.processes }
-    ensures { result ≡ takes config.now (Part.Process process) level }
+    ensures { result ≡ takes config.now (Of.Process process) level }
 {
     let row = &config.processes.as_slice()[process as usize];
     if level < row.level {

@@ -1,5 +1,6 @@
 -- What chains of processes, and what repeats in a run, add to a page.
-use Rattle.std.specs.Prelude.{ℕ, ◌≡◌, Bool, true, false, List, [], ◌∷◌, ◌++◌, flat_map, codes, decimal}
+use Rattle.std.specs.Prelude.{ℕ, ◌≡◌, Bool, true, false, List, [], ◌∷◌, flat_map, codes, decimal}
+use Rattle.dk_html.specs.Checksums.{file_row}
 use Rattle.dk_html.specs.Escaping.{escaped}
 use Rattle.dk_html.specs.Outputs.{output}
 use Rattle.dk_html.specs.Parts.{joined}
@@ -70,3 +71,10 @@ pub record IsAddedByRepeats (name : List ℕ) (r : RepeatsTold) (a : Additions) 
   pub file : a.file.items ≡ []
   pub sections : a.sections.items ≡ repeats_section r.text.items
   pub outputs : a.outputs.items ≡ repeats_output (name_and_ticks name r.ticks) r.text.items
+
+-- by the file of a program, of this name and these bytes
+pub record IsAddedByProgram (name bytes : List ℕ) (a : Additions) : Type 0 where
+  pub tile : a.tile.items ≡ []
+  pub file : a.file.items ≡ joined (file_row (codes "program") name bytes ∷ [])
+  pub sections : a.sections.items ≡ []
+  pub outputs : a.outputs.items ≡ []

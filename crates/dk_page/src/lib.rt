@@ -17,7 +17,7 @@ mod whole;
 
 pub use chaining::{ChainTold, chains_additions};
 pub use needing::{Standing, Wants, needs_additions};
-pub use repeating::{RepeatsTold, repeats_additions};
+pub use repeating::{RepeatsTold, program_additions, repeats_additions};
 pub use running::{Drawing, Run, additions};
 pub use told::{Additions, Certification, Told};
 pub use whole::{faults_page, page};

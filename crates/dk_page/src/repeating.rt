@@ -1,6 +1,8 @@
 //! What repeats in a run, and what it adds.
-ghost use Rattle.std.specs.Prelude.{◌≡◌, ◌++◌, IfOk, OnOk};
-ghost use Rattle.dk_page.specs.More.{IsAddedByRepeats, name_and_ticks, not_repeating_tile, repeats_output, repeats_section, repeats_tile};
+ghost use Rattle.std.specs.Prelude.{◌≡◌, ◌++◌, ◌∷◌, [], IfOk, OnOk, codes};
+ghost use Rattle.dk_html.specs.Checksums.{file_row};
+ghost use Rattle.dk_html.specs.Parts.{joined};
+ghost use Rattle.dk_page.specs.More.{IsAddedByProgram, IsAddedByRepeats, name_and_ticks, not_repeating_tile, repeats_output, repeats_section, repeats_tile};
 
 use crate::template::{REPEATING_TILE, REPEATS, TEXT_END};
 use crate::told::Additions;
@@ -126,5 +128,35 @@ pub fn repeats_additions(
         file: Vec::new(alloc),
         sections,
         outputs,
+    })
+}
+
+fn add_program<'x>(
+    alloc: Global,
+    out: &mut Vec<u8>,
+    name: &'x [u8],
+    bytes: &'x [u8],
+) -> Result<(), AllocError>
+    ensures { OnOk result (out.new.items ≡ out.old.items ++ joined (file_row (codes "program") name.now bytes.now ∷ [])) }
+{
+    let parts = [Part::File {
+        what: "program",
+        name,
+        bytes,
+    }];
+    add_parts(alloc, out, &parts)
+}
+
+/// What the file of a program of this name adds, which holds these bytes: its row among the files. `Err` is want of memory.
+pub fn program_additions(alloc: Global, name: &str, bytes: &[u8]) -> Result<Additions, AllocError>
+    ensures { IfOk result (IsAddedByProgram name.now bytes.now) }
+{
+    let mut file = Vec::new(alloc);
+    add_program(alloc, &mut file, name.as_bytes(), bytes)?;
+    Ok(Additions {
+        tile: Vec::new(alloc),
+        file,
+        sections: Vec::new(alloc),
+        outputs: Vec::new(alloc),
     })
 }

@@ -98,7 +98,8 @@ td.fill{width:24%;min-width:9rem}
 #tenths td:nth-child(7){--n:var(--c6)}#tenths td:nth-child(8){--n:var(--c7)}#tenths td:nth-child(9){--n:var(--c8)}#tenths td:nth-child(10){--n:var(--c9)}
 #tenths td:nth-child(11){--n:var(--c10)}#tenths td:nth-child(12){--n:var(--c11)}#tenths td:nth-child(13){--n:var(--c12)}
 #tenths td{vertical-align:bottom}
-#tenths td:nth-child(n+3){padding-top:3rem;font-size:.8em;background:linear-gradient(var(--blue),var(--blue)) no-repeat left 2px bottom 1.9em/calc(100% - 4px) max(min(2px,var(--n)*2px),var(--n)/max(1,var(--c1))*2.5rem)}
+#tenths td:nth-child(n+3){padding-top:2.6rem;font-size:.8em;background:linear-gradient(var(--blue),var(--blue)) no-repeat left 2px bottom 1.9em/calc(100% - 4px) max(min(2px,var(--n)*2px),var(--n)/max(1,var(--c1))*2.2rem)}
+.scroll+.why{margin-top:.6rem}
 h3{font-size:1rem;margin:1.2rem 0 .2rem;overflow-wrap:anywhere}
 #chains td:is(:nth-child(1),:nth-child(3),:nth-child(5),:nth-child(7)){color:var(--soft)}
 #chains tr[data-kind=process] td:is(:nth-child(9),:nth-child(11),:nth-child(12),:nth-child(14),:nth-child(15)){color:var(--soft)}
@@ -132,7 +133,7 @@ details>pre{border-top:1px solid var(--line)}
 @media print{body{font-size:9.5pt;line-height:1.4}
 .sheet{max-width:none;padding:0}.skip{display:none}
 header{padding-top:0}h1{font-size:19pt}
-section{margin-bottom:1.5rem}.head,.why{break-after:avoid}
+section{margin-bottom:1.5rem}.head,.why,h3,caption{break-after:avoid}
 tr,.tile,.note,.sign{break-inside:avoid}thead{display:table-header-group}
 table{font-size:8.6pt}th,td{padding:.18rem .45rem}
 .tiles{grid-template-columns:repeat(3,1fr);gap:.4rem}
@@ -387,13 +388,13 @@ pub(crate) const RUN: &str = "<section id=\"run\" aria-labelledby=\"run-title\">
 /// What stands behind that: what its bars show; and before the tenths of the budgets.
 pub(crate) const RUN_END: &str = "</tbody></table></div>
 <ul class=\"legend\" aria-hidden=\"true\"><li><i class=\"now\"></i>used least</li><li><i class=\"most\"></i>used most</li><li><i></i>budget</li></ul>
-<div class=\"scroll\"><table id=\"tenths\"><caption>In how many of its windows each main used how many tenths of its budget</caption>
+<div class=\"scroll\"><table id=\"tenths\"><caption>Windows by tenths of the budget</caption>
 <thead>
 ";
 
 /// What stands behind the tenths.
 pub(crate) const TENTHS_END: &str = "</tbody></table></div>
-<p class=\"why\">The first column counts the windows with less than a tenth of the budget, the last those with the whole of it. A bar is as high as its part of all windows.</p>
+<p class=\"why\">In how many of its windows each main used how many whole tenths of its budget: the first column counts those with less than one, the last those with the whole budget. A bar is as high as its part of all windows.</p>
 </section>
 ";
 
@@ -419,7 +420,7 @@ pub(crate) const OUTPUTS: &str = "<section id=\"says\" aria-labelledby=\"says-ti
 </section>
 <section id=\"outputs\" aria-labelledby=\"outputs-title\">
 <div class=\"head\"><h2 id=\"outputs-title\">The outputs, word for word</h2><span class=\"scope given\">evidence</span></div>
-<p class=\"why\">The numbers of the tables above stand in these texts. Each text is what the command writes, byte for byte.</p>
+<p class=\"why\">The numbers of the tables above stand in these texts, but for the tenths of the budgets, which no command writes. Each text is what the command writes, byte for byte.</p>
 ";
 
 /// The end of the page, with lines for signatures.

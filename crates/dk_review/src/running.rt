@@ -9,7 +9,7 @@ ghost use Rattle.dk_ledger.specs.Readable.{IsNoText, IsWrongLine};
 ghost use Rattle.dk_window_table.specs.Table.{kept_csv};
 ghost use Rattle.dk_review.specs.Runs.{AreTenthsOf, AreTotalsOf, AreWindowsOf, IsFaultOf, IsOfLedger, IsRunOf, IsToldBy, audit_text, has_passed, is_other, tick_text};
 
-use crate::drawing::{Range, drawing_of};
+use crate::drawing::{Range, drawing_of, text_bytes};
 use crate::fault::RunFault;
 use dk_audit::{Finding, audit_bytes};
 use dk_config::{Config, NoMemory};
@@ -98,7 +98,7 @@ fn tenths_in(alloc: Global, bytes: &[u8], range: Option<Range>) -> Result<Vec<u8
 {
     let _range = range;
     match tenths_csv(alloc, bytes) {
-        Ok(table) => Ok(table.into_bytes()),
+        Ok(table) => Ok(text_bytes(table)),
         Err(LedgerFault::Line(line)) => Err(RunFault::Line(line)),
         Err(LedgerFault::NoMemory) => Err(RunFault::NoMemory),
     }

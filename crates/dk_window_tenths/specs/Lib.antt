@@ -1,3 +1,4 @@
 pub mod Tenths
-pub mod Table
 pub mod Laws
+pub mod Told
+pub mod Table

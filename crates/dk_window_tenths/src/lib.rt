@@ -3,6 +3,9 @@
 #![tactic(auto)]
 
 mod laws;
+mod mains;
+mod records;
+mod told;
 mod whole;
 
 pub use laws::tenths_law;
