@@ -7,10 +7,9 @@ use Rattle.std.specs.Prelude.{IfOk, IfSome, nat_lt, Option, Some, None, Result, 
 use Rattle.dk_config.specs.declared.TheConstants.{MAX_CONFIG_BYTES, MAX_LEDGER_BYTES}
 use Rattle.dk_outside.specs.declared.depot.DepotError.{DepotError}
 use Rattle.dk_page.specs.declared.told.Additions.{Additions}
-use Rattle.dk_review.specs.Files.{File}
-use Rattle.dk_review.specs.Needs.{AddsNothing}
-use Rattle.dk_page_prog.specs.Answers.{AreRead, IsAsked, IsLongOr, IsOfAll, IsOfFiles, IsOfShort, IsReadAt, first_long, named}
+use Rattle.dk_page_prog.specs.Answers.{AreRead, IsAsked, IsLongOr, IsOfFiles, IsOfMore, IsOfShort, IsReadAt, first_long}
 use Rattle.dk_page_prog.specs.Asking.{Asking}
+use Rattle.dk_page_prog.specs.Repeating.{Tells, search_asked}
 use Rattle.dk_page_prog.specs.declared.answers.Answer.{Answer}
 use Rattle.dk_page_prog.specs.declared.files.Held.{Held}
 use Rattle.dk_page_prog.specs.declared.files.LongFile.{LongFile}
@@ -51,26 +50,27 @@ whole_file : (most : ℕ) (file : List ℕ) → length file ≤ most → take (m
 whole_file most file few = take_all (most + 1) file (omega (arith, few))
 
 -- what the beginnings come to is what the files come to
-files_whole : (k : Asking) (a : Answer) (d n l : List ℕ) (long : Option LongFile) → first_long d n l ≡ long
-    → IsLongOr (IsOfShort k (take (MAX_CONFIG_BYTES + 1) d) (take (MAX_CONFIG_BYTES + 1) n) (take (MAX_LEDGER_BYTES + 1) l) a) a long
-    → IsLongOr (IsOfShort k d n l a) a long
-files_whole k a d n l (Some long) same is = is
-files_whole k a d n l None same is =
+files_whole : (at : List ℕ → Option (List ℕ)) (k : Asking) (a : Answer) (d n l : List ℕ) (long : Option LongFile) → first_long d n l ≡ long
+    → IsLongOr (IsOfShort at k (take (MAX_CONFIG_BYTES + 1) d) (take (MAX_CONFIG_BYTES + 1) n) (take (MAX_LEDGER_BYTES + 1) l) a) a long
+    → IsLongOr (IsOfShort at k d n l a) a long
+files_whole at k a d n l (Some long) same is = is
+files_whole at k a d n l None same is =
     let few = none_long d n l same in
-    subst (λ x. IsOfShort k d n x a) (whole_file MAX_LEDGER_BYTES l few.ledger)
-    (subst (λ x. IsOfShort k d x (take (MAX_LEDGER_BYTES + 1) l) a) (whole_file MAX_CONFIG_BYTES n few.needs)
-    (subst (λ x. IsOfShort k x (take (MAX_CONFIG_BYTES + 1) n) (take (MAX_LEDGER_BYTES + 1) l) a) (whole_file MAX_CONFIG_BYTES d few.document) is))
+    subst (λ x. IsOfShort at k d n x a) (whole_file MAX_LEDGER_BYTES l few.ledger)
+    (subst (λ x. IsOfShort at k d x (take (MAX_LEDGER_BYTES + 1) l) a) (whole_file MAX_CONFIG_BYTES n few.needs)
+    (subst (λ x. IsOfShort at k x (take (MAX_CONFIG_BYTES + 1) n) (take (MAX_LEDGER_BYTES + 1) l) a) (whole_file MAX_CONFIG_BYTES d few.document) is))
 
-whole : (k : Asking) (a : Answer) (d n l e o m : List ℕ) → d ≡ take (MAX_CONFIG_BYTES + 1) e → n ≡ take (MAX_CONFIG_BYTES + 1) o
-    → l ≡ take (MAX_LEDGER_BYTES + 1) m → IsOfFiles k a d n l → IsOfFiles k a e o m
-whole k a d n l e o m ds ns ls is =
-    files_whole k a e o m (first_long e o m) refl
-    (subst (λ x. IsLongOr (IsOfShort k (take (MAX_CONFIG_BYTES + 1) e) (take (MAX_CONFIG_BYTES + 1) o) (take (MAX_LEDGER_BYTES + 1) m) a) a x)
+whole : (at : List ℕ → Option (List ℕ)) (k : Asking) (a : Answer) (d n l e o m : List ℕ) → d ≡ take (MAX_CONFIG_BYTES + 1) e → n ≡ take (MAX_CONFIG_BYTES + 1) o
+    → l ≡ take (MAX_LEDGER_BYTES + 1) m → IsOfFiles at k a d n l → IsOfFiles at k a e o m
+whole at k a d n l e o m ds ns ls is =
+    files_whole at k a e o m (first_long e o m) refl
+    (subst (λ x. IsLongOr (IsOfShort at k (take (MAX_CONFIG_BYTES + 1) e) (take (MAX_CONFIG_BYTES + 1) o) (take (MAX_LEDGER_BYTES + 1) m) a) a x)
     (beginnings_long e o m) (rw (ds, ns, ls) at is))
 
 -- so what was read comes to what the files come to
 pub of_read : (files : Option (List ℕ → Option (List ℕ))) (k : Asking) (h : Held) (result : Result Answer DepotError)
-    → IfSome files (λ at. AreRead at k h) → IfOk result (λ a. IsOfFiles k a h.document.items h.needs.items h.ledger.items)
+    → IfSome files (λ at. AreRead at k h)
+    → IfSome files (λ at. IfOk result (λ a. IsOfFiles at k a h.document.items h.needs.items h.ledger.items))
     → IfSome files (λ at. IfOk result (IsAsked at k))
 of_read None k h result read is = tt
 of_read (Some at) k h (Ok a) read is = record {
@@ -80,7 +80,7 @@ of_read (Some at) k h (Ok a) read is = record {
   has_document = read.document.1;
   has_needs = read.needs_are.1;
   has_ledger = read.ledger_is.1;
-  comes = whole k a _ _ _ read.document.0 read.needs_are.0 read.ledger_is.0 read.document.2 read.needs_are.2 read.ledger_is.2 is;
+  comes = whole at k a _ _ _ read.document.0 read.needs_are.0 read.ledger_is.0 read.document.2 read.needs_are.2 read.ledger_is.2 is;
 }
 of_read (Some at) k h (Err e) read is = tt
 
@@ -109,10 +109,11 @@ pub wider : {E : Type 0} (P Q : Answer → Type 0) (r : Result Answer E) → ((a
 wider P Q (Ok a) all is = all a is
 wider P Q (Err e) all is = tt
 
--- nothing more than the files are read for
-pub short_is : (k : Asking) (document needs ledger : List ℕ) (file : File) (n l : Option File) (more : Additions) (r : Result Answer DepotError)
-    → file ≡ record { name = k.name; bytes = document } → n ≡ named k.needs needs → l ≡ named k.ledger ledger → AddsNothing more
-    → IfOk r (IsOfAll file n l k.range more) → IfOk r (IsOfShort k document needs ledger)
-short_is k document needs ledger file n l more (Ok a) fs ns ls nothing is =
-    record { more = more; nothing = nothing; is = rw (fs, ns, ls) at is }
-short_is k document needs ledger file n l more (Err e) fs ns ls nothing is = tt
+-- what the page tells more
+pub more_told : (files : Option (List ℕ → Option (List ℕ))) (k : Asking) (d n l bytes : List ℕ) (more : Additions)
+    (r : Result Answer DepotError) → bytes ≡ d → IfSome files (λ at. Tells k.name (search_asked at bytes k.repeats) more)
+    → IfOk r (IsOfMore k d n l more) → IfSome files (λ at. IfOk r (IsOfShort at k d n l))
+more_told None k d n l bytes more r same tells is = tt
+more_told (Some at) k d n l bytes more (Ok a) same tells is =
+    inl (record { more = more; tells = subst (λ b. Tells k.name (search_asked at b k.repeats) more) same tells; is = is })
+more_told (Some at) k d n l bytes more (Err e) same tells is = tt

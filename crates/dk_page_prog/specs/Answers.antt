@@ -4,13 +4,13 @@ use Rattle.dk_config.specs.declared.TheConstants.{MAX_CONFIG_BYTES, MAX_LEDGER_B
 use Rattle.dk_ledger.specs.Readable.{IsNoText, IsWrongLine}
 use Rattle.dk_page.specs.declared.told.Additions.{Additions}
 use Rattle.dk_review.specs.Files.{File}
-use Rattle.dk_review.specs.Needs.{AddsNothing}
 use Rattle.dk_review.specs.Reviews.{IsOfOther, IsReview, IsReviewWith}
 use Rattle.dk_review.specs.Runs.{EndsBefore, IsOfLedger as HasLedger}
 use Rattle.dk_review.specs.declared.drawing.Range.{Range}
 use Rattle.dk_review.specs.declared.reviewing.Ending.{Ending}
 use Rattle.dk_review.specs.declared.reviewing.Review.{Review}
 use Rattle.dk_page_prog.specs.Asking.{Asking, asked_by}
+use Rattle.dk_page_prog.specs.Repeating.{HasLongProgram, Search, Tells, search_asked}
 use Rattle.dk_page_prog.specs.declared.answers.Answer.{Answer}
 use Rattle.dk_page_prog.specs.declared.files.Held.{Held}
 use Rattle.dk_page_prog.specs.declared.files.LongFile.{LongFile}
@@ -24,14 +24,14 @@ status_number (status.Answered answered.Done) = 0
 status_number (status.Answered answered.Usage) = 1
 status_number (status.Answered answered.Config) = 2
 status_number (status.Answered answered.Uncertified) = 3
-status_number (status.Answered answered.Ledger) = 4
+status_number (status.Answered answered.Refused) = 4
 status_number status.DepotFault = 5
 status_number status.SinkFault = 6
 status_number status.NoMemory = 7
 
 abbrev pub ended_of : Ending → Answered
 ended_of Ending.Certified = answered.Done
-ended_of Ending.Failing = answered.Ledger
+ended_of Ending.Failing = answered.Refused
 ended_of Ending.Uncertified = answered.Uncertified
 ended_of Ending.Refused = answered.Config
 
@@ -51,17 +51,17 @@ abbrev pub line_text : ℕ → List ℕ
 line_text n = codes "ledger: line " ++ (decimal n ++ codes "\n")
 
 abbrev pub IsWrong : List ℕ → Answer → Type 0
-IsWrong bytes a = (n : ℕ) × IsWrongLine n bytes × IsNoText bytes × Says (line_text n) answered.Ledger a
+IsWrong bytes a = (n : ℕ) × IsWrongLine n bytes × IsNoText bytes × Says (line_text n) answered.Refused a
 
 abbrev pub IsOther : List ℕ → List ℕ → Answer → Type 0
-IsOther document bytes a = IsOfOther document bytes × Says (codes "ledger: of another configuration\n") answered.Ledger a
+IsOther document bytes a = IsOfOther document bytes × Says (codes "ledger: of another configuration\n") answered.Refused a
 
 -- the range ends behind the last tick of the ledger
 abbrev pub ends_text : ℕ → List ℕ
 ends_text ticks = codes "range: ledger ends at " ++ (decimal ticks ++ codes "\n")
 
 abbrev pub IsPast : Option Range → List ℕ → Answer → Type 0
-IsPast range bytes a = (ticks : ℕ) × HasLedger (EndsBefore range ticks) bytes × Says (ends_text ticks) answered.Ledger a
+IsPast range bytes a = (ticks : ℕ) × HasLedger (EndsBefore range ticks) bytes × Says (ends_text ticks) answered.Refused a
 
 -- why there is no page: the bytes are no ledger, or one of another configuration, or the range isn't in it
 abbrev pub IsRefused : List ℕ → Option Range → List ℕ → Answer → Type 0
@@ -77,11 +77,26 @@ abbrev pub named : Option (List ℕ) → List ℕ → Option File
 named None bytes = None
 named (Some name) bytes = Some (record { name = name; bytes = bytes })
 
--- with nothing more than that
-pub record IsOfShort (k : Asking) (document needs ledger : List ℕ) (a : Answer) : Type 0 where
+-- of files that hold these bytes
+abbrev pub IsOfMore : Asking → List ℕ → List ℕ → List ℕ → Additions → Answer → Type 0
+IsOfMore k document needs ledger more a =
+    IsOfAll (record { name = k.name; bytes = document }) (named k.needs needs) (named k.ledger ledger) k.range more a
+
+-- the more is what repeats, where that is asked
+pub record IsWithMore (at : List ℕ → Option (List ℕ)) (k : Asking) (document needs ledger : List ℕ) (a : Answer) : Type 0 where
   pub more : Additions
-  pub nothing : AddsNothing more
-  pub is : IsOfAll (record { name = k.name; bytes = document }) (named k.needs needs) (named k.ledger ledger) k.range more a
+  pub tells : Tells k.name (search_asked at document k.repeats) more
+  pub is : IsOfMore k document needs ledger more a
+
+abbrev pub program_text : ℕ → List ℕ
+program_text p = codes "program: process " ++ (decimal p ++ codes " longer than 65536 bytes\n")
+
+abbrev pub IsLongProgram : Option Search → Answer → Type 0
+IsLongProgram search a = (p : ℕ) × HasLongProgram search p × Says (program_text p) answered.Refused a
+
+-- that, or the line of the first program that is too long, where they are read
+abbrev pub IsOfShort : (List ℕ → Option (List ℕ)) → Asking → List ℕ → List ℕ → List ℕ → Answer → Type 0
+IsOfShort at k document needs ledger a = IsWithMore at k document needs ledger a ⊎ IsLongProgram (search_asked at document k.repeats) a
 
 abbrev pub long_text : LongFile → List ℕ
 long_text LongFile.Config = codes "config: longer than 65536 bytes\n"
@@ -91,7 +106,7 @@ long_text LongFile.Ledger = codes "ledger: longer than 1073741824 bytes\n"
 abbrev pub long_ended : LongFile → Answered
 long_ended LongFile.Config = answered.Config
 long_ended LongFile.Needs = answered.Config
-long_ended LongFile.Ledger = answered.Ledger
+long_ended LongFile.Ledger = answered.Refused
 
 -- the first of these files that has more bytes than it may have
 abbrev pub first_long : List ℕ → List ℕ → List ℕ → Option LongFile
@@ -106,8 +121,8 @@ IsLongOr Short a None = Short
 IsLongOr Short a (Some long) = Says (long_text long) (long_ended long) a
 
 -- what the files come to that hold these bytes
-abbrev pub IsOfFiles : Asking → Answer → List ℕ → List ℕ → List ℕ → Type 0
-IsOfFiles k a document needs ledger = IsLongOr (IsOfShort k document needs ledger a) a (first_long document needs ledger)
+abbrev pub IsOfFiles : (List ℕ → Option (List ℕ)) → Asking → Answer → List ℕ → List ℕ → List ℕ → Type 0
+IsOfFiles at k a document needs ledger = IsLongOr (IsOfShort at k document needs ledger a) a (first_long document needs ledger)
 
 -- the file of this name holds these bytes, and where none is named they are none
 abbrev pub HoldsAt : (List ℕ → Option (List ℕ)) → Option (List ℕ) → List ℕ → Type 0
@@ -132,10 +147,10 @@ pub record IsAsked (at : List ℕ → Option (List ℕ)) (k : Asking) (a : Answe
   pub has_document : at k.name ≡ Some document
   pub has_needs : HoldsAt at k.needs needs
   pub has_ledger : HoldsAt at k.ledger ledger
-  pub comes : IsOfFiles k a document needs ledger
+  pub comes : IsOfFiles at k a document needs ledger
 
 abbrev pub IsUsage : Answer → Type 0
-IsUsage a = Says (codes "usage: deosk-show page FILE [LEDGER [FROM TO]] [--needs NEEDS]\n") answered.Usage a
+IsUsage a = Says (codes "usage: deosk-show page FILE [LEDGER [FROM TO]] [--needs NEEDS] [--repeats TICKS]\n") answered.Usage a
 
 -- that, or the usage line where nothing is asked for
 abbrev pub IsAnswerTo : (List ℕ → Option (List ℕ)) → Option Asking → Answer → Type 0

@@ -5,13 +5,14 @@ use Rattle.dk_review.specs.declared.drawing.Range.{Range}
 use Rattle.dk_page_prog.specs.declared.asking.Asked.{Asked}
 use Rattle.dk_page_prog.specs.Numbers.{ticks_in}
 
--- the page of the file of this name, with what is said in the files of needs and of a ledger, and the range of its picture,
--- where they are named
+-- the page of the file of this name, with what is said in the files of needs and of a ledger, the range of its picture, and what
+-- repeats in so many ticks, where they are named
 pub record Asking : Type 0 where
   pub name : List ℕ
   pub needs : Option (List ℕ)
   pub ledger : Option (List ℕ)
   pub range : Option Range
+  pub repeats : Option ℕ
 
 abbrev pub asking_of : Asked → Asking
 asking_of a = record {
@@ -19,10 +20,11 @@ asking_of a = record {
   needs = option_map (λ n. n.now) a.needs;
   ledger = option_map (λ n. n.now) a.ledger;
   range = a.range;
+  repeats = a.repeats;
 }
 
 abbrev pub of_name : List ℕ → Asking
-of_name name = record { name = name; needs = None; ledger = None; range = None }
+of_name name = record { name = name; needs = None; ledger = None; range = None; repeats = None }
 
 -- a word that isn't empty, and doesn't begin as a flag does
 abbrev pub is_name : List ℕ → Bool
@@ -45,11 +47,21 @@ range_of from to = range_between (ticks_in from) (ticks_in to)
 abbrev pub is_needs : List ℕ → List ℕ → Bool
 is_needs flag needs = bytes_eq flag (codes "--needs") && is_name needs
 
--- what is asked for by words that stand behind [LEDGER [FROM TO]]
+-- the ticks that they ask for
+abbrev pub repeats_of : List ℕ → List ℕ → Option ℕ
+repeats_of flag ticks = if bytes_eq flag (codes "--repeats") then ticks_in ticks else None
+
+-- what is asked for by words that stand behind [LEDGER [FROM TO]] [--needs NEEDS]
+unfoldable pub with_repeats : Asking → List (List ℕ) → Option Asking
+with_repeats a [] = Some a
+with_repeats a (flag ∷ ticks ∷ []) = option_map (λ n. record a { repeats = Some n }) (repeats_of flag ticks)
+with_repeats a _ = None
+
+-- behind [LEDGER [FROM TO]]
 unfoldable pub with_needs : Asking → List (List ℕ) → Option Asking
-with_needs a [] = Some a
-with_needs a (flag ∷ needs ∷ []) = if is_needs flag needs then Some (record a { needs = Some needs }) else None
-with_needs a _ = None
+with_needs a (flag ∷ needs ∷ rest) =
+    if is_needs flag needs then with_repeats (record a { needs = Some needs }) rest else with_repeats a (flag ∷ needs ∷ rest)
+with_needs a rest = with_repeats a rest
 
 abbrev pub in_range : Asking → Option Range → List (List ℕ) → List (List ℕ) → Option Asking
 in_range a (Some range) behind rest = with_needs (record a { range = Some range }) behind

@@ -3,14 +3,16 @@ ghost use Rattle.std.specs.Prelude.{◌≡◌, ◌≢◌, ◌≤◌, ◌<◌, �
 ghost use Rattle.dk_config.specs.declared.TheConstants.{MAX_CONFIG_BYTES};
 ghost use Rattle.dk_outside.specs.Counts.{Rises};
 ghost use Rattle.dk_outside.specs.declared.depot.DepotError.{DepotError};
-ghost use Rattle.dk_page_prog.specs.Answers.{IsAnswerTo, IsAnswered, IsAsked, IsOfAll, IsOfFiles, IsOfReview, IsOfShort, Says, ended_of, ends_text, line_text, long_ended, long_text};
+ghost use Rattle.dk_page_prog.specs.Answers.{IsAnswerTo, IsAnswered, IsAsked, IsOfAll, IsOfFiles, IsOfMore, IsOfReview, IsOfShort, Says, ended_of, ends_text, line_text, long_ended, long_text, program_text};
 ghost use Rattle.dk_page_prog.specs.Asking.{asking_of};
 ghost use Rattle.dk_review.specs.Files.{file_of};
 ghost use Rattle.dk_review.specs.Reviews.{IsReview};
 
 use crate::asking::{Asked, asked_by};
 use crate::files::{Held, LongFile, first_long, named, read_files};
+use crate::repeating::more_of;
 use crate::status::Answered;
+use dk_loader::LoadFault;
 use dk_outside::{Depot, DepotError};
 use dk_page::Additions;
 use dk_review::{Ending, NamedFile, Range, RunFault, review_of, review_with};
@@ -28,7 +30,7 @@ fn ended_of(ending: Ending) -> Answered
 {
     match ending {
         Ending::Certified => Answered::Done,
-        Ending::Failing => Answered::Ledger,
+        Ending::Failing => Answered::Refused,
         Ending::Uncertified => Answered::Uncertified,
         Ending::Refused => Answered::Config,
     }
@@ -57,7 +59,7 @@ fn long_answer(alloc: Global, long: LongFile) -> Result<Answer, DepotError>
             words_answer(
                 alloc,
                 "ledger: longer than 1073741824 bytes\n",
-                Answered::Ledger,
+                Answered::Refused,
             )
         }
     }
@@ -70,11 +72,11 @@ fn line_text(alloc: Global, line: u32) -> Result<String, AllocError>
 }
 
 fn line_answer(alloc: Global, line: u32) -> Result<Answer, DepotError>
-    ensures is { IfOk result (Says (line_text line) Answered.Ledger) }
+    ensures is { IfOk result (Says (line_text line) Answered.Refused) }
     ensures memory { result ≢ Err DepotError.Failed }
 {
     let bytes = line_text(alloc, line)?.into_bytes();
-    let ended = Answered::Ledger;
+    let ended = Answered::Refused;
     Ok(Answer { bytes, ended })
 }
 
@@ -85,11 +87,11 @@ fn ends_text(alloc: Global, ticks: u32) -> Result<String, AllocError>
 }
 
 fn ends_answer(alloc: Global, ticks: u32) -> Result<Answer, DepotError>
-    ensures is { IfOk result (Says (ends_text ticks) Answered.Ledger) }
+    ensures is { IfOk result (Says (ends_text ticks) Answered.Refused) }
     ensures memory { result ≢ Err DepotError.Failed }
 {
     let bytes = ends_text(alloc, ticks)?.into_bytes();
-    let ended = Answered::Ledger;
+    let ended = Answered::Refused;
     Ok(Answer { bytes, ended })
 }
 
@@ -139,7 +141,7 @@ fn of_both(
             words_answer(
                 alloc,
                 "ledger: of another configuration\n",
-                Answered::Ledger,
+                Answered::Refused,
             )
         }
         Err(RunFault::NoMemory) => Err(DepotError::NoMemory),
@@ -165,11 +167,26 @@ fn of_all(
     }
 }
 
-/// What files come to of which none is too long.
-fn of_short(alloc: Global, asked: Asked, held: &Held) -> Result<Answer, DepotError>
+fn program_text(alloc: Global, process: u32) -> Result<String, AllocError>
+    ensures { IfOk result (λ s. string_bytes s ≡ program_text process) }
+{
+    format!(in alloc; "program: process {process} longer than 65536 bytes\n")
+}
+
+fn program_answer(alloc: Global, process: u32) -> Result<Answer, DepotError>
+    ensures is { IfOk result (Says (program_text process) Answered.Refused) }
+    ensures memory { result ≢ Err DepotError.Failed }
+{
+    let bytes = program_text(alloc, process)?.into_bytes();
+    let ended = Answered::Refused;
+    Ok(Answer { bytes, ended })
+}
+
+/// What the files come to, with more that the page has.
+fn of_more(alloc: Global, asked: Asked, held: &Held, more: &Additions) -> Result<Answer, DepotError>
     requires few { length held.now.document.items ≤ MAX_CONFIG_BYTES }
     requires short { length held.now.needs.items ≤ MAX_CONFIG_BYTES }
-    ensures is { IfOk result (IsOfShort (asking_of asked.entry) held.now.document.items held.now.needs.items held.now.ledger.items) }
+    ensures is { IfOk result (IsOfMore (asking_of asked.entry) held.now.document.items held.now.needs.items held.now.ledger.items more.now) }
     ensures memory { result ≢ Err DepotError.Failed }
 {
     let file = NamedFile {
@@ -178,13 +195,51 @@ fn of_short(alloc: Global, asked: Asked, held: &Held) -> Result<Answer, DepotErr
     };
     let needs = named(asked.needs, held.needs.as_slice());
     let ledger = named(asked.ledger, held.ledger.as_slice());
-    let more = Additions::none(alloc);
-    of_all(alloc, file, needs, ledger, asked.range, &more)
+    of_all(alloc, file, needs, ledger, asked.range, more)
 }
 
-fn of_files(alloc: Global, asked: Asked, held: &Held) -> Result<Answer, DepotError>
-    ensures is { IfOk result (λ a. IsOfFiles (asking_of asked.entry) a held.now.document.items held.now.needs.items held.now.ledger.items) }
-    ensures memory { result ≢ Err DepotError.Failed }
+/// What files come to of which none is too long.
+fn of_short<D: Depot>(
+    alloc: Global,
+    asked: Asked,
+    held: &Held,
+    depot: &mut D,
+) -> Result<Answer, DepotError>
+    requires few { length held.now.document.items ≤ MAX_CONFIG_BYTES }
+    requires short { length held.now.needs.items ≤ MAX_CONFIG_BYTES }
+    requires given { (D.seen depot.old).given < 2 ^ 63 }
+    ensures is { IfSome (D.seen depot.old).files (λ at. IfOk result
+        (IsOfShort at (asking_of asked.entry) held.now.document.items held.now.needs.items held.now.ledger.items)) }
+    ensures cause { IsErrOf result DepotError.Failed → Rises (D.seen depot.old).faults (D.seen depot.new).faults }
+    ensures stays { result ≢ Err DepotError.Failed → (D.seen depot.new).faults ≡ (D.seen depot.old).faults }
+    ensures same { (D.seen depot.new).files ≡ (D.seen depot.old).files }
+{
+    match more_of(
+        alloc,
+        asked.name,
+        held.document.as_slice(),
+        asked.repeats,
+        depot,
+    ) {
+        Ok(more) => of_more(alloc, asked, held, &more),
+        Err(LoadFault::TooLong(process)) => program_answer(alloc, process),
+        Err(LoadFault::Depot) => Err(DepotError::Failed),
+        Err(_) => Err(DepotError::NoMemory),
+    }
+}
+
+fn of_files<D: Depot>(
+    alloc: Global,
+    asked: Asked,
+    held: &Held,
+    depot: &mut D,
+) -> Result<Answer, DepotError>
+    requires given { (D.seen depot.old).given < 2 ^ 63 }
+    ensures is { IfSome (D.seen depot.old).files (λ at. IfOk result
+        (λ a. IsOfFiles at (asking_of asked.entry) a held.now.document.items held.now.needs.items held.now.ledger.items)) }
+    ensures cause { IsErrOf result DepotError.Failed → Rises (D.seen depot.old).faults (D.seen depot.new).faults }
+    ensures stays { result ≢ Err DepotError.Failed → (D.seen depot.new).faults ≡ (D.seen depot.old).faults }
+    ensures same { (D.seen depot.new).files ≡ (D.seen depot.old).files }
 {
     match first_long(
         held.document.as_slice(),
@@ -192,7 +247,7 @@ fn of_files(alloc: Global, asked: Asked, held: &Held) -> Result<Answer, DepotErr
         held.ledger.as_slice(),
     ) {
         Some(long) => long_answer(alloc, long),
-        None => of_short(alloc, asked, held),
+        None => of_short(alloc, asked, held, depot),
     }
 }
 
@@ -205,7 +260,7 @@ fn of_asked<D: Depot>(alloc: Global, asked: Asked, depot: &mut D) -> Result<Answ
     ensures same { (D.seen depot.new).files ≡ (D.seen depot.old).files }
 {
     let held = read_files(alloc, asked, depot)?;
-    of_files(alloc, asked, &held)
+    of_files(alloc, asked, &held, depot)
 }
 
 /// What the words and the files come to, or why they come to nothing: a read failed, or want of memory.
@@ -224,7 +279,7 @@ pub(crate) fn answer_to<D: Depot>(
         Some(asked) => of_asked(alloc, asked, depot),
         None => words_answer(
             alloc,
-            "usage: deosk-show page FILE [LEDGER [FROM TO]] [--needs NEEDS]\n",
+            "usage: deosk-show page FILE [LEDGER [FROM TO]] [--needs NEEDS] [--repeats TICKS]\n",
             Answered::Usage,
         ),
     }

@@ -1,18 +1,19 @@
 //! What the words ask for.
 ghost use Rattle.std.specs.Prelude.{◌≡◌, map, option_map, string_bytes};
-ghost use Rattle.dk_page_prog.specs.Asking.{asked_by, asking_of, is_name, is_needs, is_page, of_name, range_of, with_ledger, with_needs, with_range};
+ghost use Rattle.dk_page_prog.specs.Asking.{asked_by, asking_of, is_name, is_needs, is_page, of_name, range_of, repeats_of, with_ledger, with_needs, with_range, with_repeats};
 
 use crate::numbers::ticks_in;
 use dk_review::Range;
 
-/// What is asked for: the page of the file of this name, with what is said in the files of needs and of a ledger, and the
-/// range of its picture, where they are named.
+/// What is asked for: the page of the file of this name, with what is said in the files of needs and of a ledger, the range of
+/// its picture, and what repeats in so many ticks, where they are named.
 #[derive(Clone, Copy)]
 pub(crate) struct Asked<'a> {
     pub name: &'a str,
     pub needs: Option<&'a str>,
     pub ledger: Option<&'a str>,
     pub range: Option<Range>,
+    pub repeats: Option<u32>,
 }
 
 fn of_name<'a>(name: &'a str) -> Asked<'a>
@@ -23,6 +24,7 @@ fn of_name<'a>(name: &'a str) -> Asked<'a>
         needs: None,
         ledger: None,
         range: None,
+        repeats: None,
     }
 }
 
@@ -63,19 +65,47 @@ fn is_needs(flag: &str, needs: &str) -> bool
     flag == "--needs" && is_name(needs.as_bytes())
 }
 
-/// What is asked for by words that stand behind `[LEDGER [FROM TO]]`.
+/// The ticks that these words ask for.
+fn repeats_of(flag: &str, ticks: &str) -> Option<u32>
+    ensures { result ≡ repeats_of flag.now ticks.now }
+{
+    if flag == "--repeats" {
+        ticks_in(ticks)
+    } else {
+        None
+    }
+}
+
+/// What is asked for by words that stand behind `[LEDGER [FROM TO]] [--needs NEEDS]`.
+#[tactic(auto, unfolding(crate::specs::Asking::with_repeats))]
+fn with_repeats<'a>(asked: Asked<'a>, rest: &'a [String]) -> Option<Asked<'a>>
+    ensures { option_map asking_of result ≡ with_repeats (asking_of asked.entry) (map string_bytes rest.now) }
+{
+    match rest {
+        [] => Some(asked),
+        [_] => None,
+        [flag, ticks] => {
+            let ticks = repeats_of(flag.as_str(), ticks.as_str())?;
+            Some(Asked {
+                repeats: Some(ticks),
+                ..asked
+            })
+        }
+        _ => None,
+    }
+}
+
+/// By words that stand behind `[LEDGER [FROM TO]]`.
 #[tactic(auto, unfolding(crate::specs::Asking::with_needs))]
 fn with_needs<'a>(asked: Asked<'a>, rest: &'a [String]) -> Option<Asked<'a>>
     ensures { option_map asking_of result ≡ with_needs (asking_of asked.entry) (map string_bytes rest.now) }
 {
     match rest {
-        [] => Some(asked),
-        [_] => None,
-        [flag, needs] if is_needs(flag.as_str(), needs.as_str()) => {
+        [flag, needs, behind @ ..] if is_needs(flag.as_str(), needs.as_str()) => {
             let needs = Some(needs.as_str());
-            Some(Asked { needs, ..asked })
+            with_repeats(Asked { needs, ..asked }, behind)
         }
-        _ => None,
+        _ => with_repeats(asked, rest),
     }
 }
 

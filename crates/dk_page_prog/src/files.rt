@@ -85,6 +85,7 @@ pub(crate) fn read_files<D: Depot>(
 ) -> Result<Held, DepotError>
     requires { (D.seen depot.old).given < 2 ^ 62 }
     ensures held { IfSome (D.seen depot.old).files (λ at. IfOk result (AreRead at (asking_of asked.entry))) }
+    ensures given { (D.seen depot.new).given < 2 ^ 63 }
     ensures cause { IsErrOf result DepotError.Failed → Rises (D.seen depot.old).faults (D.seen depot.new).faults }
     ensures stays { result ≢ Err DepotError.Failed → (D.seen depot.new).faults ≡ (D.seen depot.old).faults }
     ensures same { (D.seen depot.new).files ≡ (D.seen depot.old).files }

@@ -7,6 +7,7 @@ mod files;
 mod numbers;
 mod page;
 mod program;
+mod repeating;
 mod status;
 
 use crate::program::DeoskPage;

@@ -1,12 +1,9 @@
-use Rattle.std.proofs.Common.{refl, sym}
 use Rattle.dk_page_prog.specs.Asking.{asking_of}
-use Rattle.dk_page_prog.proofs.Reading.{short_is}
+use Rattle.dk_page_prog.proofs.Reading.{more_told}
 use Rattle.dk_page_prog.proofs.answers.of_short.Goals as goal
 
-pub returns-clause-is : goal.returns-clause-is
-returns-clause-is c =
-    let nothing = c.none-more.ensures in
-    short_is (asking_of c.args.asked) c.args.held.now.document.items c.args.held.now.needs.items c.args.held.now.ledger.items _ _ _
-    c.none-more.result c.of_all.result (rw c.as_slice.ensures.value refl)
-    (rw (sym c.as_slice-2.ensures.value) c.named-needs.ensures) (rw (sym c.as_slice-3.ensures.value) c.named-ledger.ensures)
-    (record { tile = nothing.tile; file = nothing.file; sections = nothing.sections; outputs = nothing.outputs }) c.of_all.ensures.is
+pub returns-in-Ok-clause-is : goal.returns-in-Ok-clause-is
+returns-in-Ok-clause-is g c =
+    let held = c.args.held.now in
+    more_told (g.D.Depot.seen c.args.depot.now).files (asking_of c.args.asked) held.document.items held.needs.items held.ledger.items _
+    c.in-Ok.more c.of_more.result c.as_slice.ensures.value c.in-Ok.ensures.comes c.of_more.ensures.is
