@@ -88,24 +88,27 @@ run_ending standing.Met false = Ending.Failing
 run_ending standing.Unmet false = Ending.Failing
 run_ending standing.Refused false = Ending.Refused
 
--- and with a ledger of it behind that
-pub record IsReviewedRun (file : File) (needs : Option File) (ledger : File) (range : Option Range) (more : Additions)
-    (c : Configuration) (r : Review) : Type 0 where
+-- and with a ledger behind that, of which this is told
+pub record IsReviewedRun (file : File) (needs : Option File) (ledger : File) (run : Run) (more : Additions) (c : Configuration)
+    (r : Review) : Type 0 where
   pub told : Told
   pub stand : Standing
   pub first : Additions
   pub before : Additions
-  pub run : Run
   pub last : Additions
   pub added : Additions
   pub is_told : IsTold c told
   pub needed : AddsNeeds file.name c needs stand first
   pub with_more : IsBoth first more before
-  pub is_run : IsRunOf c range ledger.bytes run
   pub adds : IsAddedBy file.name ledger.name ledger.bytes run last
   pub both : IsBoth before last added
   pub page : r.bytes.items ≡ page_text file.name file.bytes told added
   pub ends : r.ending ≡ run_ending stand run.passed
+
+-- with what the commands tell of the ledger in this file, which is one of the configuration, and the picture of this range
+abbrev pub IsReviewedLedger : File → Option File → File → Option Range → Additions → Configuration → Review → Type 0
+IsReviewedLedger file needs ledger range more c r =
+    (run : Run) × IsRunOf c range ledger.bytes run × IsReviewedRun file needs ledger run more c r
 
 -- the one of a certified configuration, and the other of one that isn't
 abbrev pub IsReviewedBy : File → (Review → Type 0) → Configuration → Verdict → Review → Type 0
@@ -117,7 +120,7 @@ IsReviewedAlone file needs more c r = IsReviewedBy file (IsReviewed file needs m
 
 abbrev pub IsReviewedWith : File → Option File → File → Option Range → Additions → Configuration → Review → Type 0
 IsReviewedWith file needs ledger range more c r =
-    IsReviewedBy file (IsReviewedRun file needs ledger range more c) c (verdict_of c) r
+    IsReviewedBy file (IsReviewedLedger file needs ledger range more c) c (verdict_of c) r
 
 -- of a document that is that of none: all that is wrong with it
 pub record IsRefused (file : File) (r : Review) : Type 0 where

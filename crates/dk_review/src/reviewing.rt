@@ -6,8 +6,8 @@ ghost use Rattle.dk_config.specs.declared.TheConstants.{MAX_CONFIG_BYTES};
 ghost use Rattle.dk_config.specs.Checked.{BreaksNoRule, IsAccepted, IsChecked, IsWithinLimits};
 ghost use Rattle.dk_review.specs.declared.fault.RunFault.{RunFault as Why};
 ghost use Rattle.dk_review.specs.Files.{file_of};
-ghost use Rattle.dk_review.specs.Reviews.{IsOfOther, IsRefused, IsReview, IsReviewWith, IsReviewed, IsReviewedAlone, IsReviewedRun, IsReviewedWith, IsUncertified, needs_ending, run_ending};
-ghost use Rattle.dk_review.specs.Runs.{IsFaultOf, IsRunOf};
+ghost use Rattle.dk_review.specs.Reviews.{IsOfOther, IsRefused, IsReview, IsReviewWith, IsReviewed, IsReviewedAlone, IsReviewedLedger, IsReviewedRun, IsReviewedWith, IsUncertified, needs_ending, run_ending};
+ghost use Rattle.dk_review.specs.Runs.{IsFaultOf};
 
 use crate::drawing::Range;
 use crate::fault::RunFault;
@@ -154,7 +154,6 @@ fn page_of(
     config: &mut Config,
     needs: Option<NamedFile>,
     ledger: NamedFile,
-    range: Option<Range>,
     run: &Run,
     more: &Additions,
 ) -> Result<Review, NoMemory>
@@ -162,11 +161,9 @@ fn page_of(
     requires checked { IsChecked config.old }
     requires limits { IsWithinLimits config.old }
     requires few { IfSome needs (λ n. length n.bytes.now ≤ MAX_CONFIG_BYTES) }
-    requires ran { IsRunOf config.old range ledger.bytes.now run.now }
-    ensures { IfOk result (IsReviewedRun (file_of file.entry) (option_map file_of needs.entry) (file_of ledger.entry) range more.now
+    ensures { IfOk result (IsReviewedRun (file_of file.entry) (option_map file_of needs.entry) (file_of ledger.entry) run.now more.now
         config.old) }
 {
-    let _range = range;
     let told = told_of(alloc, config)?;
     let needed = needed_of(alloc, config, file.name, needs)?;
     let ending = run_ending(needed.standing, run.passed);
@@ -191,12 +188,12 @@ fn of_run(
     requires limits { IsWithinLimits config.old }
     requires accepted { IsAccepted config.old }
     requires few { IfSome needs (λ n. length n.bytes.now ≤ MAX_CONFIG_BYTES) }
-    ensures is { IfOk result (IsReviewedRun (file_of file.entry) (option_map file_of needs.entry) (file_of ledger.entry) range more.now
+    ensures is { IfOk result (IsReviewedLedger (file_of file.entry) (option_map file_of needs.entry) (file_of ledger.entry) range more.now
         config.old) }
     ensures fault { IfErr result (IsFaultOf (IsFoundIn config.old ledger.entry.bytes.now Found.Header) range ledger.entry.bytes.now) }
 {
     match run_of(alloc, config, ledger.bytes, range) {
-        Ok(run) => match page_of(alloc, file, config, needs, ledger, range, &run, more) {
+        Ok(run) => match page_of(alloc, file, config, needs, ledger, &run, more) {
             Ok(review) => Ok(review),
             Err(_) => Err(RunFault::NoMemory),
         },
