@@ -101,11 +101,13 @@ td.fill{width:24%;min-width:9rem}
 #tenths td:nth-child(n+3){padding-top:2.6rem;font-size:.8em;background:linear-gradient(var(--blue),var(--blue)) no-repeat left 2px bottom 1.9em/calc(100% - 4px) max(min(2px,var(--n)*2px),var(--n)/max(1,var(--c1))*2.2rem)}
 .scroll+.why{margin-top:.6rem}
 h3{font-size:1rem;margin:1.2rem 0 .2rem;overflow-wrap:anywhere}
+#chains table{font-size:.84rem}#chains td{padding-left:.25rem;padding-right:.25rem}#chains td.fill{min-width:8rem}
 #chains td:is(:nth-child(1),:nth-child(3),:nth-child(5),:nth-child(7)){color:var(--soft)}
 #chains tr[data-kind=process] td:is(:nth-child(9),:nth-child(11),:nth-child(12),:nth-child(14),:nth-child(15)){color:var(--soft)}
 #chains tr[data-kind=process] td:is(:nth-child(4),:nth-child(6),:nth-child(10),:nth-child(13),:nth-child(16)){text-align:right}
 #chains tr[data-kind=process] td:nth-child(2),#chains tr[data-kind=reaction] td{font-weight:600}
-#chains td{padding-left:.25rem;padding-right:.25rem}#chains table{font-size:.84rem}#chains tr{border-bottom:1px solid var(--line)}
+#chains tr:not([data-kind=process],[data-kind=end]){display:block;width:0;white-space:nowrap;padding:.28rem 0}#chains tr:not([data-kind=process]) td{border:0}
+#chains tr:not([data-kind=process],[data-kind=end]) td:not(.fill){display:inline}
 #chains .bar i:nth-child(1){background:repeating-linear-gradient(135deg,var(--blue-soft) 0 4px,transparent 4px 8px);left:calc(var(--c9)/var(--reaction)*100%);width:calc((var(--c12) - var(--c9))/var(--reaction)*100%)}
 #chains .bar i:nth-child(2){background:var(--blue);left:calc((var(--c12) - 1)/var(--reaction)*100%);width:calc((var(--c15) - var(--c12) + 1)/var(--reaction)*100%)}
 .picture{overflow-x:auto}.picture svg{display:block;min-width:60rem}
@@ -132,10 +134,11 @@ details>pre{border-top:1px solid var(--line)}
 @page{size:A4;margin:14mm 13mm 15mm;@bottom-right{content:'page ' counter(page) ' of ' counter(pages);font:8pt system-ui,sans-serif;color:#555}}
 @media print{body{font-size:9.5pt;line-height:1.4}
 .sheet{max-width:none;padding:0}.skip{display:none}
-header{padding-top:0}h1{font-size:19pt}
+header{padding-top:0}h1{font-size:19pt}h3{font-size:9.5pt}
 section{margin-bottom:1.5rem}.head,.why,h3,caption{break-after:avoid}
 tr,.tile,.note,.sign{break-inside:avoid}thead{display:table-header-group}
 table{font-size:8.6pt}th,td{padding:.18rem .45rem}
+#chains table,#totals table,#matrix{font-size:7.4pt}#matrix :is(th,td){padding-left:.2rem;padding-right:.2rem}#chains td{padding-left:.15rem;padding-right:.15rem}#chains td.fill{min-width:5rem}
 .tiles{grid-template-columns:repeat(3,1fr);gap:.4rem}
 details{border:0;background:none}details>pre{border:1px solid var(--line)}pre{white-space:pre-wrap;font-size:7.2pt}
 details::details-content{content-visibility:visible;display:block;height:auto;block-size:auto}
