@@ -67,7 +67,7 @@ _deosk_show_arguments() {
         COMPREPLY=($(compgen -W --csv -- "$word")) ;;
     impact:[3-9]:* | impact:[1-3][0-9]:*) _deosk_processes "${COMP_WORDS[first + 2]}" ;;
     chain:*:-*) COMPREPLY=($(compgen -W --ledger -- "$word")) ;;
-    page:*:-*) COMPREPLY=($(compgen -W --needs -- "$word")) ;;
+    page:*:-*) COMPREPLY=($(compgen -W '--needs --repeats' -- "$word")) ;;
     svg:*:-*) COMPREPLY=($(compgen -W --config -- "$word")) ;;
     svg:[2-9]:*) [ "${COMP_WORDS[COMP_CWORD - 1]}" != --config ] || _deosk_files .toml ;;
     chain:[2-9]:* | chain:[1-3][0-9]:*) _deosk_processes "${COMP_WORDS[first + 1]}" ;;
