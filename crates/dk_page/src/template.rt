@@ -109,7 +109,7 @@ h3{font-size:1rem;margin:1.2rem 0 .2rem;overflow-wrap:anywhere}
 #chains tr:not([data-kind=process],[data-kind=end]){display:block;width:0;white-space:nowrap;padding:.28rem 0}#chains tr:not([data-kind=process]) td{border:0}
 #chains tr:not([data-kind=process],[data-kind=end]) td:not(.fill){display:inline}
 #chains .bar i:nth-child(1){background:repeating-linear-gradient(135deg,var(--blue-soft) 0 4px,transparent 4px 8px);left:calc(var(--c9)/var(--reaction)*100%);width:calc((var(--c12) - var(--c9))/var(--reaction)*100%)}
-#chains .bar i:nth-child(2){background:var(--blue);left:calc((var(--c12) - 1)/var(--reaction)*100%);width:calc((var(--c15) - var(--c12) + 1)/var(--reaction)*100%)}
+#chains .bar i:nth-child(2){background:var(--blue);left:min((var(--c12) - 1)/var(--reaction)*100%,100% - 2px);width:calc((var(--c15) - var(--c12) + 1)/var(--reaction)*100%);min-width:2px}
 .picture{overflow-x:auto}.picture svg{display:block;min-width:60rem}
 .legend{display:flex;flex-wrap:wrap;gap:.2rem 1rem;margin:.5rem 0 0;padding:0;list-style:none;font-size:.8rem;color:var(--soft)}
 .legend i{display:inline-block;width:14px;height:11px;margin-right:.35em;vertical-align:-1px;box-shadow:inset 0 0 0 1px var(--line)}
