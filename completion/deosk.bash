@@ -60,14 +60,14 @@ _deosk_show_arguments() {
         return
     fi
     case ${COMP_WORDS[first]}:$((COMP_CWORD - first)):$word in
-    windows:*:-* | windows:2:*) COMPREPLY=($(compgen -W '--strict --sparing --all --csv' -- "$word")) ;;
+    windows:*:-* | windows:2:*) COMPREPLY=($(compgen -W '--strict --sparing --all --tenths --csv' -- "$word")) ;;
     impact:*:-*) COMPREPLY=($(compgen -W --csv -- "$word")) ;;
     check:*:-*) COMPREPLY=($(compgen -W '--csv --junit' -- "$word")) ;;
     certify:[2-9]:* | margins:[2-9]:* | when:[2-9]:* | warnings:[2-9]:* | certify:1:-* | margins:1:-* | when:1:-* | warnings:1:-*)
         COMPREPLY=($(compgen -W --csv -- "$word")) ;;
     impact:[3-9]:* | impact:[1-3][0-9]:*) _deosk_processes "${COMP_WORDS[first + 2]}" ;;
     chain:*:-*) COMPREPLY=($(compgen -W --ledger -- "$word")) ;;
-    page:*:-*) COMPREPLY=($(compgen -W --needs -- "$word")) ;;
+    page:*:-*) COMPREPLY=($(compgen -W '--needs --repeats' -- "$word")) ;;
     svg:*:-*) COMPREPLY=($(compgen -W --config -- "$word")) ;;
     svg:[2-9]:*) [ "${COMP_WORDS[COMP_CWORD - 1]}" != --config ] || _deosk_files .toml ;;
     chain:[2-9]:* | chain:[1-3][0-9]:*) _deosk_processes "${COMP_WORDS[first + 1]}" ;;

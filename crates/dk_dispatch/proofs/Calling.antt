@@ -1,5 +1,5 @@
 -- From a call by the tables, and its law, to what it does to where the run stands.
-use Rattle.dk_dispatch.proofs.Names.{ℕ, ◌≡◌, ◌∙◌, inr, refl, ap, sym, subst, ◌∷◌, length, Option, Some, None, ThreadId, Event, Refusal, quiet, HasFamilies, IsSound, Tables, IsBooked, CallIsRight, IsCalling, State, ThreadRow, Creates, IsNewRow, Past, call_entry, call_label, with_event, Dispatched, Stands, StandsAt, dispatched, IsCreated, IsDone, IsInCall, IsNotCreated, IsRefused, call_refusal, no_child}
+use Rattle.dk_dispatch.proofs.Names.{ℕ, ◌≡◌, ◌∙◌, inr, refl, ap, sym, subst, ◌∷◌, length, Option, Some, None, Err, MatchResult, Ok, Result, ThreadId, Event, Refusal, quiet, HasFamilies, IsSound, Tables, CallIsRight, IsCalling, State, ThreadRow, Creates, IsNewRow, Past, call_label, with_event, Dispatched, Stands, StandsAt, dispatched, IsAnswered, IsCreated, IsDone, IsInCall, IsNotCreated, IsRefused, Makes, call_refusal, no_child}
 use Rattle.dk_dispatch.proofs.Counting.{kernel-length}
 
 -- rows are the same where all their fields are
@@ -36,23 +36,36 @@ module _ (x : ThreadId) (p : Past) (d : Tables) (v : Dispatched) (is : dispatche
   is-refused event d' why reason same =
       subst (λ (w : Dispatched). IsRefused x event w (dispatched p d') why) is (record { reason = reason; same = ap (λ (t : Tables). dispatched p t) same })
 
-  -- a call by the tables, whose law is told at any past and tables
+  -- a call by the tables, which is done and noted, or refused
+  module _ (event : Event) (refusal : Option Refusal) (made : Tables) where
+    pub stands-by : {T : Type 0} → (refusal ≡ None → Stands (with_event event p) made) → (answer : Result T Refusal) (d' : Tables) (p' : Past)
+        → MatchResult answer (λ _. p' ≡ with_event event p) (λ _. p' ≡ p) → Makes answer refusal d made d' → Stands p' d'
+    stands-by books (Ok y) d' p' next told = subst (λ (q : Past). Stands q d') (sym next) (subst (Stands (with_event event p)) (sym told.1) (books told.0))
+    stands-by books (Err why) d' p' next told = subst (λ (q : Past). Stands q d') (sym next) (subst (Stands p) (sym told.1) stands)
+
+    pub answered-by : {T : Type 0} → refusal ≡ call_refusal p x event → (answer : Result T Refusal) {result : Result T Refusal} (d' : Tables) (p' : Past)
+        → result ≡ answer → MatchResult answer (λ _. p' ≡ with_event event p) (λ _. p' ≡ p) → Makes answer refusal d made d'
+        → IsAnswered result x event v (dispatched p' d')
+    answered-by refuses (Ok y) d' p' same next told =
+        subst (λ r. IsAnswered r x event v (dispatched p' d')) (sym same) (is-done event p' d' (sym refuses ∙ told.0) next)
+    answered-by refuses (Err why) d' p' same next told =
+        subst (λ r. IsAnswered r x event v (dispatched p' d')) (sym same)
+        (subst (λ (q : Past). IsRefused x event v (dispatched q d') why) (sym next) (is-refused event d' why (sym refuses ∙ told.0) told.1))
+
+  -- by its law, which is told at any past and tables
   module _ {event : Event} {refusal : Option Refusal} {May : Type 0} {made : Tables}
       (law : IsCalling x p.config (call_label p) p.entries d → IsSound d → HasFamilies d → CallIsRight x event refusal May made p.config (call_label p) p.entries d)
       (sound : IsSound d) (families : HasFamilies d) where
     pub right : CallIsRight x event refusal May made p.config (call_label p) p.entries d
     right = law calling sound families
 
-    pub done : (d' : Tables) (p' : Past) → p' ≡ with_event event p → (refusal ≡ None) × (d' ≡ made) → IsDone x event v (dispatched p' d')
-    done d' p' next told = is-done event p' d' (sym right.refuses ∙ told.0) next
+    pub stands-after : {T : Type 0} (answer : Result T Refusal) (d' : Tables) (p' : Past) → MatchResult answer (λ _. p' ≡ with_event event p) (λ _. p' ≡ p)
+        → Makes answer refusal d made d' → Stands p' d'
+    stands-after = stands-by event refusal made (λ none follows. right.done none)
 
-    pub refused : (d' : Tables) (why : Refusal) → (refusal ≡ Some why) × (d' ≡ d) → IsRefused x event v (dispatched p d') why
-    refused d' why told = is-refused event d' why (sym right.refuses ∙ told.0) told.1
-
-    pub stands-booked : (d' : Tables) (p' : Past) → p' ≡ with_event event p → (refusal ≡ None) × (d' ≡ made) → Stands p' d'
-    stands-booked d' p' next told =
-        subst (λ (q : Past). Stands q d') (sym next)
-        (λ follows. subst (IsBooked p.config (call_entry p event) p.entries) (sym told.1) (right.done told.0))
+    pub answered : {T : Type 0} (answer : Result T Refusal) {result : Result T Refusal} (d' : Tables) (p' : Past) → result ≡ answer
+        → MatchResult answer (λ _. p' ≡ with_event event p) (λ _. p' ≡ p) → Makes answer refusal d made d' → IsAnswered result x event v (dispatched p' d')
+    answered = answered-by event refusal made right.refuses
 
   -- a create
   module _ (level quota entry instructions : ℕ) (d' : Tables) (row : ThreadRow)

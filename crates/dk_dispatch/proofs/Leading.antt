@@ -1,5 +1,5 @@
 -- Who leads has the next tick, on its own node.
-use Rattle.dk_dispatch.proofs.Names.{arith, inr, ◌≡◌, ◌∙◌, ◌+◌, ◌*◌, ◌%◌, ◌≤◌, true, ℕ, List, Option, None, Some, option_map, ap, refl, sym, subst, option_map_or, MAX_CHILDREN, MAX_THREADS, Configuration, ThreadId, Phase, Choice, Work, Label, Entry, held_by, innermost_left, chosen, label_of, ThreadRow, AreFamilies, Table, find_row, found-fits, RunsFirst, hold_left, First, IsComputing, HasFamilies, IsSound, Tables, node_in, IsReady, OwnsFront, HasNoWish, choice_of, fits_in, kernel_left, CallersHaveSlots, HasOwn, slots, TellsOf, ready, found-own, Lead, Leads}
+use Rattle.dk_dispatch.proofs.Names.{arith, inr, ◌≡◌, ◌∙◌, ◌+◌, ◌*◌, ◌%◌, ◌≤◌, true, ℕ, List, Option, None, Some, option_map, ap, refl, sym, subst, option_map_or, MAX_CHILDREN, MAX_THREADS, Configuration, ThreadId, Phase, Choice, Work, Label, Entry, held_by, innermost_left, chosen, label_of, ThreadRow, AreFamilies, Table, find_row, found-fits, RunsFirst, hold_left, First, IsComputing, HasFamilies, IsSound, Tables, node_in, IsReady, OwnsFront, HasNoWish, choice_of, fits_in, kernel_left, CallersHaveSlots, HasOwn, slots, TellsOf, ready, found-own, HasSlot, Lead, Leads}
 use Rattle.dk_dispatch.proofs.Looking.{lead-works, work-is-chosen}
 
 -- whoever computes in the next tick has a slot
@@ -11,8 +11,7 @@ slot-there d x c past callers stands is =
 -- the slot tells the node, and is the thread's own
 pub record SeatedAt (t : Table) (x : ThreadId) (s : ℕ) : Type 0 where
   pub node : node_in t x ≡ MAX_THREADS * x.process + s
-  pub fits : s ≤ MAX_CHILDREN
-  pub own : HasOwn (λ y. option_map (λ (row : ThreadRow). row.slot) (find_row t y)) x s
+  pub seat : HasSlot (λ y. option_map (λ (row : ThreadRow). row.slot) (find_row t y)) x s
 
 pub seated-at : (t : Table) (x : ThreadId) (s : ℕ) → AreFamilies t.levels t.families → option_map (λ (row : ThreadRow). row.slot) (find_row t x) ≡ Some s → SeatedAt t x s
 seated-at t x s are is = go (find_row t x) refl
@@ -24,8 +23,11 @@ seated-at t x s are is = go (find_row t x) refl
         let slot : row.slot ≡ s = cc in
         record {
           node = ap (λ (o : Option ThreadRow). MAX_THREADS * x.process + option_map_or (λ (row : ThreadRow). row.slot) o 0) (sym at) ∙ ap (λ n. MAX_THREADS * x.process + n) slot;
-          fits = (let fits : row.slot ≤ MAX_CHILDREN = found-fits t x (Some row) are at in omega (arith, slot, fits));
-          own = subst (HasOwn (λ y. option_map (λ (row : ThreadRow). row.slot) (find_row t y)) x) slot (found-own t x (Some row) are at);
+          seat = record {
+            at = is;
+            fits = (let fits : row.slot ≤ MAX_CHILDREN = found-fits t x (Some row) are at in omega (arith, slot, fits));
+            own = subst (HasOwn (λ y. option_map (λ (row : ThreadRow). row.slot) (find_row t y)) x) slot (found-own t x (Some row) are at);
+          };
         }
 
 -- and the node tells the slot
@@ -51,25 +53,17 @@ module _ (d : Tables) (first : First) (level : ℕ) (lead : Lead) (computes : Is
       let work = lead-works d first level computes runs kernel (on-node c past stands) sound in
       sym (work-is-chosen d (record { level = level; choice = Choice.Budget first.thread Phase.Body }) work wish) ∙ choice c past d stands families
 
-  told-slot : (c : Configuration) (past : List Entry) → IsReady c past d → SeatedAt d.threads first.thread lead.slot
+  told-slot : (c : Configuration) (past : List Entry) → IsReady c past d → HasSlot (slots d) first.thread lead.slot
   told-slot c past stands =
       let there = slot-there d first.thread c past callers stands (first-chosen c past stands) in
       let seat = seated-at d.threads first.thread there.0 families there.1 in
-      let is : lead.slot ≡ there.0 = slot there.0 seat.fits (on-node c past stands ∙ seat.node) in
-      subst (SeatedAt d.threads first.thread) (sym is) seat
-
-  first-slot : (c : Configuration) (past : List Entry) → IsReady c past d → slots d first.thread ≡ Some lead.slot
-  first-slot c past stands =
-      let there = slot-there d first.thread c past callers stands (first-chosen c past stands) in
-      let seat = seated-at d.threads first.thread there.0 families there.1 in
-      there.1 ∙ ap Some (sym (slot there.0 seat.fits (on-node c past stands ∙ seat.node)))
+      let is : lead.slot ≡ there.0 = slot there.0 seat.seat.fits (on-node c past stands ∙ seat.node) in
+      subst (HasSlot (slots d) first.thread) (sym is) seat.seat
 
   pub leads : Leads lead d
   leads = record {
     chosen = λ c past stands. ap (λ x. Choice.Budget x Phase.Body) thread ∙ first-chosen c past stands;
-    slot = λ c past stands. ap (slots d) thread ∙ first-slot c past stands;
-    fits = λ c past stands. (told-slot c past stands).fits;
-    own = λ c past stands. subst (λ x. HasOwn (slots d) x lead.slot) (sym thread) (told-slot c past stands).own;
+    seat = λ c past stands. subst (λ x. HasSlot (slots d) x lead.slot) (sym thread) (told-slot c past stands);
     left = λ c past stands.
         holds ∙ left c past d first.thread (ready stands) ∙ sym (ap (λ x. innermost_left c (held_by x past)) thread);
   }

@@ -69,10 +69,7 @@ module _ (passes : PassesLent) (ends : EndsAreTheConfigurations) (wishes : Wishe
       let went = gone choice c past d stands n (lent x n d) (passes n x source d sound families may.lends may.within) room in
       record {
         goes = record { chosen = went.chosen; free = went.free };
-        row = h.row;
-        among = h.among;
-        id = h.id;
-        there = h.there;
+        has = h;
         wish = subst (λ k. n < k) (wishes c past d x h.row stands families h.among h.id h.there) may.lends.wish;
         within = sooner-by (length past) d.demand.windows.tick (window_end c 0 (length past)) (end_at d.demand.windows 0) n
             (sym stands.recount.tick) (sym (window-ends ends c past d stands)) may.within;
@@ -94,7 +91,7 @@ module _ (passes : PassesLent) (ends : EndsAreTheConfigurations) (wishes : Wishe
         (window-ends ends c past d stands) may.within
 
     wish : n < want (node_in d.threads x) d.slack.wishes
-    wish = subst (λ k. n < k) (sym (wishes c past d x may.row stands families may.among may.id may.there)) may.wish
+    wish = subst (λ k. n < k) (sym (wishes c past d x may.has.row stands families may.has.among may.has.id may.has.there)) may.wish
 
     lends-to : (m : ℕ) → m ≤ n → ((i : ℕ) → i < m → choice_of (lent x i d) ≡ choice) → Lends x source m d
     lends-to m less chose = record { wish = omega (arith, less, wish); free = nothing.free; holds = nothing.holds; chosen = chose }
@@ -114,10 +111,8 @@ pub borrows-by-past : (passes : PassesLent) (ends : EndsAreTheConfigurations) (w
     → (o : Option Borrower) → IfSome o (λ b. BorrowsBy b d) → IfSome o (λ b. b.ticks ≤ most) → IfSome o (λ b. Borrows b (dispatched p d))
 borrows-by-past passes ends wishes rows p d stands sound families most room None borrows few = tt
 borrows-by-past passes ends wishes rows p d stands sound families most room (Some b) borrows few = record {
-  may = λ n less. lends-by-past passes ends wishes p d stands sound families b.thread b.source rows n b.slot borrows.slot (borrows.may n less) (omega (arith, room, few, less));
-  slot = borrows.slot;
-  fits = borrows.fits;
-  own = borrows.own;
+  may = λ n less. lends-by-past passes ends wishes p d stands sound families b.thread b.source rows n b.slot borrows.seat.at (borrows.may n less) (omega (arith, room, few, less));
+  seat = borrows.seat;
 }
 
 -- What so many ticks of slack owe the tables, and what they leave.

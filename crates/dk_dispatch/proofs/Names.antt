@@ -23,13 +23,13 @@ pub use Rattle.dk_demand.proofs.Changing.{get_or-by_level}
 pub use Rattle.dk_demand.specs.Cells.{Cells, dropped_cells, first_unfit, held_cells, no_ticks}
 pub use Rattle.dk_demand.specs.Levels.{adjusted, at_level, between, by_level, less, set_to}
 pub use Rattle.dk_demand.specs.Waiting.{at_tick}
-pub use Rattle.dk_dispatch.specs.Calls.{IsCreated, IsDone, IsEnding, IsFree, IsInCall, IsNotCreated, IsRefused, call_refusal, no_child}
+pub use Rattle.dk_dispatch.specs.Calls.{IsAnswered, IsCreated, IsDone, IsEnding, IsFree, IsInCall, IsNotCreated, IsRefused, Makes, call_refusal, no_child}
 pub use Rattle.dk_dispatch.specs.Leading.{Borrows as BorrowsBy, Leads, Runs as RunsBy}
 pub use Rattle.dk_dispatch.specs.Levels.{IsFirstWish, IsFirstWork}
 pub use Rattle.dk_dispatch.specs.Questions.{IsTelling, IsTellingAt}
-pub use Rattle.dk_dispatch.specs.Standing.{Dispatched, Stands, StandsAt, dispatched, slots as seen}
+pub use Rattle.dk_dispatch.specs.Standing.{Dispatched, HasSlot, Stands, StandsAt, dispatched, slots as seen}
 pub use Rattle.dk_dispatch.specs.Sums.{IsAdded}
-pub use Rattle.dk_dispatch.specs.Ticks.{Borrows, Goes, IsShut, IsWhole, MayLend, MayRun, Runs}
+pub use Rattle.dk_dispatch.specs.Ticks.{Borrows, Goes, HasRow, IsShut, IsWhole, MayLend, MayRun, Runs}
 pub use Rattle.dk_dispatch.specs.contracts.tables.AllTables.{the_view}
 pub use Rattle.dk_dispatch.specs.declared.tables.choosing.FirstWork.{FirstWork}
 pub use Rattle.dk_dispatch.specs.declared.tables.leading.Lead.{Lead}

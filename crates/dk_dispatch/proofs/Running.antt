@@ -1,5 +1,5 @@
 -- A thread that computes in the next ticks, by the past and by the tables.
-use Rattle.dk_dispatch.proofs.Names.{ℕ, zero, suc, ◌≡◌, ◌∙◌, ◌+◌, ◌<◌, ◌≤◌, inl, inr, Bool, true, false, List, [], ◌∷◌, length, map, Option, Some, None, option_map, refl, ap, sym, subst, arith, IfSome, is_some, list_any, position_from, option_map_or, and_parts, cases_Bool, or_parts, MAX_TICKS, Configuration, window_end, ThreadId, Phase, Choice, Work, Entry, is_same, Has, Thread, threads, HasBody, Hold, held_by, past_left, innermost_left, chosen, label_of, same-id, body-less, any-has, Clock, clock_at, end_at, ThreadRow, find_row, has_row, is_there, Holder, Lockable, ceiling_of, holder_left, is_by, is_holder, is_within, joined, least, lowered, spent_row, hold_left, holds_within, innermost, left_at, hold_at, last_locked, Seat, seat_at, seat_of, HasFamilies, IsSound, Tables, node_in, IsReady, IsRecount, MayBudget, MayCharge, level_in, choice_of, WhereReady, TellsOf, ready, slots, Computes, EndsAfter, MayRunBy, Passes, computed, Past, Runner, RunsBy, dispatched, MayRun, Runs}
+use Rattle.dk_dispatch.proofs.Names.{ℕ, zero, suc, ◌≡◌, ◌∙◌, ◌+◌, ◌<◌, ◌≤◌, inl, inr, Bool, true, false, List, [], ◌∷◌, length, map, Option, Some, None, option_map, refl, ap, sym, subst, arith, IfSome, is_some, list_any, position_from, option_map_or, and_parts, cases_Bool, or_parts, MAX_TICKS, Configuration, window_end, ThreadId, Phase, Choice, Work, Entry, is_same, Has, Thread, threads, HasBody, Hold, held_by, past_left, innermost_left, chosen, label_of, same-id, body-less, any-has, Clock, clock_at, end_at, ThreadRow, find_row, has_row, is_there, Holder, Lockable, ceiling_of, holder_left, is_by, is_holder, is_within, joined, least, lowered, spent_row, hold_left, holds_within, innermost, left_at, hold_at, last_locked, Seat, seat_at, seat_of, HasFamilies, IsSound, Tables, node_in, IsReady, IsRecount, MayBudget, MayCharge, level_in, choice_of, WhereReady, TellsOf, ready, slots, Computes, EndsAfter, MayRunBy, Passes, computed, Past, Runner, RunsBy, dispatched, HasRow, MayRun, Runs}
 use Rattle.dk_dispatch.proofs.Runs.{ends-sooner, node-inside}
 use Rattle.dk_dispatch.proofs.Stretching.{chosen-to, gone}
 
@@ -60,13 +60,7 @@ abbrev pub RowsAreThePasts : Type 0
 RowsAreThePasts = (c : Configuration) (now : ℕ) (past : List Entry) (d : Tables) (id : ThreadId) → IsRecount c now past d
     → is_some (find_row d.threads id) ≡ list_any (is_there c now id) (threads c past)
 
-pub record Seated (c : Configuration) (past : List Entry) (x : ThreadId) : Type 0 where
-  pub row : Thread
-  pub among : Has (threads c past) row
-  pub id : row.id ≡ x
-  pub there : has_row c (length past) row ≡ true
-
-pub seated : RowsAreThePasts → (c : Configuration) (past : List Entry) (d : Tables) (x : ThreadId) → IsReady c past d → (s : ℕ) → slots d x ≡ Some s → Seated c past x
+pub seated : RowsAreThePasts → (c : Configuration) (past : List Entry) (d : Tables) (x : ThreadId) → IsReady c past d → (s : ℕ) → slots d x ≡ Some s → HasRow c past x
 seated rows c past d x stands s at =
     let h = any-has (is_there c (length past) x) (threads c past) (sym (rows c (length past) past d x stands.recount) ∙ found (find_row d.threads x) at) in
     let parts = and_parts (is_same x h.0.id) (has_row c (length past) h.0) h.2 in
@@ -115,10 +109,7 @@ module _ (passes : PassesComputed) (ends : EndsAreTheConfigurations) (p : Past) 
         let went = gone run c past d stands n (computed x n d) (passes n x d sound families may.computes may.within) room in
         record {
           goes = record { chosen = went.chosen; free = went.free };
-          row = h.row;
-          among = h.among;
-          id = h.id;
-          there = h.there;
+          has = h;
           body = subst (λ (s : Seat). HasBody c.costs.switch n s.job) (seat-is h.row h.among h.id h.there)
               (subst (λ w. HasBody w n seat.job) stands.recount.jobs.switch may.computes.body);
           within = sooner-by (length past) d.demand.windows.tick (window_end c 0 (length past)) (end_at d.demand.windows 0) n
@@ -139,7 +130,7 @@ module _ (passes : PassesComputed) (ends : EndsAreTheConfigurations) (p : Past) 
     body : HasBody d.jobs.switch n seat.job
     body =
         subst (λ w. HasBody w n seat.job) (sym stands.recount.jobs.switch)
-        (subst (λ (s : Seat). HasBody c.costs.switch n s.job) (sym (seat-is may.row may.among may.id may.there)) may.body)
+        (subst (λ (s : Seat). HasBody c.costs.switch n s.job) (sym (seat-is may.has.row may.has.among may.has.id may.has.there)) may.body)
 
     within : EndsAfter n d
     within =
@@ -175,8 +166,6 @@ pub runs-by-past : (passes : PassesComputed) (ends : EndsAreTheConfigurations)
     → (o : Option Runner) → IfSome o (λ runner. RunsBy runner d) → IfSome o (λ runner. runner.ticks ≤ most) → IfSome o (λ runner. Runs runner (dispatched p d))
 runs-by-past passes ends rows p d stands sound families most room None runs few = tt
 runs-by-past passes ends rows p d stands sound families most room (Some runner) runs few = record {
-  may = λ n less. may-by-past passes ends p d stands sound families runner.thread rows n runner.slot runs.slot (runs.may n less) (omega (arith, room, few, less));
-  slot = runs.slot;
-  fits = runs.fits;
-  own = runs.own;
+  may = λ n less. may-by-past passes ends p d stands sound families runner.thread rows n runner.slot runs.seat.at (runs.may n less) (omega (arith, room, few, less));
+  seat = runs.seat;
 }

@@ -1,5 +1,5 @@
 -- What the stop of a thread leaves: slots and steps.
-use Rattle.dk_dispatch.proofs.Names.{◌≡◌, ◌≤◌, ◌+◌, ◌*◌, ◌∙◌, Bool, true, false, eqb, ℕ, Option, Some, None, refl, ap, sym, subst, arith, if◌then◌else◌, Result, Ok, Err, MatchResult, option_map_or, mul-le-mul_left, ThreadId, Refusal, same-id, find-has, ThreadRow, Table, AreFamilies, find_row, rows_of, is_row_of, process-descends, stop-descends, Tables, Keeps, slots, child_of, delete_refusal_in, running_child, without_child, without_running, without_process, without_thread, keeps-slots}
+use Rattle.dk_dispatch.proofs.Names.{◌≡◌, ◌≤◌, ◌+◌, ◌*◌, ◌∙◌, Bool, true, false, eqb, ℕ, Option, Some, None, refl, ap, sym, subst, arith, if◌then◌else◌, Result, Ok, Err, option_map_or, mul-le-mul_left, ThreadId, Refusal, same-id, find-has, ThreadRow, Table, AreFamilies, find_row, rows_of, is_row_of, process-descends, stop-descends, Tables, Keeps, slots, child_of, delete_refusal_in, running_child, without_child, without_running, without_process, without_thread, keeps-slots, Makes}
 
 -- the name of a row that is found
 pub row-name : (table : Table) (x : ThreadId) (row : ThreadRow) → find_row table x ≡ Some row → x ≡ row.id
@@ -32,9 +32,7 @@ stop-keeps x d are = go (find_row d.threads x) refl (eqb x.serial 0) refl
     go (Some row) found false child = subst (λ t. Keeps (slots d) (slots t)) (sym (child-stopped x row d found child)) (child-keeps row d are)
 
 pub delete-keeps : {U : Type 0} (x : ThreadId) (serial : ℕ) (d new : Tables) → AreFamilies d.threads.levels d.threads.families → (r : Result U Refusal)
-    → MatchResult r
-    (λ done. (delete_refusal_in d.threads x serial ≡ None) × (new ≡ without_running (child_of x serial) d))
-    (λ refusal. (delete_refusal_in d.threads x serial ≡ Some refusal) × (new ≡ d))
+    → Makes r (delete_refusal_in d.threads x serial) d (without_running (child_of x serial) d) new
     → Keeps (slots d) (slots new)
 delete-keeps x serial d new are (Err refusal) told = subst (λ t. Keeps (slots d) (slots t)) (sym told.1) (λ y s at. at)
 delete-keeps x serial d new are (Ok done) told = subst (λ t. Keeps (slots d) (slots t)) (sym told.1) (go (running_child d.threads (child_of x serial)) refl)

@@ -1,5 +1,5 @@
 -- What a kernel call does to where the run stands.
-use Rattle.std.specs.Prelude.{ℕ, ◌≡◌, ◌≤◌, ◌∷◌, true, false, length, Option, Some, None}
+use Rattle.std.specs.Prelude.{ℕ, ◌≡◌, ◌≤◌, ◌∷◌, true, false, length, Option, Some, None, Result, MatchResult}
 use Rattle.dk_config.specs.declared.TheConstants.{MAX_CHILDREN}
 use Rattle.dk_config.specs.Windows.{window_end}
 use Rattle.dk_trace.specs.declared.ThreadId.{ThreadId}
@@ -13,6 +13,7 @@ use Rattle.dk_trace.specs.Audit.{Follows, next_serial, work_of}
 use Rattle.dk_threads.specs.declared.row.State.{State}
 use Rattle.dk_threads.specs.declared.row.ThreadRow.{ThreadRow}
 use Rattle.dk_threads.specs.Table.{children_at, free_slot}
+use Rattle.dk_recount.specs.Tables.{Tables}
 use Rattle.dk_recount.specs.Events.{refusal_of}
 use Rattle.dk_recount.specs.Facing.{Adds, HasOwn, create_refusal_of}
 use Rattle.dk_past.specs.declared.history.Note.{Note}
@@ -56,6 +57,15 @@ pub record IsDone (x : ThreadId) (event : Event) (old new : Dispatched) : Type 0
 pub record IsRefused (x : ThreadId) (event : Event) (old new : Dispatched) (why : Refusal) : Type 0 where
   pub reason : call_refusal old.past x event ≡ Some why
   pub same : new ≡ old
+
+-- nothing is against the call that is answered so, or it is refused
+abbrev pub IsAnswered : {T : Type 0} → Result T Refusal → ThreadId → Event → Dispatched → Dispatched → Type 0
+IsAnswered answer x event old new = MatchResult answer (λ _. IsDone x event old new) (IsRefused x event old new)
+
+-- the same by the tables: by this reason, if there is one, it is refused, and else it makes these of them
+abbrev pub Makes : {T : Type 0} → Result T Refusal → Option Refusal → Tables → Tables → Tables → Type 0
+Makes answer reason old made new =
+    MatchResult answer (λ _. (reason ≡ None) × (new ≡ made)) (λ why. (reason ≡ Some why) × (new ≡ old))
 
 -- the first reason against a create
 abbrev pub no_child : Past → ThreadId → ℕ → ℕ → ℕ → ℕ → Option Refusal

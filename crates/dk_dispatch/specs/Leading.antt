@@ -1,6 +1,5 @@
 -- By the tables: who has the next tick, or the next ticks, where nobody has to be searched for.
-use Rattle.std.specs.Prelude.{ℕ, ◌≡◌, ◌≤◌, List, Some}
-use Rattle.dk_config.specs.declared.TheConstants.{MAX_CHILDREN}
+use Rattle.std.specs.Prelude.{ℕ, ◌≡◌, ◌≤◌, List}
 use Rattle.dk_config.specs.Configuration.{Configuration}
 use Rattle.dk_trace.specs.declared.Phase.{Phase}
 use Rattle.dk_trace.specs.declared.Choice.{Choice}
@@ -9,8 +8,9 @@ use Rattle.dk_trace.specs.Holds.{held_by, innermost_left}
 use Rattle.dk_trace.specs.Choices.{chosen as past_choice}
 use Rattle.dk_recount.specs.Tables.{Tables}
 use Rattle.dk_recount.specs.Recount.{IsReady}
-use Rattle.dk_recount.specs.Facing.{HasOwn, slots}
+use Rattle.dk_recount.specs.Facing.{slots}
 use Rattle.dk_recount.specs.Stretching.{MayLend, MayRun}
+use Rattle.dk_dispatch.specs.Standing.{HasSlot}
 use Rattle.dk_dispatch.specs.declared.tables.leading.Lead.{Lead}
 use Rattle.dk_dispatch.specs.declared.tables.lending.Borrower.{Borrower}
 use Rattle.dk_dispatch.specs.declared.tables.running.Runner.{Runner}
@@ -20,22 +20,16 @@ use Rattle.dk_dispatch.specs.declared.tables.running.Runner.{Runner}
 pub record Leads (lead : Lead) (d : Tables) : Type 0 where
   pub chosen : (c : Configuration) (past : List Entry) → IsReady c past d
       → Choice.Budget lead.thread Phase.Body ≡ past_choice c past
-  pub slot : (c : Configuration) (past : List Entry) → IsReady c past d → slots d lead.thread ≡ Some lead.slot
-  pub fits : (c : Configuration) (past : List Entry) → IsReady c past d → lead.slot ≤ MAX_CHILDREN
-  pub own : (c : Configuration) (past : List Entry) → IsReady c past d → HasOwn (slots d) lead.thread lead.slot
+  pub seat : (c : Configuration) (past : List Entry) → IsReady c past d → HasSlot (slots d) lead.thread lead.slot
   pub left : (c : Configuration) (past : List Entry) → IsReady c past d
       → lead.left ≡ innermost_left c (held_by lead.thread past)
 
 -- The thread computes in so many ticks from now on, and in any fewer, before a window begins. The slot is its own.
 pub record Runs (runner : Runner) (d : Tables) : Type 0 where
   pub may : (n : ℕ) → n ≤ runner.ticks → MayRun runner.thread n d
-  pub slot : slots d runner.thread ≡ Some runner.slot
-  pub fits : runner.slot ≤ MAX_CHILDREN
-  pub own : HasOwn (slots d) runner.thread runner.slot
+  pub seat : HasSlot (slots d) runner.thread runner.slot
 
 -- The thread has so many ticks of slack from now on, and any fewer, before a window begins. The slot is its own.
 pub record Borrows (borrower : Borrower) (d : Tables) : Type 0 where
   pub may : (n : ℕ) → n ≤ borrower.ticks → MayLend borrower.thread borrower.source n d
-  pub slot : slots d borrower.thread ≡ Some borrower.slot
-  pub fits : borrower.slot ≤ MAX_CHILDREN
-  pub own : HasOwn (slots d) borrower.thread borrower.slot
+  pub seat : HasSlot (slots d) borrower.thread borrower.slot

@@ -1,3 +1,4 @@
+pub mod Fields
 pub mod Levels
 pub mod Sums
 pub mod Leading

@@ -66,7 +66,7 @@ impl AllTables {
         ensures steps { steps.new ≤ steps.old + (5 + length self.old.kernel) * length
             (running_children self.old.threads process) }
     {
-        for index in 0..8u8 {
+        for index in 0..MAX_CHILDREN as u8 {
             self.shut_child(process, index, steps);
         }
     }

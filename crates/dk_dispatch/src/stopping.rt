@@ -61,9 +61,10 @@ fn running_child(threads: &Threads, id: ThreadId) -> Option<ThreadRow>
 }
 
 impl AllTables {
-    ghost use Rattle.std.specs.Prelude.{MatchResult, None, Some};
+    ghost use Rattle.std.specs.Prelude.{Some};
     ghost use Rattle.dk_threads.specs.declared.row.ThreadRow.{ThreadRow};
     ghost use Rattle.dk_recount.specs.Stopping.{MayShut, MayStopChild, child_of, delete_refusal_in, shut, without_child, without_running};
+    ghost use Rattle.dk_dispatch.specs.Calls.{Makes};
 
     /// Closes the thread of the row, drops its wish and frees what it holds. At most five steps more
     /// than there are levels.
@@ -98,10 +99,8 @@ impl AllTables {
     ) -> Result<(), Refusal>
         requires { (row : ThreadRow) → running_child self.old.threads (child_of id serial) ≡ Some row
             → MayStopChild row self.old }
-        ensures told { MatchResult result
-            (λ done. (delete_refusal_in self.old.threads id serial ≡ None)
-            × (self.new ≡ without_running (child_of id serial) self.old))
-            (λ refusal. (delete_refusal_in self.old.threads id serial ≡ Some refusal) × (self.new ≡ self.old)) }
+        ensures told { Makes result (delete_refusal_in self.old.threads id serial) self.old
+            (without_running (child_of id serial) self.old) self.new }
         ensures steps { steps.new ≤ steps.old + 5 + length self.old.kernel }
     {
         if id.serial != 0 {

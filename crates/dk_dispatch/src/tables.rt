@@ -53,29 +53,11 @@ impl Model for AllTables {
 
     ghost Value = { Tables };
 
-    ghost view = { λ d. record {
-      threads = d.threads;
-      loans = d.loans;
-      mutexes = d.mutexes;
-      demand = d.demand;
-      slack = d.slack;
-      jobs = d.jobs;
-      kernel = d.kernel;
-      releases = d.releases.items;
-      rights = d.rights.items;
-    } };
+    ghost use Rattle.dk_dispatch.specs.Fields.{tables_of};
 
-    ghost invariant = { λ d. IsSound (record {
-      threads = d.threads;
-      loans = d.loans;
-      mutexes = d.mutexes;
-      demand = d.demand;
-      slack = d.slack;
-      jobs = d.jobs;
-      kernel = d.kernel;
-      releases = d.releases.items;
-      rights = d.rights.items;
-    }) };
+    ghost view = { tables_of };
+
+    ghost invariant = { λ d. IsSound (tables_of d) };
 }
 
 impl AllTables {

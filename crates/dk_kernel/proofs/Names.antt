@@ -12,7 +12,7 @@ pub use Rattle.dk_cpu.specs.declared.Outcome.{Outcome}
 pub use Rattle.dk_cpu.specs.declared.kernel_call.KernelCall.{KernelCall}
 pub use Rattle.dk_dispatch.specs.Calls.{IsCreated, IsDone, IsEnding, IsInCall, IsNotCreated, IsRefused, call_refusal}
 pub use Rattle.dk_dispatch.specs.Questions.{IsTelling, IsTellingAt}
-pub use Rattle.dk_dispatch.specs.Standing.{Dispatched, slots}
+pub use Rattle.dk_dispatch.specs.Standing.{Dispatched, HasSlot, slots}
 pub use Rattle.dk_dispatch.specs.Ticks.{Goes, IsShut}
 pub use Rattle.dk_isa.specs.declared.FaultKind.{FaultKind}
 pub use Rattle.dk_kernel.specs.Booting.{first_states}
@@ -24,7 +24,7 @@ pub use Rattle.dk_kernel.specs.Running.{IsAt, IsNext, Running, running, running 
 pub use Rattle.dk_kernel.specs.Snapshots.{snapshot}
 pub use Rattle.dk_kernel.specs.Steps.{run_steps, tick_steps}
 pub use Rattle.dk_kernel.specs.Stretches.{entries_of, last_of}
-pub use Rattle.dk_kernel.specs.Ties.{AreImages, HasBooked, IsImage, IsRunning, StaysElsewhere, code_of, next_world, no_state, run_of, state_at, thread, world_at}
+pub use Rattle.dk_kernel.specs.Ties.{AreImages, HasBooked, IsImage, IsRunning, MayBook, StaysElsewhere, code_of, next_world, no_state, run_of, state_at, thread, world_at}
 pub use Rattle.dk_kernel.specs.Turns.{HadTurn, HasTurned, MayTurn, breaks_at, turn_effect, turn_entry, turn_label, turn_state}
 pub use Rattle.dk_kernel.specs.declared.executor.Executor.{Executor}
 pub use Rattle.dk_kernel.specs.declared.stretch.Stretch.{Stretch}

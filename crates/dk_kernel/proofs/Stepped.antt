@@ -1,5 +1,5 @@
 -- A tick goes from the world of the run to its next one.
-use Rattle.dk_kernel.proofs.Names.{ℕ, ◌≡◌, ◌+◌, ◌*◌, ◌/◌, ◌∷◌, ◌∙◌, ◌<◌, ◌≤◌, Bool, true, false, List, length, map, Option, Some, None, option_map, get_or, arith, refl, ap, sym, subst, slice_set, get_or_default, map-set_same, MAX_CHILDREN, MAX_TICKS, FaultKind, ThreadId, Event, Entry, held_by, Audited, Follows, Tick, body_tick, State, after_tick, context_at, tick_at, IsRuled, moved, stopped, entry_of, HasOwn, Keeps, StepsAreAudited, Effect, effect, Image, Turn, World, breaks_hold, executes, image_after, step, thread_turn, tick_in, turned, world, Past, Ready, charged, choice_at, closed, opened, Dispatched, slots, Executor, Answer, Done, NewChild, snapshot, IsShut, HasRows, after_told, caller, child_of, effect_of, finished, label_at, reply_of, with_label, HasTurned, MayTurn, breaks_at, turn_effect, turn_entry, turn_label, turn_state, AreImages, HasBooked, IsImage, IsRunning, code_of, next_world, no_state, run_of, world_at}
+use Rattle.dk_kernel.proofs.Names.{HasSlot, ℕ, ◌≡◌, ◌+◌, ◌*◌, ◌/◌, ◌∷◌, ◌∙◌, ◌<◌, ◌≤◌, Bool, true, false, List, length, map, Option, Some, None, option_map, get_or, arith, refl, ap, sym, subst, slice_set, get_or_default, map-set_same, FaultKind, ThreadId, Event, Entry, held_by, Audited, Follows, Tick, body_tick, State, after_tick, context_at, tick_at, IsRuled, moved, stopped, entry_of, Keeps, StepsAreAudited, Effect, effect, Image, Turn, World, breaks_hold, executes, image_after, step, thread_turn, tick_in, turned, world, Past, Ready, charged, choice_at, closed, opened, Dispatched, slots, Executor, Answer, Done, NewChild, snapshot, IsShut, HasRows, after_told, caller, child_of, effect_of, finished, label_at, reply_of, with_label, HasTurned, MayTurn, breaks_at, turn_effect, turn_entry, turn_label, turn_state, AreImages, HasBooked, IsImage, IsRunning, MayBook, code_of, next_world, no_state, run_of, world_at}
 use Rattle.dk_kernel.proofs.Called.{same-rows}
 use Rattle.dk_kernel.proofs.Images.{context_at-after_tick, finished-code, image-finished, keeps-image}
 use Rattle.dk_kernel.proofs.Steps.{stopped-moved, sum-of-steps}
@@ -17,9 +17,9 @@ few-steps : (L s before between after : ℕ) → between ≤ before + 4 * L → 
 few-steps L s before between after first second = omega (arith, first, second)
 
 -- a thread's turn
-module _ (executor : Executor) (cost : ℕ) (old : Dispatched) (states : List State) (default : State) (running : IsRunning old states)
-    (price : old.past.config.costs.call ≡ cost) (ruled : IsRuled old.past.config old.past.entries) (audits : StepsAreAudited)
-    (runs : executes (choice_at old.past) ≡ Some executor.thread) (at : slots old executor.thread ≡ Some executor.slot) (fits : executor.slot ≤ MAX_CHILDREN) where
+module _ (executor : Executor) (old : Dispatched) (states : List State) (default : State) (may : MayBook old states executor.cost)
+    (ruled : IsRuled old.past.config old.past.entries) (audits : StepsAreAudited)
+    (runs : executes (choice_at old.past) ≡ Some executor.thread) (seat : HasSlot (slots old) executor.thread executor.slot) where
   abbrev x : ThreadId
   x = executor.thread
 
@@ -42,31 +42,31 @@ module _ (executor : Executor) (cost : ℕ) (old : Dispatched) (states : List St
   tick = tick_in p.config image x.serial
 
   abbrev seen : Tick
-  seen = tick_at state slot cost
+  seen = tick_at state slot executor.cost
 
   abbrev turn : Turn
   turn = thread_turn p.config p.entries (choice_at p) x image tick
 
   abbrev breaks : Bool
-  breaks = breaks_at executor cost p state
+  breaks = breaks_at executor p state
 
   pub within : x.process < length states
-  within = running.images.rows x slot at
+  within = may.running.images.rows x slot seat.at
 
   tied : IsImage (slots old) x.process image state
-  tied = subst (λ z. IsImage (slots old) x.process image z) (get_or_default states x.process no_state default within) (running.images.each x.process within)
+  tied = subst (λ z. IsImage (slots old) x.process image z) (get_or_default states x.process no_state default within) (may.running.images.each x.process within)
 
   -- the slot's tick is the one of the world
   same-tick : seen ≡ tick
   same-tick =
-      ap (λ k. body_tick k state.code (context_at state slot) state.memory) (sym price)
+      ap (λ k. body_tick k state.code (context_at state slot) state.memory) (sym may.price)
       ∙ ap (λ z. body_tick p.config.costs.call z (context_at state slot) state.memory) tied.code
-      ∙ ap (λ z. body_tick p.config.costs.call image.code z state.memory) (tied.contexts x.serial slot at)
+      ∙ ap (λ z. body_tick p.config.costs.call image.code z state.memory) (tied.contexts x.serial slot seat.at)
       ∙ ap (λ z. body_tick p.config.costs.call image.code (image.contexts x.serial) z) tied.memory
 
   breaks-is : breaks ≡ breaks_hold p.config (held_by x p.entries) (image.contexts x.serial) tick.outcome
   breaks-is =
-      ap (λ z. breaks_hold p.config (held_by x p.entries) z seen.outcome) (tied.contexts x.serial slot at)
+      ap (λ z. breaks_hold p.config (held_by x p.entries) z seen.outcome) (tied.contexts x.serial slot seat.at)
       ∙ ap (λ (t : Tick). breaks_hold p.config (held_by x p.entries) (image.contexts x.serial) t.outcome) same-tick
 
   next-is : next_world p states ≡ turned w x.process turn
@@ -97,70 +97,73 @@ module _ (executor : Executor) (cost : ℕ) (old : Dispatched) (states : List St
   turn-is false h = (rw (sym h) refl) ∙ ap (λ z. whole_by z tick) (sym tied.code) ∙ ap (whole_by state.code) (sym same-tick)
 
   -- the image that is stepped has the context of the tick
-  effect-is : turn_effect false executor cost p state ≡ effect_by state.code seen
+  effect-is : turn_effect false executor p state ≡ effect_by state.code seen
   effect-is =
       let nine = tied.nine in
+      let fits = seat.fits in
       ap (λ context. effect p.config (length p.entries) (with_label p (label_at p seen.outcome)) (caller p x) (length state.code / 4) context seen.outcome)
       (context_at-after_tick state slot seen (omega (arith, nine, fits)))
 
-  entry-by : (b : Bool) → (turn_by b).entry ≡ turn_entry b executor cost p state
+  entry-by : (b : Bool) → (turn_by b).entry ≡ turn_entry b executor p state
   entry-by true = refl
   entry-by false = ap (λ (f : Effect). entry_of (label_at p seen.outcome) f.event) (sym effect-is)
 
-  entry-is : turn.entry ≡ turn_entry breaks executor cost p state
+  entry-is : turn.entry ≡ turn_entry breaks executor p state
   entry-is = ap (λ (t : Turn). t.entry) (turn-is breaks breaks-is) ∙ entry-by breaks
 
-  pub may-turn : length p.entries < MAX_TICKS → MayTurn executor cost p state
-  may-turn room = record {
-    ready = running.ready;
+  pub may-turn : MayTurn executor p state
+  may-turn = record {
+    ready = may.running.ready;
     runs = runs;
-    room = room;
-    fits = fits;
+    room = may.room;
+    fits = seat.fits;
+    cost = may.some;
     follows = subst (Follows p.config p.entries) entry-is turn-follows;
   }
 
   -- the image after the turn
-  tied-after : (b : Bool) (new : Dispatched) (done : Done) → HasOwn (slots old) x slot
-      → HasRows (slots old) (slots new) x done.child → effect_of done ≡ turn_effect b executor cost p state
-      → IsImage (slots new) x.process (turn_by b).image (finished (turn_state b executor cost state) slot done)
-  tied-after true new done own rows is =
+  tied-after : (b : Bool) (new : Dispatched) (done : Done)
+      → HasRows (slots old) (slots new) x done.child → effect_of done ≡ turn_effect b executor p state
+      → IsImage (slots new) x.process (turn_by b).image (finished (turn_state b executor state) slot done)
+  tied-after true new done rows is =
       let answer = no-answer done.answer (ap (λ (f : Effect). f.reply) is) in
       let child = no-child done.child (ap (λ (f : Effect). f.child) is) in
       let keeps : Keeps (slots old) (slots new) = subst (HasRows (slots old) (slots new) x) child rows in
       rw (answer, child) (keeps-image (slots old) (slots new) x.process image state keeps tied)
-  tied-after false new done own rows is =
+  tied-after false new done rows is =
       let nine = tied.nine in
-      let seated = image-finished (slots old) (slots new) x slot image state seen done.answer done.child tied (omega (arith, nine, fits)) at own rows in
+      let fits = seat.fits in
+      let seated = image-finished (slots old) (slots new) x slot image state seen done.answer done.child tied (omega (arith, nine, fits)) seat.at seat.own rows in
       let timed = subst (λ (t : Tick). IsImage (slots new) x.process (image_after image x.serial t (effect_of done)) (finished (after_tick state slot seen) slot done)) same-tick seated in
       subst (λ (f : Effect). IsImage (slots new) x.process (image_after image x.serial tick f) (finished (after_tick state slot seen) slot done)) (is ∙ effect-is) timed
 
-  code-after : (b : Bool) → (turn_state b executor cost state).code ≡ state.code
+  code-after : (b : Bool) → (turn_state b executor state).code ≡ state.code
   code-after true = refl
   code-after false = refl
 
-  pub turn-booked : (new : Dispatched) (written : State) (entry : Entry) (before between after : ℕ) → HasOwn (slots old) x slot
+  pub turn-booked : (new : Dispatched) (written : State) (entry : Entry) (before between after : ℕ)
       → between ≤ before + 4 * length p.config.levels
-      → HasTurned executor cost (snapshot old state between) (snapshot new written after) entry
+      → HasTurned executor (snapshot old state between) (snapshot new written after) entry
       → HasBooked (snapshot old states before) (snapshot new (slice_set states x.process written) after) entry
-  turn-booked new written entry before between after own chose turned =
+  turn-booked new written entry before between after chose turned =
       let same : entry ≡ turn.entry =
-      turned.newest ∙ ap (λ (f : Effect). entry_of (turn_label executor cost p state) f.event) turned.effect ∙ sym entry-is in
+      turned.newest ∙ ap (λ (f : Effect). entry_of (turn_label executor p state) f.event) turned.effect ∙ sym entry-is in
       let is = turn-is breaks breaks-is in
       let image-is : IsImage (slots new) x.process turn.image written =
       subst (λ (t : Turn). IsImage (slots new) x.process t.image written) (sym is)
       (subst (λ z. IsImage (slots new) x.process (turn_by breaks).image z) (sym turned.image)
-      (tied-after breaks new turned.done own turned.rows turned.effect)) in
+      (tied-after breaks new turned.done turned.rows turned.effect)) in
       record {
         past = turned.past;
         newest = ap (λ (v : World). v.past) next-is ∙ ap (λ e. e ∷ p.entries) (sym same);
         follows = subst (Follows p.config p.entries) (sym same) turn-follows;
         images =
             subst (λ (v : World). AreImages (slots new) v.images (slice_set states x.process written)) (sym next-is)
-            (images-after (slots old) (slots new) w.images states x.process turn.image written running.images within
+            (images-after (slots old) (slots new) w.images states x.process turn.image written may.running.images within
             (elsewhere (slots old) (slots new) x turned.done.child turned.rows) image-is);
         codes =
             map-set_same code_of states x.process written default
-            (ap (λ (s : State). s.code) turned.image ∙ finished-code (turn_state breaks executor cost state) slot turned.done ∙ code-after breaks);
+            (ap (λ (s : State). s.code) turned.image ∙ finished-code (turn_state breaks executor state) slot turned.done ∙ code-after breaks);
         steps = few-steps (length p.config.levels) ((length p.config.levels + 6) * (stopped p.config (entry ∷ p.entries) + 1)) before between after chose turned.steps;
       }
 

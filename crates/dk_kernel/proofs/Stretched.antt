@@ -1,5 +1,5 @@
 -- A kernel's fields after a stretch of ticks.
-use Rattle.dk_kernel.proofs.Names.{ℕ, zero, suc, ◌≡◌, ◌-◌, ◌<◌, ◌∷◌, List, None, refl, ap, ◌∙◌, sym, subst, arith, replicate, Choice, Entry, chosen, State, World, executes, quiet_step, step, world, Past, choice_at, later, Dispatched, slots, Goes, AreImages, IsRunning, run_of}
+use Rattle.dk_kernel.proofs.Names.{ℕ, zero, suc, ◌≡◌, ◌-◌, ◌<◌, ◌∷◌, List, None, refl, ap, ◌∙◌, sym, subst, arith, replicate, Choice, Entry, State, World, executes, quiet_step, step, Past, choice_at, later, Dispatched, slots, Goes, AreImages, IsRunning, run_of}
 use Rattle.dk_kernel.proofs.Called.{same-rows}
 use Rattle.dk_kernel.proofs.Worlds.{keeps-images, step-quiet}
 

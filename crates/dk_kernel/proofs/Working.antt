@@ -1,5 +1,5 @@
 -- The ticks of a thread that computes, one after the other, in each of the worlds that they lead to.
-use Rattle.dk_kernel.proofs.Names.{ℕ, zero, suc, ◌≡◌, ◌<◌, ◌≤◌, ◌∷◌, List, length, map, get_or, set, false, Some, None, refl, ap, ◌∙◌, sym, subst, arith, inl, get_or-set_same, get_or_default, set-get_or, set-set, map-set_same, MAX_CHILDREN, Configuration, ThreadId, Choice, Work, Entry, quiet, thread_of, held_by, innermost_left, chosen, label_of, Outcome, Tick, body_tick, State, Works, WorksFor, after_tick, context_at, tick_at, HasOwn, Slots, Image, World, body_step, breaks_hold, executes, step, thread_turn, tick_in, turned, world, Past, choice_at, later, Dispatched, slots, Goes, AreImages, IsImage, IsRunning, code_of, no_state, run_of, state_at, IsAt, Running, running_of}
+use Rattle.dk_kernel.proofs.Names.{HasSlot, ℕ, zero, suc, ◌≡◌, ◌<◌, ◌∷◌, List, length, map, get_or, set, false, Some, None, refl, ap, ◌∙◌, sym, subst, arith, inl, get_or-set_same, get_or_default, set-get_or, set-set, map-set_same, Configuration, ThreadId, Choice, Work, Entry, quiet, thread_of, held_by, innermost_left, chosen, label_of, Outcome, Tick, body_tick, State, Works, WorksFor, after_tick, context_at, tick_at, Slots, Image, World, body_step, breaks_hold, executes, step, thread_turn, tick_in, turned, world, Past, choice_at, later, Dispatched, slots, Goes, AreImages, IsImage, IsRunning, code_of, no_state, run_of, state_at, IsAt, Running, running_of}
 use Rattle.dk_kernel.proofs.Called.{same-rows}
 use Rattle.dk_kernel.proofs.Fields.{IsLater, later-fields}
 use Rattle.dk_kernel.proofs.Images.{image-finished, image_with}
@@ -33,7 +33,7 @@ works-code slot cost (suc n) s last works = ap (λ (t : State). t.code) works.2.
 -- on budget or with slack; contracts see the fields as k
 module _ (choice : Choice) (x : ThreadId) (runs : executes choice ≡ Some x) (names : thread_of (label_of choice Work.Run) ≡ Some x) {slot cost ticks : ℕ} {d : Dispatched} {states : List State}
     {given : Configuration} {k : Running} (stands : IsAt d states (running_of given states ticks)) (view : running_of given states ticks ≡ k) (known : cost ≡ k.config.costs.call)
-    (at : slots d x ≡ Some slot) (fits : slot ≤ MAX_CHILDREN) (own : HasOwn (slots d) x slot) where
+    (seat : HasSlot (slots d) x slot) where
   abbrev p : Past
   p = d.past
 
@@ -52,7 +52,7 @@ module _ (choice : Choice) (x : ThreadId) (runs : executes choice ≡ Some x) (n
     images : AreImages has (run_of (later choice n p) states).images (set states x.process s)
 
   within : x.process < length states
-  within = running.images.rows x slot at
+  within = running.images.rows x slot seat.at
 
   work-more : (n : ℕ) (mid s : State) → Worked n mid → choice ≡ choice_at (later choice n p)
       → innermost_left p.config (held_by x (later choice n p).entries) ≡ 0 → Works slot cost mid s → Worked (suc n) s
@@ -62,20 +62,21 @@ module _ (choice : Choice) (x : ThreadId) (runs : executes choice ≡ Some x) (n
       let w = run_of (later choice n p) states in
       let image = w.images q in
       let old = set states q mid in
-      let inside : q < length old = before.images.rows x slot at in
+      let inside : q < length old = before.images.rows x slot seat.at in
       let held : IsImage has q image mid = subst (λ z. IsImage has q image z) (get_or-set_same states q mid no_state within) (before.images.each q inside) in
       let now : choice ≡ chosen c w.past = chose ∙ ap (chosen c) (sym before.past) in
       let free' : innermost_left c (held_by x w.past) ≡ 0 = subst (λ es. innermost_left c (held_by x es) ≡ 0) (sym before.past) free in
       let is : step c w ≡ body_step c choice w x = step-body c w x (sym (ap executes now) ∙ runs) ∙ ap (λ z. body_step c z w x) (sym now) in
-      let seen : tick_at mid slot cost ≡ tick_in c image x.serial = tick_at-image c has x slot cost image mid held at price in
+      let seen : tick_at mid slot cost ≡ tick_in c image x.serial = tick_at-image c has x slot cost image mid held seat.at price in
       let ran : (tick_in c image x.serial).outcome ≡ Outcome.Ran = sym (ap (λ (t : Tick). t.outcome) seen) ∙ works.outcome in
       let done : step c w ≡ turned w q (record { entry = quiet (label_of choice Work.Run); image = image_with image x.serial (tick_in c image x.serial) None None }) =
       is ∙ ap (turned w q) (ran-turn c w.past choice x image (tick_in c image x.serial) free' ran) in
       let after : s ≡ after_tick mid slot (tick_in c image x.serial) = works.after ∙ ap (after_tick mid slot) seen in
       let nine = held.nine in
+      let fits = seat.fits in
       let new : IsImage has q (image_with image x.serial (tick_in c image x.serial) None None) s =
       subst (λ z. IsImage has q (image_with image x.serial (tick_in c image x.serial) None None) z) (sym after)
-      (image-finished has has x slot image mid (tick_in c image x.serial) None None held (omega (arith, nine, fits)) at own (λ y k here. here)) in
+      (image-finished has has x slot image mid (tick_in c image x.serial) None None held (omega (arith, nine, fits)) seat.at seat.own (λ y k here. here)) in
       record {
         past = ap (λ (v : World). v.past) done ∙ ap (λ es. quiet (label_of choice Work.Run) ∷ es) before.past;
         images =

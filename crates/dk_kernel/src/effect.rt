@@ -57,15 +57,7 @@ fn effect<L: Ledger>(
         }
         Outcome::CallDone(asked) => {
             entry.label = choice.label(Work::Call);
-            call(
-                tables,
-                image,
-                executor.slot,
-                executor.thread,
-                asked,
-                &mut entry.event,
-                steps,
-            );
+            call(tables, image, executor, asked, &mut entry.event, steps);
         }
     }
 }
@@ -75,21 +67,20 @@ fn effect<L: Ledger>(
 pub fn execute<L: Ledger>(
     tables: &mut Dispatcher,
     image: &mut Image,
-    cost: u8,
     turn: Turn,
     entry: &mut Entry,
     steps: &mut Steps<L>,
 )
     requires chosen { turn.choice ≡ choice_at tables.old.past }
-    requires may { MayEffect turn.executor (outcome_at turn.executor cost image.old) tables.old.past
-        (stepped turn.executor cost image.old) }
-    requires cost { 1 ≤ cost }
+    requires may { MayEffect turn.executor (outcome_at turn.executor image.old) tables.old.past
+        (stepped turn.executor image.old) }
+    requires cost { 1 ≤ turn.executor.cost }
     requires slot { turn.executor.slot ≤ MAX_CHILDREN }
-    ensures label { entry.new.label ≡ label_at tables.old.past (outcome_at turn.executor cost image.old) }
-    ensures did { HasDone (outcome_at turn.executor cost image.old) turn.executor
-        (snapshot tables.old (stepped turn.executor cost image.old) steps.old)
+    ensures label { entry.new.label ≡ label_at tables.old.past (outcome_at turn.executor image.old) }
+    ensures did { HasDone (outcome_at turn.executor image.old) turn.executor
+        (snapshot tables.old (stepped turn.executor image.old) steps.old)
         (snapshot tables.new image.new steps.new) entry.new.event }
 {
-    let outcome = image.step(turn.executor.slot, cost);
+    let outcome = image.step(turn.executor.slot, turn.executor.cost);
     effect(tables, image, turn, outcome, entry, steps);
 }

@@ -1,12 +1,14 @@
 //! Who executes an instruction in a tick.
 use dk_trace::{Choice, ThreadId};
 
-/// A thread that executes an instruction, with the slot of its context in its process's image.
+/// A thread that executes an instruction, with the slot of its context in its process's image, and the price of a call.
 #[derive(Clone, Copy)]
 pub struct Executor {
     pub thread: ThreadId,
     /// At most `MAX_CHILDREN`.
     pub slot: u8,
+    /// How many ticks a kernel call takes, at least 1.
+    pub cost: u8,
 }
 
 /// The turn of a thread: who executes in the tick, and the choice that gives it the tick.

@@ -16,26 +16,25 @@ use dk_trace::{Choice, Entry, Phase, ThreadId};
 use std::sync::ledger::Ledger;
 
 /// The turn of a thread that leads where its innermost hold has its last tick, and so may break. It stands apart, so
-/// that its calls take no registers from the other turns. Thread and slot come apart, and so in registers: an
+/// that its calls take no registers from the other turns. Thread, slot and cost come apart, and so in registers: an
 /// `Executor` is passed in memory where a call isn't inlined.
 #[inline(never)]
 fn run_last<L: Ledger>(
     tables: &mut Dispatcher,
     image: &mut Image,
-    cost: u8,
     thread: ThreadId,
     slot: u8,
+    cost: u8,
     entry: &mut Entry,
     steps: &mut Steps<L>,
 )
     requires chosen { Chosen.Budget thread Part.Body ≡ choice_at tables.old.past }
-    requires may { MayTurn (record { thread = thread; slot = slot }) cost tables.old.past image.old }
-    requires cost { 1 ≤ cost }
-    ensures { HasTurned (record { thread = thread; slot = slot }) cost (snapshot tables.old image.old steps.old)
-        (snapshot tables.new image.new steps.new) entry.new }
+    requires may { MayTurn (record { thread = thread; slot = slot; cost = cost }) tables.old.past image.old }
+    ensures { HasTurned (record { thread = thread; slot = slot; cost = cost })
+        (snapshot tables.old image.old steps.old) (snapshot tables.new image.new steps.new) entry.new }
 {
-    let executor = Executor { thread, slot };
-    let breaks = breaks_hold(tables, image, cost, executor);
+    let executor = Executor { thread, slot, cost };
+    let breaks = breaks_hold(tables, image, executor);
     let turn = Turn {
         choice: Choice::Budget {
             thread,
@@ -43,7 +42,7 @@ fn run_last<L: Ledger>(
         },
         executor,
     };
-    take_turn(tables, image, cost, turn, breaks, entry, steps)
+    take_turn(tables, image, turn, breaks, entry, steps)
 }
 
 /// The turn of the thread that leads, which may hold the mutex that it locked last for `left` ticks more. Its hold can
@@ -53,26 +52,24 @@ fn run_last<L: Ledger>(
 pub fn run_lead<L: Ledger>(
     tables: &mut Dispatcher,
     image: &mut Image,
-    cost: u8,
     executor: Executor,
     left: u32,
     entry: &mut Entry,
     steps: &mut Steps<L>,
 )
     requires chosen { Chosen.Budget executor.thread Part.Body ≡ choice_at tables.old.past }
-    requires may { MayTurn executor cost tables.old.past image.old }
-    requires cost { 1 ≤ cost }
+    requires may { MayTurn executor tables.old.past image.old }
     requires left { left ≡ innermost_left tables.old.past.config (held_by executor.thread tables.old.past.entries) }
-    ensures { HasTurned executor cost (snapshot tables.old image.old steps.old)
+    ensures { HasTurned executor (snapshot tables.old image.old steps.old)
         (snapshot tables.new image.new steps.new) entry.new }
 {
     if left == 1 {
         run_last(
             tables,
             image,
-            cost,
             executor.thread,
             executor.slot,
+            executor.cost,
             entry,
             steps,
         )
@@ -84,6 +81,6 @@ pub fn run_lead<L: Ledger>(
             },
             executor,
         };
-        take_turn(tables, image, cost, turn, false, entry, steps)
+        take_turn(tables, image, turn, false, entry, steps)
     }
 }

@@ -50,7 +50,7 @@ pub use Rattle.std.proofs.lemmas.Grind.{common_steps, flat_map-append}
 pub use Rattle.std.proofs.lemmas.Iterator.{YieldsList, YieldsList-from_slice, YieldsList-from_take, items_from_drains}
 pub use Rattle.std.proofs.lemmas.Iterator.Search.{position_from_yields_List}
 pub use Rattle.std.proofs.lemmas.Iterator.Splits.{YieldsList-from_str_split}
-pub use Rattle.std.proofs.lemmas.List.{append_cancel_left, drop-set-lt, drop-take, get_or-take, length-map, length-replicate, length-take, length-take-le, map-append, nil_from_length, replicate_more, take-append-le, take_all, take_more_set, take_rest}
+pub use Rattle.std.proofs.lemmas.List.{append_cancel_left, drop-set-lt, drop-take, get_or-take, length-map, length-replicate, length-take, length-take-le, map-append, nil_from_length, replicate_more, take-append-drop, take-append-le, take_all, take_more_set, take_rest}
 pub use Rattle.std.proofs.lemmas.List.Quantifiers.{position-Some}
 pub use Rattle.std.proofs.lemmas.List.Splits.{length-slice_split, slice_split_at, slice_split_none}
 pub use Rattle.std.proofs.lemmas.Option.{slice_get-get_or}
@@ -69,3 +69,5 @@ pub use Rattle.std.specs.Result.{IsErrAnd, result_unwrap_or}
 pub use Rattle.std.specs.Str.{IsUtf8, all_ascii_digits, bytes_eq}
 pub use Rattle.std.specs.Str.Iter.{split_has_more, split_pattern, split_text}
 pub use Rattle.std.specs.Str.Parse.{digits_value}
+pub use Rattle.std.proofs.lemmas.Slice.{take-put_mid}
+pub use borrow.Rule.Slice.PartMut.{put_mid}

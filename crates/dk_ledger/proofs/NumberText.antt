@@ -1,5 +1,5 @@
 -- How long a number is in decimal, and what a buffer holds after one was written into it.
-use Rattle.dk_ledger.proofs.Names.{ℕ, ◌≡◌, ◌∙◌, ◌+◌, ◌-◌, ◌/◌, ◌%◌, ◌<◌, ◌≤◌, ◌^◌, List, [], ◌∷◌, ◌++◌, length, take, drop, get_or, arith, ap, sym, length-append, append_assoc, decimal, slice_set, take-add, take-append_seam, take-append-add, get_or-append_seam, decimal_step, take_more_set, length-take, length-take-le, drop-take, get_or-take, length_one, length_two, length_pair, length_four, nat_tests}
+use Rattle.dk_ledger.proofs.Names.{ℕ, ◌≡◌, ◌∙◌, ◌+◌, ◌-◌, ◌/◌, ◌%◌, ◌<◌, ◌≤◌, ◌^◌, List, [], ◌∷◌, ◌++◌, length, take, drop, get_or, arith, refl, ap, sym, length-append, append_assoc, decimal, slice_set, take-add, take-append_seam, take-append-add, get_or-append_seam, decimal_step, take_more_set, take-append-drop, take-append-le, take-put_mid, put_mid, length-take, length-take-le, drop-take, get_or-take, length_one, length_two, length_pair, length_four, nat_tests}
 
 pub length_three : (n : ℕ) → 100 ≤ n → n < 1000 → length (decimal n) ≡ 3
 length_three n low high = omega (arith, length_pair n low (omega arith), length_one (n / 100) (omega arith))
@@ -28,6 +28,21 @@ length_ten n low high = omega (arith, length_four n (omega arith) (omega arith),
 -- the bytes in front are kept, and a text stands behind them
 pub take_written : (new old text rest : List ℕ) (at : ℕ) → drop at new ≡ text ++ rest → take at new ≡ take at old → take (at + length text) new ≡ take at old ++ text
 take_written new old text rest at behind front = grind (arith, nat_tests, take-add, take-append_seam)
+
+-- of a piece that was written behind the bytes in front, the first bytes count
+pub part_written : (at k len : ℕ) (old piece : List ℕ) → at ≤ length old → len ≤ length piece
+    → take (at + len) (put_mid at k old piece) ≡ take at old ++ take len piece
+part_written at k len old piece within part =
+    let new : List ℕ = put_mid at k old piece in
+    let end : ℕ = at + length piece in
+    let whole : take end new ≡ take at old ++ piece = take-put_mid at k old piece end refl within in
+    let long : length (take at old) ≡ at = length-take-le at old within in
+    let room : at + len ≤ length (take end new) = omega (arith, part, long, ap length whole ∙ length-append (take at old) piece) in
+    ap (take (at + len)) (sym (take-append-drop end new))
+    ∙ take-append-le (at + len) (take end new) (drop end new) room
+    ∙ ap (take (at + len)) whole
+    ∙ ap (λ m. take (m + len) (take at old ++ piece)) (sym long)
+    ∙ take-append-add (take at old) piece len
 
 -- a number and the one before it, where the last digit alone is another
 pub length_before : (n : ℕ) → 10 ≤ n → 0 < n % 10 → n < 2 ^ 64 → length (decimal (n - 1)) ≡ length (decimal (n / 10)) + 1

@@ -15,7 +15,7 @@ pub fn push_thread(line: &mut TextLine, header: &Header, thread: ThreadId)
     ensures bytes { line.new ≡ line.old ++ thread_text header.now thread }
     ensures len { length line.new ≤ length line.old + 27 }
 {
-    line.word(header.name_at(thread.process));
+    line.name(header.name_of(thread.process));
     line.word(".");
     line.number(thread.serial);
 }

@@ -1,6 +1,7 @@
 ghost use Rattle.std.specs.Prelude.{◌≡◌, ◌<◌, ◌≤◌, ◌++◌, ◌∷◌, [], length, map, All, IfOk, OnOk};
 ghost use Rattle.dk_config.specs.Checked.{IsChecked, IsWithinLimits};
 
+use crate::Name;
 use dk_certify::{Table, TableRow};
 use dk_config::{Config, MAX_LEVELS, MAX_NAME_BYTES, NoMemory, ProcessRow, Text};
 use std::alloc::Global;
@@ -9,7 +10,7 @@ use std::marker::Model;
 /// A process of a header: its budget is in ticks per window of its level.
 #[derive(Drop)]
 pub struct ProcessLine {
-    pub name: Text,
+    pub name: Name,
     pub level: u8,
     pub budget: u32,
 }
@@ -53,7 +54,18 @@ impl Header {
         ensures name { result.now ≡ name_of self.now process }
         ensures short { length result.now ≤ MAX_NAME_BYTES }
     {
-        self.processes.as_slice()[process as usize].name.as_str()
+        self.name_of(process).as_str()
+    }
+
+    /// The same, with its block.
+    #[inline(always)]
+    pub(crate) fn name_of(&self, process: u8) -> &Name
+        requires printable { IsPrintable self.now }
+        requires named { process < length self.now.processes }
+        ensures name { result.now ≡ name_of self.now process }
+        ensures short { length result.now ≤ MAX_NAME_BYTES }
+    {
+        &self.processes.as_slice()[process as usize].name
     }
 
     fn level_rows(alloc: Global, table: &Table, count: usize) -> Result<Vec<TableRow>, NoMemory>
@@ -89,7 +101,7 @@ impl Header {
     {
         let name = String::from_str(alloc, row.name.as_str())?;
         lines.push(ProcessLine {
-            name: Text::new(name),
+            name: Name::new(Text::new(name)),
             level: row.level as u8,
             budget: row.budget,
         })?;

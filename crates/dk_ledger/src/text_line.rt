@@ -4,6 +4,8 @@ ghost use Rattle.dk_outside.specs.Written.{Writes};
 
 mod counting;
 
+use crate::Name;
+use dk_config::MAX_NAME_BYTES;
 use dk_outside::{Sink, SinkError, write_all_to};
 use itoa::write_digits;
 use std::marker::Model;
@@ -88,6 +90,30 @@ impl TextLine {
         let end = self.len + text.len();
         self.bytes[self.len..end].copy_from_slice(text.as_bytes());
         self.len = end;
+    }
+
+    /// Appends a name that isn't too long. Its whole block is copied, so there is room for that.
+    #[inline(always)]
+    pub(crate) fn name(&mut self, name: &Name)
+        requires short { length name.now ≤ MAX_NAME_BYTES }
+        requires room { length self.old + MAX_NAME_BYTES ≤ 200 }
+        ensures bytes { self.new ≡ self.old ++ name.now }
+        ensures len { length self.new ≡ length self.old + length name.now }
+    {
+        self.part(name.block(), name.len());
+    }
+
+    /// Appends the first bytes of these, so many.
+    #[inline(always)]
+    fn part(&mut self, bytes: &[u8], len: usize)
+        requires part { len ≤ length bytes.now }
+        requires room { length self.old + length bytes.now ≤ 200 }
+        ensures bytes { self.new ≡ self.old ++ take len bytes.now }
+        ensures len { length self.new ≡ length self.old + len }
+    {
+        let end = self.len + bytes.len();
+        self.bytes[self.len..end].copy_from_slice(bytes);
+        self.len += len;
     }
 
     /// Appends a number in decimal, which takes up to 10 bytes.

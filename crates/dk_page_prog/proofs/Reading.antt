@@ -1,74 +1,88 @@
--- A file that was read up to one byte more than it may have.
-use Rattle.std.proofs.Common.{◌≤◌, ◌+◌, ◌≡◌, ℕ, List, [], inl, inr, length, refl, sym, take, arith, subst, ◌∙◌}
+-- Files that were read up to one byte more than they may have.
+use Rattle.std.proofs.Common.{◌≤◌, ◌+◌, ◌≡◌, ℕ, List, [], length, refl, sym, take, arith, subst, inl, inr, ◌∙◌}
+use Rattle.std.proofs.lemmas.Bool.{cases_Bool}
+use Rattle.std.proofs.lemmas.Bool.Decides.{nat_tests}
 use Rattle.std.proofs.lemmas.List.{length-take, take_all}
-use Rattle.std.specs.Prelude.{IfOk, IfSome, Option, Some, None, Result, Ok, Err}
+use Rattle.std.specs.Prelude.{IfOk, IfSome, nat_lt, Option, Some, None, Result, Ok, Err}
 use Rattle.dk_config.specs.declared.TheConstants.{MAX_CONFIG_BYTES, MAX_LEDGER_BYTES}
 use Rattle.dk_outside.specs.declared.depot.DepotError.{DepotError}
-use Rattle.dk_review.specs.declared.drawing.Range.{Range}
-use Rattle.dk_page_prog.specs.Answers.{AreRead, IsAsked, IsLongConfig, IsLongLedger, IsLongNeeds, IsOfAll, IsOfFiles, IsOfLedger, IsOfNeeds, IsReadAt, IsWithin}
+use Rattle.dk_page.specs.declared.told.Additions.{Additions}
+use Rattle.dk_page_prog.specs.Answers.{AreRead, IsAsked, IsLongOr, IsOfFiles, IsOfMore, IsOfShort, IsReadAt, first_long}
+use Rattle.dk_page_prog.specs.Asking.{Asking}
+use Rattle.dk_page_prog.specs.Repeating.{Tells, search_asked}
 use Rattle.dk_page_prog.specs.declared.answers.Answer.{Answer}
-use Rattle.dk_page_prog.specs.declared.answers.Held.{Held}
+use Rattle.dk_page_prog.specs.declared.files.Held.{Held}
+use Rattle.dk_page_prog.specs.declared.files.LongFile.{LongFile}
 
--- what its beginning comes to is what it comes to
-of_whole : (most : ℕ) (Long : Type 0) (Short : List ℕ → Type 0) (file : List ℕ)
-    → IsWithin most Long Short (take (most + 1) file) → IsWithin most Long Short file
-of_whole most Long Short file (inl long) =
+-- the beginning is as much too long as the whole
+beginning_long : (most : ℕ) (file : List ℕ) → nat_lt most (length (take (most + 1) file)) ≡ nat_lt most (length file)
+beginning_long most file =
     let counted = length-take (most + 1) file in
-    inl ((let more = long.0 in omega (arith, counted, more)), long.1)
-of_whole most Long Short file (inr short) =
-    let counted = length-take (most + 1) file in
-    let few : length file ≤ most = (let less = short.0 in omega (arith, counted, less)) in
-    inr (few, subst Short (take_all (most + 1) file (omega (arith, few))) short.1)
+    elim (cases_Bool (nat_lt most (length file))) [
+      | inl e ↦ grind (arith, nat_tests, counted)
+      | inr e ↦ grind (arith, nat_tests, counted)
+    ]
 
--- what a file comes to by one reading of it is so by another
-mapped : (most : ℕ) (Long : Type 0) (S T : List ℕ → Type 0) (file : List ℕ) → ((f : List ℕ) → S f → T f)
-    → IsWithin most Long S file → IsWithin most Long T file
-mapped most Long S T file further (inl long) = inl long
-mapped most Long S T file further (inr short) = inr (short.0, further file short.1)
+beginnings_long : (d n l : List ℕ)
+    → first_long (take (MAX_CONFIG_BYTES + 1) d) (take (MAX_CONFIG_BYTES + 1) n) (take (MAX_LEDGER_BYTES + 1) l) ≡ first_long d n l
+beginnings_long d n l =
+    rw (beginning_long MAX_CONFIG_BYTES d, beginning_long MAX_CONFIG_BYTES n, beginning_long MAX_LEDGER_BYTES l) refl
 
--- of all files
-files_whole : (name : List ℕ) (needs ledger : Option (List ℕ)) (range : Option Range) (a : Answer) (document held bytes : List ℕ)
-    → IsOfFiles name needs ledger range a (take (MAX_CONFIG_BYTES + 1) document) (take (MAX_CONFIG_BYTES + 1) held)
-    (take (MAX_LEDGER_BYTES + 1) bytes)
-    → IsOfFiles name needs ledger range a document held bytes
-files_whole name needs ledger range a document held bytes is =
-    let few = take (MAX_LEDGER_BYTES + 1) bytes in
-    let short = take (MAX_CONFIG_BYTES + 1) held in
-    let of_bytes = λ (d h : List ℕ) (b : IsOfLedger name d needs h ledger range a few).
-    of_whole MAX_LEDGER_BYTES (IsLongLedger a) (λ x. IsOfAll name d needs h ledger range a x) bytes b in
-    let of_held = λ (d : List ℕ) (n : IsOfNeeds name d needs ledger range a few short).
-    of_whole MAX_CONFIG_BYTES (IsLongNeeds a) (λ h. IsOfLedger name d needs h ledger range a bytes) held
-    (mapped MAX_CONFIG_BYTES (IsLongNeeds a) (λ h. IsOfLedger name d needs h ledger range a few)
-    (λ h. IsOfLedger name d needs h ledger range a bytes) short (of_bytes d) n) in
-    of_whole MAX_CONFIG_BYTES (IsLongConfig a) (λ d. IsOfNeeds name d needs ledger range a bytes held) document
-    (mapped MAX_CONFIG_BYTES (IsLongConfig a) (λ d. IsOfNeeds name d needs ledger range a few short)
-    (λ d. IsOfNeeds name d needs ledger range a bytes held) (take (MAX_CONFIG_BYTES + 1) document) of_held is)
+pub record AreShort (d n l : List ℕ) : Type 0 where
+  pub document : length d ≤ MAX_CONFIG_BYTES
+  pub needs : length n ≤ MAX_CONFIG_BYTES
+  pub ledger : length l ≤ MAX_LEDGER_BYTES
 
-same_files : (name : List ℕ) (needs ledger : Option (List ℕ)) (range : Option Range) (a : Answer) (d h b e i c : List ℕ)
-    → d ≡ e → h ≡ i → b ≡ c → IsOfFiles name needs ledger range a d h b → IsOfFiles name needs ledger range a e i c
-same_files name needs ledger range a d h b e i c ds hs bs is =
-    subst (λ x. IsOfFiles name needs ledger range a e i x) bs
-    (subst (λ x. IsOfFiles name needs ledger range a e x b) hs (subst (λ x. IsOfFiles name needs ledger range a x h b) ds is))
+pub none_long : (d n l : List ℕ) → first_long d n l ≡ None → AreShort d n l
+none_long d n l none =
+    elim (cases_Bool (nat_lt MAX_CONFIG_BYTES (length d))) [
+      | inl e ↦ let bad : Some LongFile.Config ≡ None = rw e at none in absurd (cc)
+      | inr e ↦ elim (cases_Bool (nat_lt MAX_CONFIG_BYTES (length n))) [
+        | inl f ↦ let bad : Some LongFile.Needs ≡ None = rw (e, f) at none in absurd (cc)
+        | inr f ↦ elim (cases_Bool (nat_lt MAX_LEDGER_BYTES (length l))) [
+          | inl g ↦ let bad : Some LongFile.Ledger ≡ None = rw (e, f, g) at none in absurd (cc)
+          | inr g ↦ record { document = grind (arith, nat_tests); needs = grind (arith, nat_tests); ledger = grind (arith, nat_tests) }
+        ]
+      ]
+    ]
+
+whole_file : (most : ℕ) (file : List ℕ) → length file ≤ most → take (most + 1) file ≡ file
+whole_file most file few = take_all (most + 1) file (omega (arith, few))
+
+-- what the beginnings come to is what the files come to
+files_whole : (at : List ℕ → Option (List ℕ)) (k : Asking) (a : Answer) (d n l : List ℕ) (long : Option LongFile) → first_long d n l ≡ long
+    → IsLongOr (IsOfShort at k (take (MAX_CONFIG_BYTES + 1) d) (take (MAX_CONFIG_BYTES + 1) n) (take (MAX_LEDGER_BYTES + 1) l) a) a long
+    → IsLongOr (IsOfShort at k d n l a) a long
+files_whole at k a d n l (Some long) same is = is
+files_whole at k a d n l None same is =
+    let few = none_long d n l same in
+    subst (λ x. IsOfShort at k d n x a) (whole_file MAX_LEDGER_BYTES l few.ledger)
+    (subst (λ x. IsOfShort at k d x (take (MAX_LEDGER_BYTES + 1) l) a) (whole_file MAX_CONFIG_BYTES n few.needs)
+    (subst (λ x. IsOfShort at k x (take (MAX_CONFIG_BYTES + 1) n) (take (MAX_LEDGER_BYTES + 1) l) a) (whole_file MAX_CONFIG_BYTES d few.document) is))
+
+whole : (at : List ℕ → Option (List ℕ)) (k : Asking) (a : Answer) (d n l e o m : List ℕ) → d ≡ take (MAX_CONFIG_BYTES + 1) e → n ≡ take (MAX_CONFIG_BYTES + 1) o
+    → l ≡ take (MAX_LEDGER_BYTES + 1) m → IsOfFiles at k a d n l → IsOfFiles at k a e o m
+whole at k a d n l e o m ds ns ls is =
+    files_whole at k a e o m (first_long e o m) refl
+    (subst (λ x. IsLongOr (IsOfShort at k (take (MAX_CONFIG_BYTES + 1) e) (take (MAX_CONFIG_BYTES + 1) o) (take (MAX_LEDGER_BYTES + 1) m) a) a x)
+    (beginnings_long e o m) (rw (ds, ns, ls) at is))
 
 -- so what was read comes to what the files come to
-pub of_read : (files : Option (List ℕ → Option (List ℕ))) (name : List ℕ) (needs ledger : Option (List ℕ)) (range : Option Range)
-    (h : Held) (document held bytes : List ℕ) (result : Result Answer DepotError) → document ≡ h.document.items → held ≡ h.needs.items
-    → bytes ≡ h.ledger.items → IfSome files (λ at. AreRead at name needs ledger h)
-    → IfOk result (λ a. IsOfFiles name needs ledger range a document held bytes)
-    → IfSome files (λ at. IfOk result (IsAsked at name needs ledger range))
-of_read None name needs ledger range h document held bytes result ds hs bs read is = tt
-of_read (Some at) name needs ledger range h document held bytes (Ok a) ds hs bs read is = record {
+pub of_read : (files : Option (List ℕ → Option (List ℕ))) (k : Asking) (h : Held) (result : Result Answer DepotError)
+    → IfSome files (λ at. AreRead at k h)
+    → IfSome files (λ at. IfOk result (λ a. IsOfFiles at k a h.document.items h.needs.items h.ledger.items))
+    → IfSome files (λ at. IfOk result (IsAsked at k))
+of_read None k h result read is = tt
+of_read (Some at) k h (Ok a) read is = record {
   document = read.document.0;
-  held = read.needs_are.0;
-  bytes = read.ledger_is.0;
+  needs = read.needs_are.0;
+  ledger = read.ledger_is.0;
   has_document = read.document.1;
   has_needs = read.needs_are.1;
   has_ledger = read.ledger_is.1;
-  comes = files_whole name needs ledger range a read.document.0 read.needs_are.0 read.ledger_is.0
-      (same_files name needs ledger range a document held bytes _ _ _ (ds ∙ read.document.2) (hs ∙ read.needs_are.2)
-      (bs ∙ read.ledger_is.2) is);
+  comes = whole at k a _ _ _ read.document.0 read.needs_are.0 read.ledger_is.0 read.document.2 read.needs_are.2 read.ledger_is.2 is;
 }
-of_read (Some at) name needs ledger range h document held bytes (Err e) ds hs bs read is = tt
+of_read (Some at) k h (Err e) read is = tt
 
 -- the depot has the same files later
 pub read_later : (later files : Option (List ℕ → Option (List ℕ))) (name : Option (List ℕ)) (limit : ℕ) (bytes : List ℕ) → later ≡ files
@@ -76,13 +90,13 @@ pub read_later : (later files : Option (List ℕ → Option (List ℕ))) (name :
 read_later later files name limit bytes same read = subst (λ fs. IfSome fs (λ at. IsReadAt at name limit bytes)) same read
 
 -- three files that were read
-pub all_read : (files : Option (List ℕ → Option (List ℕ))) (name : List ℕ) (needs ledger : Option (List ℕ)) (h : Held)
-    → IfSome files (λ at. IsReadAt at (Some name) MAX_CONFIG_BYTES h.document.items)
-    → IfSome files (λ at. IsReadAt at needs MAX_CONFIG_BYTES h.needs.items)
-    → IfSome files (λ at. IsReadAt at ledger MAX_LEDGER_BYTES h.ledger.items)
-    → IfSome files (λ at. AreRead at name needs ledger h)
-all_read None name needs ledger h d n l = tt
-all_read (Some at) name needs ledger h d n l = record { document = d; needs_are = n; ledger_is = l }
+pub all_read : (files : Option (List ℕ → Option (List ℕ))) (k : Asking) (h : Held)
+    → IfSome files (λ at. IsReadAt at (Some k.name) MAX_CONFIG_BYTES h.document.items)
+    → IfSome files (λ at. IsReadAt at k.needs MAX_CONFIG_BYTES h.needs.items)
+    → IfSome files (λ at. IsReadAt at k.ledger MAX_LEDGER_BYTES h.ledger.items)
+    → IfSome files (λ at. AreRead at k h)
+all_read None k h d n l = tt
+all_read (Some at) k h d n l = record { document = d; needs_are = n; ledger_is = l }
 
 -- nothing was read where no file is named
 pub none_read : (files : Option (List ℕ → Option (List ℕ))) (name : Option (List ℕ)) (limit : ℕ) (bytes : List ℕ) → name ≡ None
@@ -94,3 +108,12 @@ none_read (Some at) (Some name) limit bytes none nothing = absurd (cc)
 pub wider : {E : Type 0} (P Q : Answer → Type 0) (r : Result Answer E) → ((a : Answer) → P a → Q a) → IfOk r P → IfOk r Q
 wider P Q (Ok a) all is = all a is
 wider P Q (Err e) all is = tt
+
+-- what the page tells more
+pub more_told : (files : Option (List ℕ → Option (List ℕ))) (k : Asking) (d n l bytes : List ℕ) (more : Additions)
+    (r : Result Answer DepotError) → bytes ≡ d → IfSome files (λ at. Tells k.name (search_asked at bytes k.repeats) more)
+    → IfOk r (IsOfMore k d n l more) → IfSome files (λ at. IfOk r (IsOfShort at k d n l))
+more_told None k d n l bytes more r same tells is = tt
+more_told (Some at) k d n l bytes more (Ok a) same tells is =
+    inl (record { more = more; tells = subst (λ b. Tells k.name (search_asked at b k.repeats) more) same tells; is = is })
+more_told (Some at) k d n l bytes more (Err e) same tells is = tt

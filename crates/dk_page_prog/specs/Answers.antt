@@ -1,15 +1,19 @@
 -- What the words and the files come to.
-use Rattle.std.specs.Prelude.{ℕ, ◌≡◌, ◌<◌, ◌≤◌, ◌⊎◌, ◌+◌, length, take, List, [], ◌++◌, Option, Some, None, codes, decimal}
+use Rattle.std.specs.Prelude.{ℕ, ◌≡◌, ◌⊎◌, ◌+◌, length, nat_lt, take, List, [], ◌++◌, Option, Some, None, if◌then◌else◌, codes, decimal}
 use Rattle.dk_config.specs.declared.TheConstants.{MAX_CONFIG_BYTES, MAX_LEDGER_BYTES}
 use Rattle.dk_ledger.specs.Readable.{IsNoText, IsWrongLine}
+use Rattle.dk_page.specs.declared.told.Additions.{Additions}
+use Rattle.dk_review.specs.Files.{File}
 use Rattle.dk_review.specs.Reviews.{IsOfOther, IsReview, IsReviewWith}
 use Rattle.dk_review.specs.Runs.{EndsBefore, IsOfLedger as HasLedger}
 use Rattle.dk_review.specs.declared.drawing.Range.{Range}
 use Rattle.dk_review.specs.declared.reviewing.Ending.{Ending}
 use Rattle.dk_review.specs.declared.reviewing.Review.{Review}
-use Rattle.dk_page_prog.specs.Asking.{asked, ledger_asked, needs_asked, range_asked}
+use Rattle.dk_page_prog.specs.Asking.{Asking, asked_by}
+use Rattle.dk_page_prog.specs.Repeating.{HasLongProgram, Search, Tells, search_asked}
 use Rattle.dk_page_prog.specs.declared.answers.Answer.{Answer}
-use Rattle.dk_page_prog.specs.declared.answers.Held.{Held}
+use Rattle.dk_page_prog.specs.declared.files.Held.{Held}
+use Rattle.dk_page_prog.specs.declared.files.LongFile.{LongFile}
 use Rattle.dk_page_prog.specs.declared.status.Answered.{Answered}
 use Rattle.dk_page_prog.specs.declared.status.Answered.TheVariants as answered
 use Rattle.dk_page_prog.specs.declared.status.Status.{Status}
@@ -20,14 +24,14 @@ status_number (status.Answered answered.Done) = 0
 status_number (status.Answered answered.Usage) = 1
 status_number (status.Answered answered.Config) = 2
 status_number (status.Answered answered.Uncertified) = 3
-status_number (status.Answered answered.Ledger) = 4
+status_number (status.Answered answered.Refused) = 4
 status_number status.DepotFault = 5
 status_number status.SinkFault = 6
 status_number status.NoMemory = 7
 
 abbrev pub ended_of : Ending → Answered
 ended_of Ending.Certified = answered.Done
-ended_of Ending.Failing = answered.Ledger
+ended_of Ending.Failing = answered.Refused
 ended_of Ending.Uncertified = answered.Uncertified
 ended_of Ending.Refused = answered.Config
 
@@ -38,72 +42,87 @@ pub record IsOfReview (Holds : Review → Type 0) (a : Answer) : Type 0 where
   pub bytes : a.bytes.items ≡ review.bytes.items
   pub ends : a.ended ≡ ended_of review.ending
 
--- the page of the document, and of what is needed
-abbrev pub IsOfDocument : List ℕ → List ℕ → Option (List ℕ) → List ℕ → Answer → Type 0
-IsOfDocument name document needs held a = IsOfReview (IsReview name document needs held) a
-
 -- this text, and this end
 abbrev pub Says : List ℕ → Answered → Answer → Type 0
 Says text ended a = (a.bytes.items ≡ text) × (a.ended ≡ ended)
-
--- the one where a file has more bytes than it may have, and else the other of them
-abbrev pub IsWithin : ℕ → Type 0 → (List ℕ → Type 0) → List ℕ → Type 0
-IsWithin most Long Short file = ((most < length file) × Long) ⊎ ((length file ≤ most) × Short file)
-
-abbrev pub IsLongConfig : Answer → Type 0
-IsLongConfig a = Says (codes "config: longer than 65536 bytes\n") answered.Config a
-
-abbrev pub IsLongLedger : Answer → Type 0
-IsLongLedger a = Says (codes "ledger: longer than 1073741824 bytes\n") answered.Ledger a
-
-abbrev pub IsLongNeeds : Answer → Type 0
-IsLongNeeds a = Says (codes "needs: longer than 65536 bytes\n") answered.Config a
 
 -- the first line by which the bytes are no ledger
 abbrev pub line_text : ℕ → List ℕ
 line_text n = codes "ledger: line " ++ (decimal n ++ codes "\n")
 
 abbrev pub IsWrong : List ℕ → Answer → Type 0
-IsWrong bytes a = (n : ℕ) × IsWrongLine n bytes × IsNoText bytes × Says (line_text n) answered.Ledger a
+IsWrong bytes a = (n : ℕ) × IsWrongLine n bytes × IsNoText bytes × Says (line_text n) answered.Refused a
 
 abbrev pub IsOther : List ℕ → List ℕ → Answer → Type 0
-IsOther document bytes a = IsOfOther document bytes × Says (codes "ledger: of another configuration\n") answered.Ledger a
+IsOther document bytes a = IsOfOther document bytes × Says (codes "ledger: of another configuration\n") answered.Refused a
 
 -- the range ends behind the last tick of the ledger
 abbrev pub ends_text : ℕ → List ℕ
 ends_text ticks = codes "range: ledger ends at " ++ (decimal ticks ++ codes "\n")
 
 abbrev pub IsPast : Option Range → List ℕ → Answer → Type 0
-IsPast range bytes a = (ticks : ℕ) × HasLedger (EndsBefore range ticks) bytes × Says (ends_text ticks) answered.Ledger a
+IsPast range bytes a = (ticks : ℕ) × HasLedger (EndsBefore range ticks) bytes × Says (ends_text ticks) answered.Refused a
 
 -- why there is no page: the bytes are no ledger, or one of another configuration, or the range isn't in it
 abbrev pub IsRefused : List ℕ → Option Range → List ℕ → Answer → Type 0
 IsRefused document range bytes a = IsWrong bytes a ⊎ (IsOther document bytes a ⊎ IsPast range bytes a)
 
--- the page of the document, of what is needed, and of the ledger, or why there is none
-abbrev pub IsOfBoth : List ℕ → List ℕ → Option (List ℕ) → List ℕ → List ℕ → Option Range → List ℕ → Answer → Type 0
-IsOfBoth name document needs held ledger range bytes a =
-    IsOfReview (IsReviewWith name document needs held ledger bytes range) a ⊎ IsRefused document range bytes a
+-- the page of the document, of what is needed, of more, and of the ledger, where there is one, or why there is none
+abbrev pub IsOfAll : File → Option File → Option File → Option Range → Additions → Answer → Type 0
+IsOfAll file needs None range more a = IsOfReview (IsReview file needs more) a
+IsOfAll file needs (Some ledger) range more a =
+    IsOfReview (IsReviewWith file needs ledger range more) a ⊎ IsRefused file.bytes range ledger.bytes a
 
--- without a ledger, or with one
-abbrev pub IsOfAll : List ℕ → List ℕ → Option (List ℕ) → List ℕ → Option (List ℕ) → Option Range → Answer → List ℕ → Type 0
-IsOfAll name document needs held None range a bytes = IsOfDocument name document needs held a
-IsOfAll name document needs held (Some ledger) range a bytes = IsOfBoth name document needs held ledger range bytes a
+abbrev pub named : Option (List ℕ) → List ℕ → Option File
+named None bytes = None
+named (Some name) bytes = Some (record { name = name; bytes = bytes })
 
--- what these bytes of a ledger come to
-abbrev pub IsOfLedger : List ℕ → List ℕ → Option (List ℕ) → List ℕ → Option (List ℕ) → Option Range → Answer → List ℕ → Type 0
-IsOfLedger name document needs held ledger range a bytes =
-    IsWithin MAX_LEDGER_BYTES (IsLongLedger a) (λ b. IsOfAll name document needs held ledger range a b) bytes
+-- of files that hold these bytes
+abbrev pub IsOfMore : Asking → List ℕ → List ℕ → List ℕ → Additions → Answer → Type 0
+IsOfMore k document needs ledger more a =
+    IsOfAll (record { name = k.name; bytes = document }) (named k.needs needs) (named k.ledger ledger) k.range more a
 
--- what these bytes of needs come to
-abbrev pub IsOfNeeds : List ℕ → List ℕ → Option (List ℕ) → Option (List ℕ) → Option Range → Answer → List ℕ → List ℕ → Type 0
-IsOfNeeds name document needs ledger range a bytes held =
-    IsWithin MAX_CONFIG_BYTES (IsLongNeeds a) (λ h. IsOfLedger name document needs h ledger range a bytes) held
+-- the more is what repeats, where that is asked
+pub record IsWithMore (at : List ℕ → Option (List ℕ)) (k : Asking) (document needs ledger : List ℕ) (a : Answer) : Type 0 where
+  pub more : Additions
+  pub tells : Tells k.name (search_asked at document k.repeats) more
+  pub is : IsOfMore k document needs ledger more a
 
--- what all of the files come to
-abbrev pub IsOfFiles : List ℕ → Option (List ℕ) → Option (List ℕ) → Option Range → Answer → List ℕ → List ℕ → List ℕ → Type 0
-IsOfFiles name needs ledger range a document held bytes =
-    IsWithin MAX_CONFIG_BYTES (IsLongConfig a) (λ d. IsOfNeeds name d needs ledger range a bytes held) document
+abbrev pub program_text : ℕ → List ℕ
+program_text p = codes "program: process " ++ (decimal p ++ codes " longer than 65536 bytes\n")
+
+abbrev pub IsLongProgram : Option Search → Answer → Type 0
+IsLongProgram search a = (p : ℕ) × HasLongProgram search p × Says (program_text p) answered.Refused a
+
+-- that, or the line of the first program that is too long, where they are read
+abbrev pub IsOfShort : (List ℕ → Option (List ℕ)) → Asking → List ℕ → List ℕ → List ℕ → Answer → Type 0
+IsOfShort at k document needs ledger a = IsWithMore at k document needs ledger a ⊎ IsLongProgram (search_asked at document k.repeats) a
+
+abbrev pub long_text : LongFile → List ℕ
+long_text LongFile.Config = codes "config: longer than 65536 bytes\n"
+long_text LongFile.Needs = codes "needs: longer than 65536 bytes\n"
+long_text LongFile.Ledger = codes "ledger: longer than 1073741824 bytes\n"
+
+abbrev pub long_ended : LongFile → Answered
+long_ended LongFile.Config = answered.Config
+long_ended LongFile.Needs = answered.Config
+long_ended LongFile.Ledger = answered.Refused
+
+-- the first of these files that has more bytes than it may have
+abbrev pub first_long : List ℕ → List ℕ → List ℕ → Option LongFile
+first_long document needs ledger =
+    if nat_lt MAX_CONFIG_BYTES (length document) then Some LongFile.Config
+    else (if nat_lt MAX_CONFIG_BYTES (length needs) then Some LongFile.Needs
+    else (if nat_lt MAX_LEDGER_BYTES (length ledger) then Some LongFile.Ledger else None))
+
+-- its line, and else this
+abbrev pub IsLongOr : Type 0 → Answer → Option LongFile → Type 0
+IsLongOr Short a None = Short
+IsLongOr Short a (Some long) = Says (long_text long) (long_ended long) a
+
+-- what the files come to that hold these bytes
+abbrev pub IsOfFiles : (List ℕ → Option (List ℕ)) → Asking → Answer → List ℕ → List ℕ → List ℕ → Type 0
+IsOfFiles at k a document needs ledger = IsLongOr (IsOfShort at k document needs ledger a) a (first_long document needs ledger)
 
 -- the file of this name holds these bytes, and where none is named they are none
 abbrev pub HoldsAt : (List ℕ → Option (List ℕ)) → Option (List ℕ) → List ℕ → Type 0
@@ -115,30 +134,29 @@ abbrev pub IsReadAt : (List ℕ → Option (List ℕ)) → Option (List ℕ) →
 IsReadAt at name limit bytes = (file : List ℕ) × HoldsAt at name file × (bytes ≡ take (limit + 1) file)
 
 -- the files are read up to one byte more than they may have
-pub record AreRead (at : List ℕ → Option (List ℕ)) (name : List ℕ) (needs ledger : Option (List ℕ)) (h : Held) : Type 0 where
-  pub document : IsReadAt at (Some name) MAX_CONFIG_BYTES h.document.items
-  pub needs_are : IsReadAt at needs MAX_CONFIG_BYTES h.needs.items
-  pub ledger_is : IsReadAt at ledger MAX_LEDGER_BYTES h.ledger.items
+pub record AreRead (at : List ℕ → Option (List ℕ)) (k : Asking) (h : Held) : Type 0 where
+  pub document : IsReadAt at (Some k.name) MAX_CONFIG_BYTES h.document.items
+  pub needs_are : IsReadAt at k.needs MAX_CONFIG_BYTES h.needs.items
+  pub ledger_is : IsReadAt at k.ledger MAX_LEDGER_BYTES h.ledger.items
 
--- what the files of these names come to, alone or with those of needs and of a ledger
-pub record IsAsked (at : List ℕ → Option (List ℕ)) (name : List ℕ) (needs ledger : Option (List ℕ)) (range : Option Range)
-    (a : Answer) : Type 0 where
+-- what the files come to that are asked for
+pub record IsAsked (at : List ℕ → Option (List ℕ)) (k : Asking) (a : Answer) : Type 0 where
   pub document : List ℕ
-  pub held : List ℕ
-  pub bytes : List ℕ
-  pub has_document : at name ≡ Some document
-  pub has_needs : HoldsAt at needs held
-  pub has_ledger : HoldsAt at ledger bytes
-  pub comes : IsOfFiles name needs ledger range a document held bytes
+  pub needs : List ℕ
+  pub ledger : List ℕ
+  pub has_document : at k.name ≡ Some document
+  pub has_needs : HoldsAt at k.needs needs
+  pub has_ledger : HoldsAt at k.ledger ledger
+  pub comes : IsOfFiles at k a document needs ledger
 
 abbrev pub IsUsage : Answer → Type 0
-IsUsage a = Says (codes "usage: deosk-show page FILE [LEDGER [FROM TO]] [--needs NEEDS]\n") answered.Usage a
+IsUsage a = Says (codes "usage: deosk-show page FILE [LEDGER [FROM TO]] [--needs NEEDS] [--repeats TICKS]\n") answered.Usage a
 
--- what is asked for comes to this: the page of the file of this name, or the usage line
-abbrev pub IsAnswerTo : (List ℕ → Option (List ℕ)) → Option (List ℕ) → Option (List ℕ) → Option (List ℕ) → Option Range → Answer → Type 0
-IsAnswerTo at (Some name) needs ledger range a = IsAsked at name needs ledger range a
-IsAnswerTo at None needs ledger range a = IsUsage a
+-- that, or the usage line where nothing is asked for
+abbrev pub IsAnswerTo : (List ℕ → Option (List ℕ)) → Option Asking → Answer → Type 0
+IsAnswerTo at (Some k) a = IsAsked at k a
+IsAnswerTo at None a = IsUsage a
 
 -- what the words come to
 abbrev pub IsAnswered : List (List ℕ) → (List ℕ → Option (List ℕ)) → Answer → Type 0
-IsAnswered words at a = IsAnswerTo at (asked words) (needs_asked words) (ledger_asked words) (range_asked words) a
+IsAnswered words at a = IsAnswerTo at (asked_by words) a

@@ -1,8 +1,30 @@
 -- What the words ask for.
-use Rattle.std.specs.Prelude.{ℕ, ◌==◌, ◌&&◌, ◌||◌, not, nat_lt, Bool, true, false, List, [], ◌∷◌, Option, Some, None, is_some, if◌then◌else◌, codes}
+use Rattle.std.specs.Prelude.{ℕ, ◌==◌, ◌&&◌, not, nat_lt, Bool, false, List, [], ◌∷◌, Option, Some, None, option_map, if◌then◌else◌, codes}
 use Rattle.std.specs.Str.{bytes_eq}
 use Rattle.dk_review.specs.declared.drawing.Range.{Range}
+use Rattle.dk_page_prog.specs.declared.asking.Asked.{Asked}
 use Rattle.dk_page_prog.specs.Numbers.{ticks_in}
+
+-- the page of the file of this name, with what is said in the files of needs and of a ledger, the range of its picture, and what
+-- repeats in so many ticks, where they are named
+pub record Asking : Type 0 where
+  pub name : List ℕ
+  pub needs : Option (List ℕ)
+  pub ledger : Option (List ℕ)
+  pub range : Option Range
+  pub repeats : Option ℕ
+
+abbrev pub asking_of : Asked → Asking
+asking_of a = record {
+  name = a.name.now;
+  needs = option_map (λ n. n.now) a.needs;
+  ledger = option_map (λ n. n.now) a.ledger;
+  range = a.range;
+  repeats = a.repeats;
+}
+
+abbrev pub of_name : List ℕ → Asking
+of_name name = record { name = name; needs = None; ledger = None; range = None; repeats = None }
 
 -- a word that isn't empty, and doesn't begin as a flag does
 abbrev pub is_name : List ℕ → Bool
@@ -21,51 +43,42 @@ range_between _ _ = None
 unfoldable pub range_of : List ℕ → List ℕ → Option Range
 range_of from to = range_between (ticks_in from) (ticks_in to)
 
-abbrev pub is_range : List ℕ → List ℕ → Bool
-is_range from to = is_some (range_of from to)
-
 -- they name a file of needs
 abbrev pub is_needs : List ℕ → List ℕ → Bool
 is_needs flag needs = bytes_eq flag (codes "--needs") && is_name needs
 
--- they name a range, or a file of needs
-unfoldable pub is_either : List ℕ → List ℕ → Bool
-is_either first second = is_range first second || is_needs first second
+-- the ticks that they ask for
+abbrev pub repeats_of : List ℕ → List ℕ → Option ℕ
+repeats_of flag ticks = if bytes_eq flag (codes "--repeats") then ticks_in ticks else None
 
--- they name both
-unfoldable pub are_both : List ℕ → List ℕ → List ℕ → List ℕ → Bool
-are_both from to flag needs = is_range from to && is_needs flag needs
+-- what is asked for by words that stand behind [LEDGER [FROM TO]] [--needs NEEDS]
+unfoldable pub with_repeats : Asking → List (List ℕ) → Option Asking
+with_repeats a [] = Some a
+with_repeats a (flag ∷ ticks ∷ []) = option_map (λ n. record a { repeats = Some n }) (repeats_of flag ticks)
+with_repeats a _ = None
 
--- the words may stand behind the name of the file
-unfoldable pub may_follow : List (List ℕ) → Bool
-may_follow [] = true
-may_follow (ledger ∷ []) = is_name ledger
-may_follow (flag ∷ needs ∷ []) = is_needs flag needs
-may_follow (ledger ∷ first ∷ second ∷ []) = is_name ledger && is_either first second
-may_follow (ledger ∷ from ∷ to ∷ flag ∷ needs ∷ []) = is_name ledger && are_both from to flag needs
-may_follow _ = false
+-- behind [LEDGER [FROM TO]]
+unfoldable pub with_needs : Asking → List (List ℕ) → Option Asking
+with_needs a (flag ∷ needs ∷ rest) =
+    if is_needs flag needs then with_repeats (record a { needs = Some needs }) rest else with_repeats a (flag ∷ needs ∷ rest)
+with_needs a rest = with_repeats a rest
 
--- the name of the file whose page the words ask for; the first word is the program's name, and isn't looked at
-abbrev pub asked : List (List ℕ) → Option (List ℕ)
-asked (me ∷ verb ∷ name ∷ rest) = if is_page verb name && may_follow rest then Some name else None
-asked _ = None
+abbrev pub in_range : Asking → Option Range → List (List ℕ) → List (List ℕ) → Option Asking
+in_range a (Some range) behind rest = with_needs (record a { range = Some range }) behind
+in_range a None behind rest = with_needs a rest
 
--- the name of the ledger, where the words name one
-abbrev pub ledger_asked : List (List ℕ) → Option (List ℕ)
-ledger_asked (me ∷ verb ∷ name ∷ ledger ∷ []) = Some ledger
-ledger_asked (me ∷ verb ∷ name ∷ ledger ∷ first ∷ second ∷ []) = Some ledger
-ledger_asked (me ∷ verb ∷ name ∷ ledger ∷ from ∷ to ∷ flag ∷ needs ∷ []) = Some ledger
-ledger_asked _ = None
+-- behind LEDGER
+unfoldable pub with_range : Asking → List (List ℕ) → Option Asking
+with_range a (from ∷ to ∷ rest) = in_range a (range_of from to) rest (from ∷ to ∷ rest)
+with_range a rest = with_needs a rest
 
--- the range of the picture, where they name one
-abbrev pub range_asked : List (List ℕ) → Option Range
-range_asked (me ∷ verb ∷ name ∷ ledger ∷ from ∷ to ∷ []) = range_of from to
-range_asked (me ∷ verb ∷ name ∷ ledger ∷ from ∷ to ∷ flag ∷ needs ∷ []) = range_of from to
-range_asked _ = None
+-- behind the name of the file
+unfoldable pub with_ledger : Asking → List (List ℕ) → Option Asking
+with_ledger a [] = Some a
+with_ledger a (ledger ∷ rest) =
+    if is_name ledger then with_range (record a { ledger = Some ledger }) rest else with_needs a (ledger ∷ rest)
 
--- the name of the file of needs, where they name one
-abbrev pub needs_asked : List (List ℕ) → Option (List ℕ)
-needs_asked (me ∷ verb ∷ name ∷ flag ∷ needs ∷ []) = Some needs
-needs_asked (me ∷ verb ∷ name ∷ ledger ∷ flag ∷ needs ∷ []) = if is_needs flag needs then Some needs else None
-needs_asked (me ∷ verb ∷ name ∷ ledger ∷ from ∷ to ∷ flag ∷ needs ∷ []) = Some needs
-needs_asked _ = None
+-- what the words ask for; the first is the program's name, and isn't looked at
+unfoldable pub asked_by : List (List ℕ) → Option Asking
+asked_by (me ∷ verb ∷ name ∷ rest) = if is_page verb name then with_ledger (of_name name) rest else None
+asked_by _ = None

@@ -2,3 +2,4 @@ pub mod Answers
 pub mod Asking
 pub mod Ends
 pub mod Numbers
+pub mod Repeating

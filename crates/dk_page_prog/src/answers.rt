@@ -1,15 +1,21 @@
 //! What the words and the files come to: what is written, and the status once it is.
-ghost use Rattle.std.specs.Prelude.{◌≡◌, ◌≢◌, ◌≤◌, ◌<◌, ◌+◌, ◌^◌, IfOk, IfSome, IsErrOf, Err, length, map, option_map, string_bytes};
+ghost use Rattle.std.specs.Prelude.{◌≡◌, ◌≢◌, ◌≤◌, ◌<◌, ◌^◌, IfOk, IfSome, IsErrOf, Err, Some, length, map, option_map, string_bytes};
 ghost use Rattle.dk_config.specs.declared.TheConstants.{MAX_CONFIG_BYTES};
 ghost use Rattle.dk_outside.specs.Counts.{Rises};
 ghost use Rattle.dk_outside.specs.declared.depot.DepotError.{DepotError};
-ghost use Rattle.dk_page_prog.specs.Answers.{AreRead, IsAnswerTo, IsAnswered, IsAsked, IsOfAll, IsOfBoth, IsOfDocument, IsOfFiles, IsOfLedger, IsOfNeeds, IsReadAt, Says, ended_of, ends_text, line_text};
+ghost use Rattle.dk_page_prog.specs.Answers.{IsAnswerTo, IsAnswered, IsAsked, IsOfAll, IsOfFiles, IsOfMore, IsOfReview, IsOfShort, Says, ended_of, ends_text, line_text, long_ended, long_text, program_text};
+ghost use Rattle.dk_page_prog.specs.Asking.{asking_of};
+ghost use Rattle.dk_review.specs.Files.{file_of};
+ghost use Rattle.dk_review.specs.Reviews.{IsReview};
 
-use crate::asking::{asked, ledger_asked, needs_asked, range_asked};
+use crate::asking::{Asked, asked_by};
+use crate::files::{Held, LongFile, first_long, named, read_files};
+use crate::repeating::more_of;
 use crate::status::Answered;
-use dk_config::{MAX_CONFIG_BYTES, MAX_LEDGER_BYTES};
+use dk_loader::LoadFault;
 use dk_outside::{Depot, DepotError};
-use dk_review::{Ending, Range, RunFault, review_of, review_with};
+use dk_page::Additions;
+use dk_review::{Ending, NamedFile, Range, RunFault, review_of, review_with};
 use std::alloc::{AllocError, Global};
 
 /// What is written, and what the call came to once it is.
@@ -24,7 +30,7 @@ fn ended_of(ending: Ending) -> Answered
 {
     match ending {
         Ending::Certified => Answered::Done,
-        Ending::Failing => Answered::Ledger,
+        Ending::Failing => Answered::Refused,
         Ending::Uncertified => Answered::Uncertified,
         Ending::Refused => Answered::Config,
     }
@@ -38,25 +44,24 @@ fn words_answer(alloc: Global, words: &str, ended: Answered) -> Result<Answer, D
     Ok(Answer { bytes, ended })
 }
 
-/// The page of a document, and of needs, that aren't too long.
-fn of_document(
-    alloc: Global,
-    name: &str,
-    document: &[u8],
-    needs: Option<&str>,
-    held: &[u8],
-) -> Result<Answer, DepotError>
-    requires few { length document.now ≤ MAX_CONFIG_BYTES }
-    requires short { length held.now ≤ MAX_CONFIG_BYTES }
-    ensures is { IfOk result (IsOfDocument name.now document.now (option_map (λ n. n.now) needs.entry) held.now) }
+fn long_answer(alloc: Global, long: LongFile) -> Result<Answer, DepotError>
+    ensures is { IfOk result (Says (long_text long) (long_ended long)) }
     ensures memory { result ≢ Err DepotError.Failed }
 {
-    match review_of(alloc, name, document, needs, held) {
-        Ok(review) => Ok(Answer {
-            bytes: review.bytes,
-            ended: ended_of(review.ending),
-        }),
-        Err(_) => Err(DepotError::NoMemory),
+    match long {
+        LongFile::Config => {
+            words_answer(alloc, "config: longer than 65536 bytes\n", Answered::Config)
+        }
+        LongFile::Needs => {
+            words_answer(alloc, "needs: longer than 65536 bytes\n", Answered::Config)
+        }
+        LongFile::Ledger => {
+            words_answer(
+                alloc,
+                "ledger: longer than 1073741824 bytes\n",
+                Answered::Refused,
+            )
+        }
     }
 }
 
@@ -67,11 +72,11 @@ fn line_text(alloc: Global, line: u32) -> Result<String, AllocError>
 }
 
 fn line_answer(alloc: Global, line: u32) -> Result<Answer, DepotError>
-    ensures is { IfOk result (Says (line_text line) Answered.Ledger) }
+    ensures is { IfOk result (Says (line_text line) Answered.Refused) }
     ensures memory { result ≢ Err DepotError.Failed }
 {
     let bytes = line_text(alloc, line)?.into_bytes();
-    let ended = Answered::Ledger;
+    let ended = Answered::Refused;
     Ok(Answer { bytes, ended })
 }
 
@@ -82,31 +87,50 @@ fn ends_text(alloc: Global, ticks: u32) -> Result<String, AllocError>
 }
 
 fn ends_answer(alloc: Global, ticks: u32) -> Result<Answer, DepotError>
-    ensures is { IfOk result (Says (ends_text ticks) Answered.Ledger) }
+    ensures is { IfOk result (Says (ends_text ticks) Answered.Refused) }
     ensures memory { result ≢ Err DepotError.Failed }
 {
     let bytes = ends_text(alloc, ticks)?.into_bytes();
-    let ended = Answered::Ledger;
+    let ended = Answered::Refused;
     Ok(Answer { bytes, ended })
 }
 
-/// The page of a document, of needs and of a ledger that aren't too long, or why there is none.
-fn of_both(
+/// The page without a ledger.
+fn of_document(
     alloc: Global,
-    name: &str,
-    document: &[u8],
-    needs: Option<&str>,
-    held: &[u8],
-    ledger: &str,
-    bytes: &[u8],
-    range: Option<Range>,
+    file: NamedFile,
+    needs: Option<NamedFile>,
+    more: &Additions,
 ) -> Result<Answer, DepotError>
-    requires few { length document.now ≤ MAX_CONFIG_BYTES }
-    requires short { length held.now ≤ MAX_CONFIG_BYTES }
-    ensures is { IfOk result (IsOfBoth name.now document.now (option_map (λ n. n.now) needs.entry) held.now ledger.now range bytes.now) }
+    requires few { length file.bytes.now ≤ MAX_CONFIG_BYTES }
+    requires short { IfSome needs (λ n. length n.bytes.now ≤ MAX_CONFIG_BYTES) }
+    ensures is { IfOk result (IsOfReview (IsReview (file_of file.entry) (option_map file_of needs.entry) more.now)) }
     ensures memory { result ≢ Err DepotError.Failed }
 {
-    match review_with(alloc, name, document, needs, held, ledger, bytes, range) {
+    match review_of(alloc, file, needs, more) {
+        Ok(review) => Ok(Answer {
+            bytes: review.bytes,
+            ended: ended_of(review.ending),
+        }),
+        Err(_) => Err(DepotError::NoMemory),
+    }
+}
+
+/// The page with a ledger, or why there is none.
+fn of_both(
+    alloc: Global,
+    file: NamedFile,
+    needs: Option<NamedFile>,
+    ledger: NamedFile,
+    range: Option<Range>,
+    more: &Additions,
+) -> Result<Answer, DepotError>
+    requires few { length file.bytes.now ≤ MAX_CONFIG_BYTES }
+    requires short { IfSome needs (λ n. length n.bytes.now ≤ MAX_CONFIG_BYTES) }
+    ensures is { IfOk result (IsOfAll (file_of file.entry) (option_map file_of needs.entry) (Some (file_of ledger.entry)) range more.now) }
+    ensures memory { result ≢ Err DepotError.Failed }
+{
+    match review_with(alloc, file, needs, ledger, range, more) {
         Ok(review) => Ok(Answer {
             bytes: review.bytes,
             ended: ended_of(review.ending),
@@ -117,7 +141,7 @@ fn of_both(
             words_answer(
                 alloc,
                 "ledger: of another configuration\n",
-                Answered::Ledger,
+                Answered::Refused,
             )
         }
         Err(RunFault::NoMemory) => Err(DepotError::NoMemory),
@@ -126,202 +150,117 @@ fn of_both(
 
 fn of_all(
     alloc: Global,
-    name: &str,
-    document: &[u8],
-    needs: Option<&str>,
-    held: &[u8],
-    ledger: Option<&str>,
-    bytes: &[u8],
+    file: NamedFile,
+    needs: Option<NamedFile>,
+    ledger: Option<NamedFile>,
     range: Option<Range>,
+    more: &Additions,
 ) -> Result<Answer, DepotError>
-    requires few { length document.now ≤ MAX_CONFIG_BYTES }
-    requires short { length held.now ≤ MAX_CONFIG_BYTES }
-    ensures is { IfOk result (λ a. IsOfAll name.now document.now (option_map (λ n. n.now) needs.entry) held.now
-        (option_map (λ n. n.now) ledger.entry) range a bytes.now) }
+    requires few { length file.bytes.now ≤ MAX_CONFIG_BYTES }
+    requires short { IfSome needs (λ n. length n.bytes.now ≤ MAX_CONFIG_BYTES) }
+    ensures is { IfOk result (IsOfAll (file_of file.entry) (option_map file_of needs.entry) (option_map file_of ledger.entry) range more.now) }
     ensures memory { result ≢ Err DepotError.Failed }
 {
     match ledger {
-        Some(ledger) => of_both(alloc, name, document, needs, held, ledger, bytes, range),
-        None => of_document(alloc, name, document, needs, held),
+        Some(ledger) => of_both(alloc, file, needs, ledger, range, more),
+        None => of_document(alloc, file, needs, more),
     }
 }
 
-fn of_ledger(
-    alloc: Global,
-    name: &str,
-    document: &[u8],
-    needs: Option<&str>,
-    held: &[u8],
-    ledger: Option<&str>,
-    bytes: &[u8],
-    range: Option<Range>,
-) -> Result<Answer, DepotError>
-    requires few { length document.now ≤ MAX_CONFIG_BYTES }
-    requires short { length held.now ≤ MAX_CONFIG_BYTES }
-    ensures is { IfOk result (λ a. IsOfLedger name.now document.now (option_map (λ n. n.now) needs.entry) held.now
-        (option_map (λ n. n.now) ledger.entry) range a bytes.now) }
+fn program_text(alloc: Global, process: u32) -> Result<String, AllocError>
+    ensures { IfOk result (λ s. string_bytes s ≡ program_text process) }
+{
+    format!(in alloc; "program: process {process} longer than 65536 bytes\n")
+}
+
+fn program_answer(alloc: Global, process: u32) -> Result<Answer, DepotError>
+    ensures is { IfOk result (Says (program_text process) Answered.Refused) }
     ensures memory { result ≢ Err DepotError.Failed }
 {
-    if bytes.len() > MAX_LEDGER_BYTES as usize {
-        words_answer(
-            alloc,
-            "ledger: longer than 1073741824 bytes\n",
-            Answered::Ledger,
-        )
-    } else {
-        of_all(alloc, name, document, needs, held, ledger, bytes, range)
-    }
+    let bytes = program_text(alloc, process)?.into_bytes();
+    let ended = Answered::Refused;
+    Ok(Answer { bytes, ended })
 }
 
-fn of_needs(
-    alloc: Global,
-    name: &str,
-    document: &[u8],
-    needs: Option<&str>,
-    held: &[u8],
-    ledger: Option<&str>,
-    bytes: &[u8],
-    range: Option<Range>,
-) -> Result<Answer, DepotError>
-    requires few { length document.now ≤ MAX_CONFIG_BYTES }
-    ensures is { IfOk result (λ a. IsOfNeeds name.now document.now (option_map (λ n. n.now) needs.entry)
-        (option_map (λ n. n.now) ledger.entry) range a bytes.now held.now) }
+/// What the files come to, with more that the page has.
+fn of_more(alloc: Global, asked: Asked, held: &Held, more: &Additions) -> Result<Answer, DepotError>
+    requires few { length held.now.document.items ≤ MAX_CONFIG_BYTES }
+    requires short { length held.now.needs.items ≤ MAX_CONFIG_BYTES }
+    ensures is { IfOk result (IsOfMore (asking_of asked.entry) held.now.document.items held.now.needs.items held.now.ledger.items more.now) }
     ensures memory { result ≢ Err DepotError.Failed }
 {
-    if held.len() > MAX_CONFIG_BYTES as usize {
-        words_answer(alloc, "needs: longer than 65536 bytes\n", Answered::Config)
-    } else {
-        of_ledger(alloc, name, document, needs, held, ledger, bytes, range)
-    }
+    let file = NamedFile {
+        name: asked.name,
+        bytes: held.document.as_slice(),
+    };
+    let needs = named(asked.needs, held.needs.as_slice());
+    let ledger = named(asked.ledger, held.ledger.as_slice());
+    of_all(alloc, file, needs, ledger, asked.range, more)
 }
 
-fn of_files(
+/// What files come to of which none is too long.
+fn of_short<D: Depot>(
     alloc: Global,
-    name: &str,
-    document: &[u8],
-    needs: Option<&str>,
-    held: &[u8],
-    ledger: Option<&str>,
-    bytes: &[u8],
-    range: Option<Range>,
-) -> Result<Answer, DepotError>
-    ensures is { IfOk result (λ a. IsOfFiles name.now (option_map (λ n. n.now) needs.entry) (option_map (λ n. n.now) ledger.entry)
-        range a document.now held.now bytes.now) }
-    ensures memory { result ≢ Err DepotError.Failed }
-{
-    if document.len() > MAX_CONFIG_BYTES as usize {
-        words_answer(alloc, "config: longer than 65536 bytes\n", Answered::Config)
-    } else {
-        of_needs(alloc, name, document, needs, held, ledger, bytes, range)
-    }
-}
-
-/// What the files hold that are asked for, each up to one byte more than it may have.
-#[derive(Drop)]
-pub(crate) struct Held {
-    pub document: Vec<u8>,
-    pub needs: Vec<u8>,
-    pub ledger: Vec<u8>,
-}
-
-/// What the file of this name holds, and nothing where none is named.
-fn read_some<D: Depot>(
-    alloc: Global,
-    name: Option<&str>,
-    limit: u32,
+    asked: Asked,
+    held: &Held,
     depot: &mut D,
-) -> Result<Vec<u8>, DepotError>
-    requires { (D.seen depot.old).given < 2 ^ 63 }
-    ensures held { IfSome (D.seen depot.old).files
-        (λ at. IfOk result (λ v. IsReadAt at (option_map (λ n. n.now) name.entry) limit v.items)) }
-    ensures given { (D.seen depot.new).given ≤ (D.seen depot.old).given + (limit + 1) }
+) -> Result<Answer, DepotError>
+    requires few { length held.now.document.items ≤ MAX_CONFIG_BYTES }
+    requires short { length held.now.needs.items ≤ MAX_CONFIG_BYTES }
+    requires given { (D.seen depot.old).given < 2 ^ 63 }
+    ensures is { IfSome (D.seen depot.old).files (λ at. IfOk result
+        (IsOfShort at (asking_of asked.entry) held.now.document.items held.now.needs.items held.now.ledger.items)) }
     ensures cause { IsErrOf result DepotError.Failed → Rises (D.seen depot.old).faults (D.seen depot.new).faults }
     ensures stays { result ≢ Err DepotError.Failed → (D.seen depot.new).faults ≡ (D.seen depot.old).faults }
     ensures same { (D.seen depot.new).files ≡ (D.seen depot.old).files }
 {
-    match name {
-        Some(name) => depot.read(alloc, name, limit),
-        None => Ok(Vec::new(alloc)),
+    match more_of(
+        alloc,
+        asked.name,
+        held.document.as_slice(),
+        asked.repeats,
+        depot,
+    ) {
+        Ok(more) => of_more(alloc, asked, held, &more),
+        Err(LoadFault::TooLong(process)) => program_answer(alloc, process),
+        Err(LoadFault::Depot) => Err(DepotError::Failed),
+        Err(_) => Err(DepotError::NoMemory),
     }
 }
 
-fn read_files<D: Depot>(
+fn of_files<D: Depot>(
     alloc: Global,
-    name: &str,
-    needs: Option<&str>,
-    ledger: Option<&str>,
+    asked: Asked,
+    held: &Held,
     depot: &mut D,
-) -> Result<Held, DepotError>
-    requires { (D.seen depot.old).given < 2 ^ 62 }
-    ensures held { IfSome (D.seen depot.old).files
-        (λ at. IfOk result (AreRead at name.now (option_map (λ n. n.now) needs.entry) (option_map (λ n. n.now) ledger.entry))) }
+) -> Result<Answer, DepotError>
+    requires given { (D.seen depot.old).given < 2 ^ 63 }
+    ensures is { IfSome (D.seen depot.old).files (λ at. IfOk result
+        (λ a. IsOfFiles at (asking_of asked.entry) a held.now.document.items held.now.needs.items held.now.ledger.items)) }
     ensures cause { IsErrOf result DepotError.Failed → Rises (D.seen depot.old).faults (D.seen depot.new).faults }
     ensures stays { result ≢ Err DepotError.Failed → (D.seen depot.new).faults ≡ (D.seen depot.old).faults }
     ensures same { (D.seen depot.new).files ≡ (D.seen depot.old).files }
 {
-    let document = read_some(alloc, Some(name), MAX_CONFIG_BYTES, depot)?;
-    let needs = read_some(alloc, needs, MAX_CONFIG_BYTES, depot)?;
-    let ledger = read_some(alloc, ledger, MAX_LEDGER_BYTES, depot)?;
-    Ok(Held {
-        document,
-        needs,
-        ledger,
-    })
+    match first_long(
+        held.document.as_slice(),
+        held.needs.as_slice(),
+        held.ledger.as_slice(),
+    ) {
+        Some(long) => long_answer(alloc, long),
+        None => of_short(alloc, asked, held, depot),
+    }
 }
 
 /// What the files come to that are asked for.
-fn of_asked<D: Depot>(
-    alloc: Global,
-    name: &str,
-    needs: Option<&str>,
-    ledger: Option<&str>,
-    range: Option<Range>,
-    depot: &mut D,
-) -> Result<Answer, DepotError>
+fn of_asked<D: Depot>(alloc: Global, asked: Asked, depot: &mut D) -> Result<Answer, DepotError>
     requires { (D.seen depot.old).given < 2 ^ 62 }
-    ensures is { IfSome (D.seen depot.old).files (λ at. IfOk result
-        (IsAsked at name.now (option_map (λ n. n.now) needs.entry) (option_map (λ n. n.now) ledger.entry) range)) }
+    ensures is { IfSome (D.seen depot.old).files (λ at. IfOk result (IsAsked at (asking_of asked.entry))) }
     ensures cause { IsErrOf result DepotError.Failed → Rises (D.seen depot.old).faults (D.seen depot.new).faults }
     ensures stays { result ≢ Err DepotError.Failed → (D.seen depot.new).faults ≡ (D.seen depot.old).faults }
     ensures same { (D.seen depot.new).files ≡ (D.seen depot.old).files }
 {
-    let held = read_files(alloc, name, needs, ledger, depot)?;
-    of_files(
-        alloc,
-        name,
-        held.document.as_slice(),
-        needs,
-        held.needs.as_slice(),
-        ledger,
-        held.ledger.as_slice(),
-        range,
-    )
-}
-
-/// What is asked for comes to this, where a file of this name is asked for.
-fn answer_of<D: Depot>(
-    alloc: Global,
-    name: Option<&str>,
-    needs: Option<&str>,
-    ledger: Option<&str>,
-    range: Option<Range>,
-    depot: &mut D,
-) -> Result<Answer, DepotError>
-    requires { (D.seen depot.old).given < 2 ^ 62 }
-    ensures is { IfSome (D.seen depot.old).files (λ at. IfOk result (IsAnswerTo at (option_map (λ n. n.now) name.entry)
-        (option_map (λ n. n.now) needs.entry) (option_map (λ n. n.now) ledger.entry) range)) }
-    ensures cause { IsErrOf result DepotError.Failed → Rises (D.seen depot.old).faults (D.seen depot.new).faults }
-    ensures stays { result ≢ Err DepotError.Failed → (D.seen depot.new).faults ≡ (D.seen depot.old).faults }
-    ensures same { (D.seen depot.new).files ≡ (D.seen depot.old).files }
-{
-    match name {
-        Some(name) => of_asked(alloc, name, needs, ledger, range, depot),
-        None => words_answer(
-            alloc,
-            "usage: deosk-show page FILE [LEDGER [FROM TO]] [--needs NEEDS]\n",
-            Answered::Usage,
-        ),
-    }
+    let held = read_files(alloc, asked, depot)?;
+    of_files(alloc, asked, &held, depot)
 }
 
 /// What the words and the files come to, or why they come to nothing: a read failed, or want of memory.
@@ -336,12 +275,12 @@ pub(crate) fn answer_to<D: Depot>(
     ensures stays { result ≢ Err DepotError.Failed → (D.seen depot.new).faults ≡ (D.seen depot.old).faults }
     ensures same { (D.seen depot.new).files ≡ (D.seen depot.old).files }
 {
-    answer_of(
-        alloc,
-        asked(words),
-        needs_asked(words),
-        ledger_asked(words),
-        range_asked(words),
-        depot,
-    )
+    match asked_by(words) {
+        Some(asked) => of_asked(alloc, asked, depot),
+        None => words_answer(
+            alloc,
+            "usage: deosk-show page FILE [LEDGER [FROM TO]] [--needs NEEDS] [--repeats TICKS]\n",
+            Answered::Usage,
+        ),
+    }
 }

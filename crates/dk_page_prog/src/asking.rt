@@ -1,9 +1,32 @@
 //! What the words ask for.
 ghost use Rattle.std.specs.Prelude.{◌≡◌, map, option_map, string_bytes};
-ghost use Rattle.dk_page_prog.specs.Asking.{are_both, asked, is_either, is_name, is_needs, is_page, is_range, ledger_asked, may_follow, needs_asked, range_asked, range_of};
+ghost use Rattle.dk_page_prog.specs.Asking.{asked_by, asking_of, is_name, is_needs, is_page, of_name, range_of, repeats_of, with_ledger, with_needs, with_range, with_repeats};
 
 use crate::numbers::ticks_in;
 use dk_review::Range;
+
+/// What is asked for: the page of the file of this name, with what is said in the files of needs and of a ledger, the range of
+/// its picture, and what repeats in so many ticks, where they are named.
+#[derive(Clone, Copy)]
+pub(crate) struct Asked<'a> {
+    pub name: &'a str,
+    pub needs: Option<&'a str>,
+    pub ledger: Option<&'a str>,
+    pub range: Option<Range>,
+    pub repeats: Option<u32>,
+}
+
+fn of_name<'a>(name: &'a str) -> Asked<'a>
+    ensures { asking_of result ≡ of_name name.now }
+{
+    Asked {
+        name,
+        needs: None,
+        ledger: None,
+        range: None,
+        repeats: None,
+    }
+}
 
 /// Whether the word isn't empty, and doesn't begin as a flag does.
 fn is_name(word: &[u8]) -> bool
@@ -35,12 +58,6 @@ fn range_of(from: &str, to: &str) -> Option<Range>
     }
 }
 
-fn is_range(from: &str, to: &str) -> bool
-    ensures { result ≡ is_range from.now to.now }
-{
-    range_of(from, to).is_some()
-}
-
 /// Whether these words name a file of needs.
 fn is_needs(flag: &str, needs: &str) -> bool
     ensures { result ≡ is_needs flag.now needs.now }
@@ -48,87 +65,91 @@ fn is_needs(flag: &str, needs: &str) -> bool
     flag == "--needs" && is_name(needs.as_bytes())
 }
 
-/// Whether these words name a range, or a file of needs.
-#[tactic(auto, unfolding(crate::specs::Asking::is_either))]
-fn is_either(first: &str, second: &str) -> bool
-    ensures { result ≡ is_either first.now second.now }
+/// The ticks that these words ask for.
+fn repeats_of(flag: &str, ticks: &str) -> Option<u32>
+    ensures { result ≡ repeats_of flag.now ticks.now }
 {
-    is_range(first, second) || is_needs(first, second)
+    if flag == "--repeats" {
+        ticks_in(ticks)
+    } else {
+        None
+    }
 }
 
-/// Whether these words are a range and a file of needs.
-#[tactic(auto, unfolding(crate::specs::Asking::are_both))]
-fn are_both(from: &str, to: &str, flag: &str, needs: &str) -> bool
-    ensures { result ≡ are_both from.now to.now flag.now needs.now }
-{
-    is_range(from, to) && is_needs(flag, needs)
-}
-
-/// Whether these words may stand behind the name of the file.
-#[tactic(auto, unfolding(crate::specs::Asking::may_follow))]
-fn may_follow(rest: &[String]) -> bool
-    ensures { result ≡ may_follow (map string_bytes rest.now) }
+/// What is asked for by words that stand behind `[LEDGER [FROM TO]] [--needs NEEDS]`.
+#[tactic(auto, unfolding(crate::specs::Asking::with_repeats))]
+fn with_repeats<'a>(asked: Asked<'a>, rest: &'a [String]) -> Option<Asked<'a>>
+    ensures { option_map asking_of result ≡ with_repeats (asking_of asked.entry) (map string_bytes rest.now) }
 {
     match rest {
-        [] => true,
-        [ledger] => is_name(ledger.as_bytes()),
-        [flag, needs] => is_needs(flag.as_str(), needs.as_str()),
-        [ledger, first, second] => {
-            is_name(ledger.as_bytes()) && is_either(first.as_str(), second.as_str())
-        }
-        [ledger, from, to, flag, needs] => {
-            is_name(ledger.as_bytes())
-                && are_both(from.as_str(), to.as_str(), flag.as_str(), needs.as_str())
-        }
-        _ => false,
-    }
-}
-
-/// The name of the file whose page the words ask for.
-pub(crate) fn asked(words: &[String]) -> Option<&str>
-    ensures { option_map (λ n. n.now) result ≡ asked (map string_bytes words.now) }
-{
-    match words {
-        [_, verb, name, rest @ ..] if is_page(verb.as_str(), name.as_str()) && may_follow(rest) => {
-            Some(name.as_str())
+        [] => Some(asked),
+        [_] => None,
+        [flag, ticks] => {
+            let ticks = repeats_of(flag.as_str(), ticks.as_str())?;
+            Some(Asked {
+                repeats: Some(ticks),
+                ..asked
+            })
         }
         _ => None,
     }
 }
 
-/// The name of the ledger, where a page is asked for and the words name one.
-pub(crate) fn ledger_asked(words: &[String]) -> Option<&str>
-    ensures { option_map (λ n. n.now) result ≡ ledger_asked (map string_bytes words.now) }
+/// By words that stand behind `[LEDGER [FROM TO]]`.
+#[tactic(auto, unfolding(crate::specs::Asking::with_needs))]
+fn with_needs<'a>(asked: Asked<'a>, rest: &'a [String]) -> Option<Asked<'a>>
+    ensures { option_map asking_of result ≡ with_needs (asking_of asked.entry) (map string_bytes rest.now) }
 {
-    match words {
-        [_, _, _, ledger] => Some(ledger.as_str()),
-        [_, _, _, ledger, _, _] => Some(ledger.as_str()),
-        [_, _, _, ledger, _, _, _, _] => Some(ledger.as_str()),
-        _ => None,
-    }
-}
-
-/// The range of the picture, where a page is asked for and the words name one.
-pub(crate) fn range_asked(words: &[String]) -> Option<Range>
-    ensures { result ≡ range_asked (map string_bytes words.now) }
-{
-    match words {
-        [_, _, _, _, from, to] => range_of(from.as_str(), to.as_str()),
-        [_, _, _, _, from, to, _, _] => range_of(from.as_str(), to.as_str()),
-        _ => None,
-    }
-}
-
-/// The name of the file of needs, where a page is asked for and the words name one.
-pub(crate) fn needs_asked(words: &[String]) -> Option<&str>
-    ensures { option_map (λ n. n.now) result ≡ needs_asked (map string_bytes words.now) }
-{
-    match words {
-        [_, _, _, _, needs] => Some(needs.as_str()),
-        [_, _, _, _, flag, needs] if is_needs(flag.as_str(), needs.as_str()) => {
-            Some(needs.as_str())
+    match rest {
+        [flag, needs, behind @ ..] if is_needs(flag.as_str(), needs.as_str()) => {
+            let needs = Some(needs.as_str());
+            with_repeats(Asked { needs, ..asked }, behind)
         }
-        [_, _, _, _, _, _, _, needs] => Some(needs.as_str()),
+        _ => with_repeats(asked, rest),
+    }
+}
+
+/// By words that stand behind LEDGER.
+#[tactic(auto, unfolding(crate::specs::Asking::with_range))]
+fn with_range<'a>(asked: Asked<'a>, rest: &'a [String]) -> Option<Asked<'a>>
+    ensures { option_map asking_of result ≡ with_range (asking_of asked.entry) (map string_bytes rest.now) }
+{
+    match rest {
+        [from, to, behind @ ..] => match range_of(from.as_str(), to.as_str()) {
+            Some(range) => {
+                let range = Some(range);
+                with_needs(Asked { range, ..asked }, behind)
+            }
+            None => with_needs(asked, rest),
+        },
+        _ => with_needs(asked, rest),
+    }
+}
+
+/// By words that stand behind the name of the file.
+#[tactic(auto, unfolding(crate::specs::Asking::with_ledger))]
+fn with_ledger<'a>(asked: Asked<'a>, rest: &'a [String]) -> Option<Asked<'a>>
+    ensures { option_map asking_of result ≡ with_ledger (asking_of asked.entry) (map string_bytes rest.now) }
+{
+    match rest {
+        [] => Some(asked),
+        [ledger, behind @ ..] if is_name(ledger.as_bytes()) => {
+            let ledger = Some(ledger.as_str());
+            with_range(Asked { ledger, ..asked }, behind)
+        }
+        _ => with_needs(asked, rest),
+    }
+}
+
+/// What the words ask for.
+#[tactic(auto, unfolding(crate::specs::Asking::asked_by))]
+pub(crate) fn asked_by<'a>(words: &'a [String]) -> Option<Asked<'a>>
+    ensures { option_map asking_of result ≡ asked_by (map string_bytes words.now) }
+{
+    match words {
+        [_, verb, name, rest @ ..] if is_page(verb.as_str(), name.as_str()) => {
+            with_ledger(of_name(name.as_str()), rest)
+        }
         _ => None,
     }
 }

@@ -3,9 +3,11 @@
 
 mod answers;
 mod asking;
+mod files;
 mod numbers;
 mod page;
 mod program;
+mod repeating;
 mod status;
 
 use crate::program::DeoskPage;

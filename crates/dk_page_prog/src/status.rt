@@ -12,8 +12,8 @@ pub enum Answered {
     Config,
     /// The configuration isn't certified.
     Uncertified,
-    /// A need isn't met, or the ledger breaks a rule or is refused.
-    Ledger,
+    /// A need isn't met, the ledger breaks a rule, or the ledger or a program is refused.
+    Refused,
 }
 
 /// How a call of `deosk_page` ended. The numbers are those of deosk.
@@ -42,7 +42,7 @@ impl Status {
             Status::Answered(Answered::Usage) => 1,
             Status::Answered(Answered::Config) => 2,
             Status::Answered(Answered::Uncertified) => 3,
-            Status::Answered(Answered::Ledger) => 4,
+            Status::Answered(Answered::Refused) => 4,
             Status::DepotFault => 5,
             Status::SinkFault => 6,
             Status::NoMemory => 7,

@@ -59,13 +59,14 @@ pub use Rattle.dk_picture.specs.Shares.{done_by, is_done_in, is_last, is_whole, 
 pub use Rattle.dk_picture.specs.Styles.{HasOneFill, bands_text, dark, dark_fills, fills_of, light, style_text}
 pub use Rattle.dk_picture.specs.Terms.{makes, period_of}
 pub use Rattle.dk_picture.specs.Waits.{holds_at, main_of, wait_text, waits_text}
-pub use Rattle.dk_picture.specs.Windows.{begin_line, levels_text, window_at, window_count, window_text, windows_head}
+pub use Rattle.dk_picture.specs.Windows.{begin_line, begin_lines, levels_text, window_at, window_count, window_text, windows_head, windows_in, windows_text}
 pub use Rattle.dk_picture.specs.declared.frame.Frame.{Frame}
 pub use Rattle.dk_picture.specs.declared.promise.Bound.{Bound}
 pub use Rattle.dk_picture.specs.declared.reading.PictureFault.TheVariants.{TooMany}
 pub use Rattle.dk_picture.specs.declared.rows.Row.{Row}
 pub use Rattle.dk_picture.specs.declared.shares.Share.{Share}
 pub use Rattle.dk_picture.specs.declared.span.Span.{Span}
+pub use Rattle.dk_picture.specs.declared.windows.Window.{Window}
 pub use Rattle.dk_picture.specs.declared.style.TheConstants.{LEGEND, STYLE, WINDOWS_HEAD}
 pub use Rattle.dk_trace.proofs.Members.{flat-has}
 pub use Rattle.dk_trace.proofs.Windows.{count_by-cons}
@@ -82,7 +83,7 @@ pub use Rattle.dk_trace.specs.declared.Source.{Source}
 pub use Rattle.dk_trace.specs.declared.ThreadId.{ThreadId}
 pub use Rattle.dk_trace.specs.declared.Work.{Work}
 pub use Rattle.dk_window_report.specs.Windows.{did_in, is_overrun}
-pub use Rattle.std.proofs.Common.{List, [], ap, append_assoc, arith, codes, drop, eq-eqb, flat_map, inl, inr, length, length-append, length-drop, map, refl, string_bytes, subst, suc, sum_by, sym, take, zero, ℕ, ◌%◌, ◌*◌, ◌++◌, ◌+◌, ◌-◌, ◌/◌, ◌<◌, ◌∙◌, ◌∷◌, ◌≡◌, ◌≤◌, ◌⊎◌}
+pub use Rattle.std.proofs.Common.{All, List, [], ap, append_assoc, arith, codes, drop, eq-eqb, flat_map, inl, inr, length, length-append, length-drop, map, refl, string_bytes, subst, suc, sum_by, sym, take, zero, ℕ, ◌%◌, ◌*◌, ◌++◌, ◌+◌, ◌-◌, ◌/◌, ◌<◌, ◌∙◌, ◌∷◌, ◌≡◌, ◌≤◌, ◌⊎◌}
 pub use Rattle.std.proofs.Math.Nat.{add-mul, div-le_of_le-mul, div-mul-le_self, lt-div-mul-add, mul-le-mul_left, mul_comm, mul_left_comm}
 pub use Rattle.std.proofs.Math.Seq.{drop-append_seam, take-append_seam}
 pub use Rattle.std.proofs.lemmas.Bool.{eqb-false, eqb-true, le-ltb, lt-ltb, ltb-false}

@@ -1,7 +1,8 @@
 -- What is told of a main's window is what the entries of its ticks say, and the main has a row.
-use Rattle.dk_picture.proofs.Names.{ℕ, zero, suc, ◌≡◌, ◌∙◌, ◌+◌, ◌-◌, ◌*◌, ◌/◌, ◌%◌, ◌<◌, ◌≤◌, inl, ◌++◌, [], ◌∷◌, List, length, take, drop, sym, ap, subst, refl, arith, length-drop, append_assoc, Some, None, Bool, true, false, cond, count_by, replicate, reverse, option_to_list, Option, max, min, nat_le, nat_lt, ◌==◌, ◌&&◌, if◌then◌else◌, list_any, flat_map-append, ltb-false, append-nil, length-reverse, length-take-le, reverse-append, take-append-drop, IsPermutation-reverse, sum_by-IsPermutation, sum_by-append, sum_by-cons, le-div, div-le_of_le-mul, mul_comm, drop-append_seam, take-append_seam, ltb-true, Configuration, period, ThreadId, Label, Event, Entry, is_budget_of, quiet, window, job_from, past_at, Has, Thread, flat-has, count_by-cons, LedgerLine, Heading, IsReadableHeading, entries_of, lines_of, groups, part_of_line, slice, whole_slice, Share, Span, IsTold, has_pixels, is_seen, level_of, rows_of, takes, Scene, is_whole, main_of, share_in, share_of, shares, shares_of, shares_of_process, ticks_within, used_in, used_weight, period_of, window_at, window_count}
+use Rattle.dk_picture.proofs.Names.{ℕ, zero, suc, ◌≡◌, ◌∙◌, ◌+◌, ◌-◌, ◌*◌, ◌/◌, ◌%◌, ◌<◌, ◌≤◌, inl, ◌++◌, [], ◌∷◌, List, length, take, drop, sym, ap, subst, refl, arith, length-drop, append_assoc, Some, None, Bool, true, false, cond, count_by, replicate, reverse, option_to_list, Option, max, min, nat_le, nat_lt, ◌==◌, ◌&&◌, if◌then◌else◌, list_any, flat_map-append, ltb-false, append-nil, length-reverse, length-take-le, reverse-append, take-append-drop, IsPermutation-reverse, sum_by-IsPermutation, sum_by-append, sum_by-cons, le-div, div-le_of_le-mul, mul_comm, drop-append_seam, take-append_seam, ltb-true, Configuration, period, ThreadId, Label, Event, Entry, is_budget_of, quiet, window, job_from, past_at, Has, Thread, flat-has, count_by-cons, LedgerLine, Heading, IsReadableHeading, entries_of, lines_of, groups, part_of_line, slice, whole_slice, Share, Span, IsTold, has_pixels, is_seen, level_of, rows_of, takes, Scene, is_whole, main_of, share_in, share_of, shares, shares_of, shares_of_process, ticks_within, used_in, used_weight, period_of, Window, window_at, window_count, below}
 use Rattle.std.specs.Prelude.{flat_map, sum_by}
 use Rattle.dk_picture.proofs.Covered.{thread_covered}
+use Rattle.dk_picture.proofs.Adding.{flat_map-flat_map}
 
 abbrev pub first_in : ℕ → LedgerLine → ℕ
 first_in from l = max l.start from
@@ -196,8 +197,13 @@ module _ (h : Heading) (s : Span) (c : Scene) (p w : ℕ) where
       let low : s.from / ticks ≤ w = div-le_of_le-mul ticks (omega (arith, is.begins, swap)) in
       let high = le-div w (s.to - 1) ticks is.some (omega (arith, is.ends, is.some)) in
       let same : w ≡ s.from / ticks + (w - s.from / ticks) = omega (arith, low) in
-      flat-has (λ i. share_of h s c p (window_at (level_of h p) ticks (s.from / ticks + i))) 0 (window_count s ticks) (w - s.from / ticks) told (omega arith) (omega (arith, low, high))
-      (subst (λ k. Has (share_of h s c p (window_at (level_of h p) ticks k)) told) same (one_window is))
+      let each : ℕ → List Window = λ i. window_at (level_of h p) ticks (s.from / ticks + i) ∷ [] in
+      let shown : ℕ → List Share = λ i. flat_map (share_of h s c p) (each i) in
+      let at : Has (share_of h s c p (window_at (level_of h p) ticks (s.from / ticks + (w - s.from / ticks)))) told =
+      subst (λ k. Has (share_of h s c p (window_at (level_of h p) ticks k)) told) same (one_window is) in
+      subst (λ ds. Has ds told) (flat_map-flat_map (share_of h s c p) each (below (window_count s ticks)))
+      (flat-has shown 0 (window_count s ticks) (w - s.from / ticks) told (omega arith) (omega (arith, low, high))
+      (subst (λ ds. Has ds told) (sym (append-nil (share_of h s c p (window_at (level_of h p) ticks (s.from / ticks + (w - s.from / ticks)))))) at))
 
   pub window_told : p < length h.processes → IsTold h s c p w → Has (shares h s c) told
   window_told inside is =

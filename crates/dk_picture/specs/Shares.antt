@@ -1,5 +1,5 @@
 -- What each main used of its budget, in each of its windows that lies in the range, and whether it overran it.
-use Rattle.std.specs.Prelude.{ℕ, ◌+◌, ◌-◌, ◌/◌, ◌++◌, ◌==◌, ◌&&◌, ◌||◌, not, [], ◌∷◌, Bool, false, List, codes, decimal, flat_map, if◌then◌else◌, length, max, min, nat_le, nat_lt, sum_by}
+use Rattle.std.specs.Prelude.{ℕ, ◌+◌, ◌-◌, ◌++◌, ◌==◌, ◌&&◌, ◌||◌, not, [], ◌∷◌, Bool, false, List, codes, decimal, flat_map, if◌then◌else◌, length, max, min, nat_le, nat_lt, sum_by}
 use Rattle.std.specs.List.{list_any}
 use Rattle.std.specs.Option.{option_map_or}
 use Rattle.dk_config.specs.Sums.{below}
@@ -24,7 +24,7 @@ use Rattle.dk_picture.specs.Scenes.{Scene}
 use Rattle.dk_picture.specs.Terms.{budget_of, period_of}
 pub use Rattle.dk_picture.specs.Waits.{main_of}
 use Rattle.dk_picture.specs.Waits.{waits_text}
-use Rattle.dk_picture.specs.Windows.{window_at, window_count}
+use Rattle.dk_picture.specs.Windows.{windows_in}
 
 -- the ticks of a group in the window from tick `first` up to before tick `end`
 abbrev pub ticks_within : ℕ → ℕ → LedgerLine → ℕ
@@ -84,8 +84,7 @@ share_of h s c p w = if is_whole s w then share_in h c p w ∷ [] else []
 
 -- of the windows with a tick in the range
 abbrev pub shares_of : Heading → Span → Scene → ℕ → ℕ → ℕ → List Share
-shares_of h s c p j period =
-    flat_map (λ i. share_of h s c p (window_at j period (s.from / period + i))) (below (window_count s period))
+shares_of h s c p j period = flat_map (share_of h s c p) (windows_in s j period)
 
 -- of a main with a tick, whose windows have 26 pixels
 abbrev pub shares_of_main : Heading → Span → Scene → ℕ → ℕ → ℕ → List Share

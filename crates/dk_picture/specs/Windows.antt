@@ -44,13 +44,15 @@ window_text s w = window_rect s w ++ begin_text s w
 abbrev pub window_at : ℕ → ℕ → ℕ → Window
 window_at j period w = record { level = j; number = w; first = w * period; end = w * period + period }
 
--- how many have a tick in the range
+-- how many have a tick in the range, and which
 abbrev pub window_count : Span → ℕ → ℕ
 window_count s period = ((s.to - 1) / period + 1) - s.from / period
 
+abbrev pub windows_in : Span → ℕ → ℕ → List Window
+windows_in s j period = flat_map (λ i. window_at j period (s.from / period + i) ∷ []) (below (window_count s period))
+
 abbrev pub windows_text : Span → ℕ → ℕ → List ℕ
-windows_text s j period = flat_map (λ i. window_text s (window_at j period (s.from / period + i)))
-    (below (window_count s period))
+windows_text s j period = flat_map (window_text s) (windows_in s j period)
 
 -- where a window begins in the range, a line across a row's bars
 abbrev pub begin_line : Span → ℕ → Window → List ℕ
@@ -59,8 +61,7 @@ begin_line s top w =
     else rect (codes "w") (record { x = place_of s w.first; y = top - 5; width = 1; height = 23 })
 
 abbrev pub begin_lines : Span → ℕ → ℕ → ℕ → List ℕ
-begin_lines s top j period = flat_map (λ i. begin_line s top (window_at j period (s.from / period + i)))
-    (below (window_count s period))
+begin_lines s top j period = flat_map (begin_line s top) (windows_in s j period)
 
 -- they stand where a window has 12 pixels
 abbrev pub own_windows : Span → ℕ → ℕ → ℕ → List ℕ

@@ -1,6 +1,6 @@
 //! The words that tell what each main used of its budget, in each of its windows that lies in the range.
-ghost use Rattle.std.specs.Prelude.{◌≡◌, ◌<◌, ◌≤◌, ◌+◌, ◌^◌, ◌++◌, IfOk, OnOk, length, string_bytes};
-ghost use Rattle.dk_picture.specs.Shares.{done_line, share_class, share_line, share_of, share_text, share_words, shares, shares_of, shares_of_process, shares_text};
+ghost use Rattle.std.specs.Prelude.{◌≡◌, ◌≤◌, ◌+◌, ◌^◌, ◌++◌, All, IfOk, OnOk, flat_map, length, string_bytes};
+ghost use Rattle.dk_picture.specs.Shares.{done_line, share_class, share_line, share_of, share_text, share_words, shares, shares_of_process, shares_text};
 
 use crate::drawing::Drawing;
 use crate::elements::{Place, push_line, rect, words_at};
@@ -12,7 +12,7 @@ use crate::shares::{Share, is_whole, share_in};
 use crate::span::Span;
 use crate::terms::period_of;
 use crate::waits::add_waits;
-use crate::windows::{Window, window_at, window_count};
+use crate::windows::{Window, windows_in};
 use dk_ledger::Header;
 use std::alloc::{AllocError, Global};
 
@@ -127,8 +127,8 @@ fn share_of(
     }
 }
 
-/// Adds what the main used in its windows.
-fn add_windows(
+/// Adds what the main used in these windows.
+fn add_used(
     alloc: Global,
     text: &mut String,
     header: &Header,
@@ -136,17 +136,14 @@ fn add_windows(
     span: Span,
     drawing: &Drawing,
     process: u8,
-    level: u8,
-    period: u32,
+    windows: &[Window],
 ) -> Result<(), AllocError>
-    requires { 0 < period }
+    requires { All (λ w. w.first + 2 ^ 32 ≤ 2 ^ 64) windows.now }
     ensures { OnOk result (string_bytes text.new ≡ string_bytes text.old
-        ++ shares_text header.now frame span drawing.now (shares_of header.now span drawing.now process level period)) }
+        ++ shares_text header.now frame span drawing.now (flat_map (share_of header.now span drawing.now process) windows.now)) }
 {
-    let first = span.from / period;
-    for number in 0..window_count(span, period) {
-        let window = window_at(level, period, first + number);
-        let line = share_of(alloc, header, frame, span, drawing, process, window)?;
+    for window in windows {
+        let line = share_of(alloc, header, frame, span, drawing, process, *window)?;
         push_line(text, line)?;
     }
     Ok(())
@@ -171,8 +168,16 @@ fn add_main(
         && period > 0
         && span.has_pixels(period as u64, LEAST_PIXELS)
     {
-        add_windows(
-            alloc, text, header, frame, span, drawing, process, level, period,
+        let windows = windows_in(alloc, span, level, period)?;
+        add_used(
+            alloc,
+            text,
+            header,
+            frame,
+            span,
+            drawing,
+            process,
+            windows.as_slice(),
         )
     } else {
         Ok(())

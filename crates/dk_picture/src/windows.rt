@@ -1,6 +1,6 @@
 //! The windows of each level, as a ruler above the rows and as lines across the bars of rows.
-ghost use Rattle.std.specs.Prelude.{◌≡◌, ◌≤◌, ◌<◌, ◌+◌, ◌/◌, ◌^◌, ◌++◌, IfOk, OnOk, string_bytes};
-ghost use Rattle.dk_picture.specs.Windows.{begin_line, begin_lines, begin_text, number_text, own_windows, stripe, window_at, window_count, window_rect, window_text, window_title, window_width, windows_text};
+ghost use Rattle.std.specs.Prelude.{◌≡◌, ◌≤◌, ◌<◌, ◌+◌, ◌/◌, ◌^◌, ◌++◌, All, IfOk, OnOk, string_bytes};
+ghost use Rattle.dk_picture.specs.Windows.{begin_line, begin_lines, begin_text, number_text, own_windows, stripe, window_at, window_count, window_rect, window_text, window_title, window_width, windows_in, windows_text};
 
 use crate::elements::{Place, number_at, push_line, rect, titled_rect};
 use crate::frame::level_top;
@@ -96,7 +96,7 @@ fn window_text(alloc: Global, span: Span, window: Window) -> Result<String, Allo
 }
 
 /// A window by its number.
-pub(crate) fn window_at(level: u8, period: u32, number: u32) -> Window
+fn window_at(level: u8, period: u32, number: u32) -> Window
     ensures value { result ≡ window_at level period number }
     ensures small { result.first + 2 ^ 32 ≤ 2 ^ 64 }
 {
@@ -107,6 +107,25 @@ pub(crate) fn window_at(level: u8, period: u32, number: u32) -> Window
         first,
         end: first + period as u64,
     }
+}
+
+/// The windows of the level that have a tick in the range.
+pub(crate) fn windows_in(
+    alloc: Global,
+    span: Span,
+    level: u8,
+    period: u32,
+) -> Result<Vec<Window>, AllocError>
+    requires { 0 < period }
+    ensures windows { IfOk result (λ v. v.items ≡ windows_in span level period) }
+    ensures small { IfOk result (λ v. All (λ w. w.first + 2 ^ 32 ≤ 2 ^ 64) v.items) }
+{
+    let first = span.from / period;
+    let mut windows = Vec::new(alloc);
+    for number in 0..window_count(span, period) {
+        windows.push(window_at(level, period, first + number))?;
+    }
+    Ok(windows)
 }
 
 /// Adds the windows of the level that have a tick in the range.
@@ -120,9 +139,9 @@ pub(crate) fn add_windows(
     requires { 0 < period }
     ensures { OnOk result (string_bytes text.new ≡ string_bytes text.old ++ windows_text span level period) }
 {
-    let first = span.from / period;
-    for number in 0..window_count(span, period) {
-        let line = window_text(alloc, span, window_at(level, period, first + number))?;
+    let windows = windows_in(alloc, span, level, period)?;
+    for window in windows.as_slice() {
+        let line = window_text(alloc, span, *window)?;
         push_line(text, line)?;
     }
     Ok(())
@@ -157,9 +176,9 @@ fn add_begin_lines(
     requires top { 5 ≤ top }
     ensures { OnOk result (string_bytes text.new ≡ string_bytes text.old ++ begin_lines span top level period) }
 {
-    let first = span.from / period;
-    for number in 0..window_count(span, period) {
-        let line = begin_line(alloc, span, top, window_at(level, period, first + number))?;
+    let windows = windows_in(alloc, span, level, period)?;
+    for window in windows.as_slice() {
+        let line = begin_line(alloc, span, top, *window)?;
         push_line(text, line)?;
     }
     Ok(())
@@ -185,7 +204,7 @@ pub(crate) fn add_own_windows(
 }
 
 /// How many windows have a tick in the range.
-pub(crate) fn window_count(span: Span, period: u32) -> u32
+fn window_count(span: Span, period: u32) -> u32
     requires { 0 < period }
     ensures value { result ≡ window_count span period }
     ensures few { result + span.from / period < 2 ^ 32 }

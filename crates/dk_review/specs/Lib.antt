@@ -1,3 +1,5 @@
+pub mod Chains
+pub mod Files
 pub mod Needs
 pub mod Reviews
 pub mod Runs

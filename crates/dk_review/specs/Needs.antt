@@ -1,4 +1,4 @@
--- What is told of a document of needs.
+-- What is told of a document of needs, and of the chains that they name.
 use Rattle.std.specs.Prelude.{ℕ, ◌≡◌, Bool, true, false, List, [], codes, Option, Some, None, Result, Ok, Err}
 use Rattle.std.specs.List.{list_any}
 use Rattle.dk_config.specs.Configuration.{Configuration}
@@ -20,10 +20,14 @@ use Rattle.dk_needs_text.specs.Csv.{needs_csv}
 use Rattle.dk_needs_text.specs.Names.{process_names}
 use Rattle.dk_needs_text.specs.Text.{needs_text}
 use Rattle.dk_needs_text.specs.Unknown.{unknown_page}
-use Rattle.dk_page.specs.Needs.{IsAddedByNeeds}
+use Rattle.dk_page.specs.More.{IsAddedByChains}
+use Rattle.dk_page.specs.Needs.{IsAddedByNeeds, IsBoth}
 use Rattle.dk_page.specs.declared.needing.Standing.{Standing}
 use Rattle.dk_page.specs.declared.needing.Wants.{Wants}
 use Rattle.dk_page.specs.declared.told.Additions.{Additions}
+use Rattle.dk_review.specs.Chains.{AreChains}
+use Rattle.dk_review.specs.Files.{File}
+use Rattle.dk_review.specs.declared.needing.NeedsTold.{NeedsTold}
 
 abbrev pub standing_of : Bool → Standing
 standing_of true = Standing.Met
@@ -54,16 +58,20 @@ pub record IsNotDecided (text : List ℕ) (w : Wants) : Type 0 where
   pub standing : w.standing ≡ Standing.Refused
   pub programs : w.asks_programs ≡ false
 
--- all that the configuration hasn't got, or the rows
-abbrev pub IsTold : Configuration → Wanted → Checking → Wants → Type 0
-IsTold c needs (checking.Unknown found) w = IsNotDecided (unknown_page needs.rows found.items) w
-IsTold c needs (checking.Decided rows) w = AreRowsTold c needs rows.items w
+-- without a chain
+abbrev pub IsAlone : (Wants → Type 0) → NeedsTold → Type 0
+IsAlone Holds t = Holds t.wants × (t.chains.items ≡ [])
+
+-- all that the configuration hasn't got; or the rows, and what is told of the chains that the needs name
+abbrev pub IsTold : Configuration → Wanted → Checking → NeedsTold → Type 0
+IsTold c needs (checking.Unknown found) t = IsAlone (IsNotDecided (unknown_page needs.rows found.items)) t
+IsTold c needs (checking.Decided rows) t = AreRowsTold c needs rows.items t.wants × AreChains c needs.rows 0 needs.rows t.chains.items
 
 -- what these needs come to
-pub record IsDecided (c : Configuration) (needs : Wanted) (w : Wants) : Type 0 where
+pub record IsDecided (c : Configuration) (needs : Wanted) (t : NeedsTold) : Type 0 where
   pub found : Checking
   pub is : IsCheck c needs.rows found
-  pub told : IsTold c needs found w
+  pub told : IsTold c needs found t
 
 -- the bytes are no document
 pub record IsNoDocument (bytes : List ℕ) (w : Wants) : Type 0 where
@@ -78,15 +86,15 @@ pub record IsRefusedFor (bytes : List ℕ) (faults : List Fault) (w : Wants) : T
   pub told : IsNotDecided text w
 
 -- what a document of needs that was read as this comes to
-abbrev pub IsOfWanted : Configuration → List ℕ → Result Wanted NeedsError → Wants → Type 0
-IsOfWanted c bytes (Ok needs) w = IsDecided c needs w
-IsOfWanted c bytes (Err error.NotToml) w = IsNoDocument bytes w
-IsOfWanted c bytes (Err (error.Refused faults)) w = IsRefusedFor bytes faults w
-IsOfWanted c bytes (Err error.NoMemory) w = ⊥
+abbrev pub IsOfWanted : Configuration → List ℕ → Result Wanted NeedsError → NeedsTold → Type 0
+IsOfWanted c bytes (Ok needs) t = IsDecided c needs t
+IsOfWanted c bytes (Err error.NotToml) t = IsAlone (IsNoDocument bytes) t
+IsOfWanted c bytes (Err (error.Refused faults)) t = IsAlone (IsRefusedFor bytes faults) t
+IsOfWanted c bytes (Err error.NoMemory) t = ⊥
 
 -- what the needs in these bytes come to, where neither the programs nor a ledger are looked at
-abbrev pub AreWants : Configuration → List ℕ → Wants → Type 0
-AreWants c bytes w = IsOfWanted c bytes (reading bytes) w
+abbrev pub AreNeedsTold : Configuration → List ℕ → NeedsTold → Type 0
+AreNeedsTold c bytes t = IsOfWanted c bytes (reading bytes) t
 
 -- a page without something more
 pub record AddsNothing (a : Additions) : Type 0 where
@@ -95,14 +103,19 @@ pub record AddsNothing (a : Additions) : Type 0 where
   pub sections : a.sections.items ≡ []
   pub outputs : a.outputs.items ≡ []
 
--- what the needs of the one name in these bytes add to the page of the file of the other, and how they stand
-pub record AreNeeded (name : List ℕ) (c : Configuration) (needs held : List ℕ) (s : Standing) (a : Additions) : Type 0 where
-  pub wants : Wants
-  pub are : AreWants c held wants
-  pub adds : IsAddedByNeeds name needs held wants a
-  pub stand : s ≡ wants.standing
+-- What the needs in this file add to the page of the file of that name, with the chains that they name behind it; and how they
+-- stand.
+pub record AreNeeded (name : List ℕ) (c : Configuration) (needs : File) (s : Standing) (a : Additions) : Type 0 where
+  pub told : NeedsTold
+  pub first : Additions
+  pub chains : Additions
+  pub are : AreNeedsTold c needs.bytes told
+  pub adds : IsAddedByNeeds name needs.name needs.bytes told.wants first
+  pub chained : IsAddedByChains name told.chains.items chains
+  pub both : IsBoth first chains a
+  pub stand : s ≡ told.wants.standing
 
 -- that, or nothing where there are none
-abbrev pub AddsNeeds : List ℕ → Configuration → Option (List ℕ) → List ℕ → Standing → Additions → Type 0
-AddsNeeds name c (Some needs) held s a = AreNeeded name c needs held s a
-AddsNeeds name c None held s a = AddsNothing a × (s ≡ Standing.Met)
+abbrev pub AddsNeeds : List ℕ → Configuration → Option File → Standing → Additions → Type 0
+AddsNeeds name c (Some needs) s a = AreNeeded name c needs s a
+AddsNeeds name c None s a = AddsNothing a × (s ≡ Standing.Met)

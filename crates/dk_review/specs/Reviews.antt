@@ -4,6 +4,7 @@ use Rattle.dk_config.specs.Configuration.{Configuration}
 use Rattle.dk_certify.specs.declared.certifying.Verdict.{Verdict}
 use Rattle.dk_certify.specs.declared.certifying.Verdict.TheVariants as verdict
 use Rattle.dk_certify.specs.Verdicts.{verdict_of}
+use Rattle.dk_certify_matrix.specs.Matrix.{matrix_csv}
 use Rattle.dk_certify_report.specs.Certificate.{certificate_csv, certificate_text}
 use Rattle.dk_document_report.specs.Telling.{Tells}
 use Rattle.dk_loader.specs.declared.fault.LoadFault.{LoadFault}
@@ -28,6 +29,7 @@ use Rattle.dk_page.specs.declared.told.Told.{Told}
 use Rattle.dk_review.specs.declared.drawing.Range.{Range}
 use Rattle.dk_review.specs.declared.reviewing.Ending.{Ending}
 use Rattle.dk_review.specs.declared.reviewing.Review.{Review}
+use Rattle.dk_review.specs.Files.{File}
 use Rattle.dk_review.specs.Needs.{AddsNeeds, AddsNothing}
 use Rattle.dk_review.specs.Runs.{IsRunOf}
 
@@ -45,6 +47,7 @@ IsCertification c (verdict.Fails level needs window) k = k ≡ Failing level nee
 pub record IsTold (c : Configuration) (t : Told) : Type 0 where
   pub certificate : t.certificate.items ≡ certificate_text c
   pub certificate_table : t.certificate_table.items ≡ certificate_csv c
+  pub matrix : t.matrix.items ≡ matrix_csv c
   pub certification : IsCertification c (verdict_of c) t.certification
   pub margins : AreMargins Form.Line c t.margins.items
   pub margins_table : AreMargins Form.Record c t.margins_table.items
@@ -52,12 +55,12 @@ pub record IsTold (c : Configuration) (t : Told) : Type 0 where
   pub warnings : t.warnings.items ≡ warnings_text c
 
 -- of a configuration that isn't certified nothing more is told
-pub record IsUncertified (name document : List ℕ) (c : Configuration) (r : Review) : Type 0 where
+pub record IsUncertified (file : File) (c : Configuration) (r : Review) : Type 0 where
   pub told : Told
   pub added : Additions
   pub is_told : IsTold c told
   pub alone : AddsNothing added
-  pub page : r.bytes.items ≡ page_text name document told added
+  pub page : r.bytes.items ≡ page_text file.name file.bytes told added
   pub ends : r.ending ≡ Ending.Uncertified
 
 -- how needs that stand so end the review, where all else is as it should be
@@ -66,14 +69,16 @@ needs_ending standing.Met = Ending.Certified
 needs_ending standing.Unmet = Ending.Failing
 needs_ending standing.Refused = Ending.Refused
 
--- of a certified configuration, with what is needed of it
-pub record IsReviewed (name document : List ℕ) (needs : Option (List ℕ)) (held : List ℕ) (c : Configuration) (r : Review) : Type 0 where
+-- of a certified configuration, with what is needed of it, and more behind that
+pub record IsReviewed (file : File) (needs : Option File) (more : Additions) (c : Configuration) (r : Review) : Type 0 where
   pub told : Told
   pub stand : Standing
+  pub first : Additions
   pub added : Additions
   pub is_told : IsTold c told
-  pub needed : AddsNeeds name c needs held stand added
-  pub page : r.bytes.items ≡ page_text name document told added
+  pub needed : AddsNeeds file.name c needs stand first
+  pub both : IsBoth first more added
+  pub page : r.bytes.items ≡ page_text file.name file.bytes told added
   pub ends : r.ending ≡ needs_ending stand
 
 -- a ledger that breaks a rule ends it as needs do that aren't met
@@ -83,57 +88,60 @@ run_ending standing.Met false = Ending.Failing
 run_ending standing.Unmet false = Ending.Failing
 run_ending standing.Refused false = Ending.Refused
 
--- and with a ledger of it
-pub record IsReviewedRun (name document : List ℕ) (needs : Option (List ℕ)) (held ledger bytes : List ℕ) (range : Option Range)
-    (c : Configuration) (r : Review) : Type 0 where
+-- and with a ledger behind that, of which this is told
+pub record IsReviewedRun (file : File) (needs : Option File) (ledger : File) (run : Run) (more : Additions) (c : Configuration)
+    (r : Review) : Type 0 where
   pub told : Told
   pub stand : Standing
   pub first : Additions
-  pub run : Run
-  pub second : Additions
+  pub before : Additions
+  pub last : Additions
   pub added : Additions
   pub is_told : IsTold c told
-  pub needed : AddsNeeds name c needs held stand first
-  pub is_run : IsRunOf c range bytes run
-  pub adds : IsAddedBy name ledger bytes run second
-  pub both : IsBoth first second added
-  pub page : r.bytes.items ≡ page_text name document told added
+  pub needed : AddsNeeds file.name c needs stand first
+  pub with_more : IsBoth first more before
+  pub adds : IsAddedBy file.name ledger.name ledger.bytes run last
+  pub both : IsBoth before last added
+  pub page : r.bytes.items ≡ page_text file.name file.bytes told added
   pub ends : r.ending ≡ run_ending stand run.passed
 
+-- with what the commands tell of the ledger in this file, which is one of the configuration, and the picture of this range
+abbrev pub IsReviewedLedger : File → Option File → File → Option Range → Additions → Configuration → Review → Type 0
+IsReviewedLedger file needs ledger range more c r =
+    (run : Run) × IsRunOf c range ledger.bytes run × IsReviewedRun file needs ledger run more c r
+
 -- the one of a certified configuration, and the other of one that isn't
-abbrev pub IsReviewedBy : List ℕ → List ℕ → (Review → Type 0) → Configuration → Verdict → Review → Type 0
-IsReviewedBy name document Holds c (verdict.Accepted rows) r = Holds r
-IsReviewedBy name document Holds c (verdict.Fails level needs window) r = IsUncertified name document c r
+abbrev pub IsReviewedBy : File → (Review → Type 0) → Configuration → Verdict → Review → Type 0
+IsReviewedBy file Holds c (verdict.Accepted rows) r = Holds r
+IsReviewedBy file Holds c (verdict.Fails level needs window) r = IsUncertified file c r
 
-abbrev pub IsReviewedAlone : List ℕ → List ℕ → Option (List ℕ) → List ℕ → Configuration → Review → Type 0
-IsReviewedAlone name document needs held c r =
-    IsReviewedBy name document (IsReviewed name document needs held c) c (verdict_of c) r
+abbrev pub IsReviewedAlone : File → Option File → Additions → Configuration → Review → Type 0
+IsReviewedAlone file needs more c r = IsReviewedBy file (IsReviewed file needs more c) c (verdict_of c) r
 
-abbrev pub IsReviewedWith : List ℕ → List ℕ → Option (List ℕ) → List ℕ → List ℕ → List ℕ → Option Range → Configuration → Review → Type 0
-IsReviewedWith name document needs held ledger bytes range c r =
-    IsReviewedBy name document (IsReviewedRun name document needs held ledger bytes range c) c (verdict_of c) r
+abbrev pub IsReviewedWith : File → Option File → File → Option Range → Additions → Configuration → Review → Type 0
+IsReviewedWith file needs ledger range more c r =
+    IsReviewedBy file (IsReviewedLedger file needs ledger range more c) c (verdict_of c) r
 
 -- of a document that is that of none: all that is wrong with it
-pub record IsRefused (name document : List ℕ) (r : Review) : Type 0 where
+pub record IsRefused (file : File) (r : Review) : Type 0 where
   pub faults : List ℕ
-  pub tells : Tells document faults
-  pub page : r.bytes.items ≡ faults_text name document faults
+  pub tells : Tells file.bytes faults
+  pub page : r.bytes.items ≡ faults_text file.name file.bytes faults
   pub ends : r.ending ≡ Ending.Refused
 
 -- of a document that was read as this, where that of a configuration is so
-abbrev pub IsReviewOf : List ℕ → List ℕ → (Configuration → Review → Type 0) → Result Configuration LoadFault → Review → Type 0
-IsReviewOf name document Holds (Ok c) r = Holds c r
-IsReviewOf name document Holds (Err e) r = IsRefused name document r
+abbrev pub IsReviewOf : File → (Configuration → Review → Type 0) → Result Configuration LoadFault → Review → Type 0
+IsReviewOf file Holds (Ok c) r = Holds c r
+IsReviewOf file Holds (Err e) r = IsRefused file r
 
--- with the needs of the one name in these bytes, where there are any
-abbrev pub IsReview : List ℕ → List ℕ → Option (List ℕ) → List ℕ → Review → Type 0
-IsReview name document needs held r =
-    IsReviewOf name document (IsReviewedAlone name document needs held) (reading document) r
+-- of the document in this file, with the needs in that one, where there is one, and more behind them
+abbrev pub IsReview : File → Option File → Additions → Review → Type 0
+IsReview file needs more r = IsReviewOf file (IsReviewedAlone file needs more) (reading file.bytes) r
 
--- and with the ledger of the other in these, and the picture of the range that is asked for
-abbrev pub IsReviewWith : List ℕ → List ℕ → Option (List ℕ) → List ℕ → List ℕ → List ℕ → Option Range → Review → Type 0
-IsReviewWith name document needs held ledger bytes range r =
-    IsReviewOf name document (IsReviewedWith name document needs held ledger bytes range) (reading document) r
+-- and with the ledger in a third behind that, and the picture of the range that is asked for
+abbrev pub IsReviewWith : File → Option File → File → Option Range → Additions → Review → Type 0
+IsReviewWith file needs ledger range more r =
+    IsReviewOf file (IsReviewedWith file needs ledger range more) (reading file.bytes) r
 
 -- the ledger in these bytes is one of another configuration
 abbrev pub IsOfOther : List ℕ → List ℕ → Type 0

@@ -13,6 +13,7 @@ use Rattle.dk_picture.specs.Pictures.{IsTooMany, svg_text}
 use Rattle.dk_ledger_report.specs.Reports.{report_of}
 use Rattle.dk_report.specs.Report.{report_text}
 use Rattle.dk_window_table.specs.Table.{windows_csv}
+use Rattle.dk_window_tenths.specs.Table.{tenths_csv}
 use Rattle.dk_review.specs.declared.drawing.Range.{Range}
 use Rattle.dk_review.specs.declared.fault.RunFault.{RunFault}
 use Rattle.dk_review.specs.declared.fault.RunFault.TheVariants as why
@@ -66,6 +67,10 @@ EndsBefore range ticks j = (ticks ≡ length j.entries) × (ticks < (range_withi
 abbrev pub AreWindowsOf : List ℕ → Journal → Type 0
 AreWindowsOf text j = text ≡ windows_csv j.heading (reverse j.entries)
 
+-- in how many of them each main used how many tenths of its budget, as a table
+abbrev pub AreTenthsOf : List ℕ → Journal → Type 0
+AreTenthsOf text j = text ≡ tenths_csv j.heading (reverse j.entries)
+
 -- its totals, and its header with them
 abbrev pub AreTotalsOf : List ℕ → List ℕ → Journal → Type 0
 AreTotalsOf report totals j = (report ≡ report_of j) × (totals ≡ report_text j.heading j.entries)
@@ -76,6 +81,7 @@ pub record IsToldBy (finding : Finding) (range : Option Range) (bytes : List ℕ
   pub passed : run.passed ≡ has_passed finding
   pub drawing : IsOfLedger (IsDrawingOf range run.drawing) bytes
   pub windows : IsOfLedger (AreWindowsOf run.windows.items) bytes
+  pub tenths : IsOfLedger (AreTenthsOf run.tenths.items) bytes
   pub totals : IsOfLedger (AreTotalsOf run.report.items run.totals.items) bytes
 
 -- of the ledger in these bytes, which is one of this configuration

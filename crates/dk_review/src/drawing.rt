@@ -19,7 +19,7 @@ pub struct Range {
     pub to: u32,
 }
 
-fn bytes_of(text: String) -> Vec<u8>
+pub(crate) fn text_bytes(text: String) -> Vec<u8>
     ensures { result.items ≡ string_bytes text }
 {
     text.into_bytes()
@@ -47,7 +47,7 @@ fn drawn(
     ensures { IfOk result (λ d. (j : Journal) → IsShown j header.now bytes.now ticks → IsDrawingIn range d j) }
 {
     match picture(alloc, header, bytes, ticks, range.from, range.to) {
-        Ok(text) => Ok(Drawing::Drawn(bytes_of(text))),
+        Ok(text) => Ok(Drawing::Drawn(text_bytes(text))),
         Err(PictureFault::TooMany(tick)) => Ok(Drawing::TooMany(tick)),
         Err(PictureFault::NoMemory) => Err(NoMemory),
     }

@@ -7,9 +7,9 @@ ghost use Rattle.dk_ledger.specs.Heading.{IsPrintable};
 ghost use Rattle.dk_ledger.specs.declared.ledger.LedgerFault.{LedgerFault as Fault};
 ghost use Rattle.dk_ledger.specs.Readable.{IsNoText, IsWrongLine};
 ghost use Rattle.dk_window_table.specs.Table.{kept_csv};
-ghost use Rattle.dk_review.specs.Runs.{AreTotalsOf, AreWindowsOf, IsFaultOf, IsOfLedger, IsRunOf, IsToldBy, audit_text, has_passed, is_other, tick_text};
+ghost use Rattle.dk_review.specs.Runs.{AreTenthsOf, AreTotalsOf, AreWindowsOf, IsFaultOf, IsOfLedger, IsRunOf, IsToldBy, audit_text, has_passed, is_other, tick_text};
 
-use crate::drawing::{Range, drawing_of};
+use crate::drawing::{Range, drawing_of, text_bytes};
 use crate::fault::RunFault;
 use dk_audit::{Finding, audit_bytes};
 use dk_config::{Config, NoMemory};
@@ -18,6 +18,7 @@ use dk_ledger_report::{ReportTexts, report_texts};
 use dk_page::Run;
 use dk_window_report::WindowReport;
 use dk_window_table::windows_csv;
+use dk_window_tenths::tenths_csv;
 use std::alloc::{AllocError, Global};
 
 fn tick_text(alloc: Global, tick: u32, part: &str) -> Result<String, AllocError>
@@ -91,6 +92,18 @@ fn windows_in(alloc: Global, bytes: &[u8], range: Option<Range>) -> Result<Vec<u
     }
 }
 
+fn tenths_in(alloc: Global, bytes: &[u8], range: Option<Range>) -> Result<Vec<u8>, RunFault>
+    ensures told { IfOk result (λ v. IsOfLedger (AreTenthsOf v.items) bytes.now) }
+    ensures fault { IfErr result (IsFaultOf ⊥ range bytes.now) }
+{
+    let _range = range;
+    match tenths_csv(alloc, bytes) {
+        Ok(table) => Ok(text_bytes(table)),
+        Err(LedgerFault::Line(line)) => Err(RunFault::Line(line)),
+        Err(LedgerFault::NoMemory) => Err(RunFault::NoMemory),
+    }
+}
+
 fn totals_in(alloc: Global, bytes: &[u8], range: Option<Range>) -> Result<ReportTexts, RunFault>
     ensures told { IfOk result (λ r. IsOfLedger (AreTotalsOf r.report.items r.totals.items) bytes.now) }
     ensures fault { IfErr result (IsFaultOf ⊥ range bytes.now) }
@@ -118,6 +131,7 @@ fn told_by(
     };
     let drawing = drawing_of(alloc, bytes, range)?;
     let windows = windows_in(alloc, bytes, range)?;
+    let tenths = tenths_in(alloc, bytes, range)?;
     let texts = totals_in(alloc, bytes, range)?;
     let passed = has_passed(finding);
     Ok(Run {
@@ -125,6 +139,7 @@ fn told_by(
         passed,
         drawing,
         windows,
+        tenths,
         report: texts.report,
         totals: texts.totals,
     })

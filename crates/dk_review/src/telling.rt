@@ -2,6 +2,7 @@
 ghost use Rattle.std.specs.Prelude.{◌≡◌, IfOk, length};
 ghost use Rattle.dk_config.specs.Checked.{BreaksNoRule, IsChecked, IsWithinLimits};
 ghost use Rattle.dk_certify.specs.Verdicts.{verdict_of};
+ghost use Rattle.dk_certify_matrix.specs.Matrix.{matrix_csv};
 ghost use Rattle.dk_certify_report.specs.Certificate.{certificate_csv, certificate_text};
 ghost use Rattle.dk_margin_report.specs.Margins.{AreMargins};
 ghost use Rattle.dk_table.specs.declared.form.Form.{Form};
@@ -11,6 +12,7 @@ ghost use Rattle.dk_when_report.specs.When.{IsWhen};
 ghost use Rattle.dk_review.specs.Reviews.{IsCertification, IsCertified, IsTold};
 
 use dk_certify::{Verdict, certify};
+use dk_certify_matrix::certificate_matrix as matrix_page;
 use dk_certify_report::{certificate, certificate_csv};
 use dk_config::{Config, NoMemory};
 use dk_config_report::Page;
@@ -72,6 +74,16 @@ fn certificate_table(alloc: Global, config: &Config) -> Result<Vec<u8>, NoMemory
     ensures { IfOk result (λ v. v.items ≡ certificate_csv config.now) }
 {
     let page = certificate_csv(alloc, config)?;
+    let bytes = bytes_of(alloc, &page)?;
+    Ok(bytes)
+}
+
+fn certificate_matrix(alloc: Global, config: &Config) -> Result<Vec<u8>, NoMemory>
+    requires checked { IsChecked config.now }
+    requires limits { IsWithinLimits config.now }
+    ensures { IfOk result (λ v. v.items ≡ matrix_csv config.now) }
+{
+    let page = matrix_page(alloc, config)?;
     let bytes = bytes_of(alloc, &page)?;
     Ok(bytes)
 }
@@ -146,6 +158,7 @@ pub(crate) fn told_of(alloc: Global, config: &Config) -> Result<Told, NoMemory>
 {
     let certificate = certificate_bytes(alloc, config)?;
     let certificate_table = certificate_table(alloc, config)?;
+    let matrix = certificate_matrix(alloc, config)?;
     let certification = certification(alloc, config)?;
     let margins = margins_bytes(alloc, config)?;
     let margins_table = margins_table(alloc, config)?;
@@ -154,6 +167,7 @@ pub(crate) fn told_of(alloc: Global, config: &Config) -> Result<Told, NoMemory>
     Ok(Told {
         certificate,
         certificate_table,
+        matrix,
         certification,
         margins,
         margins_table,

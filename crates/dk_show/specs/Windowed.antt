@@ -8,18 +8,20 @@ use Rattle.dk_window_lines.specs.declared.lines.Strictness.TheVariants as strict
 use Rattle.dk_window_lines.specs.Lines.{is_sound, windows_lines}
 use Rattle.dk_window_overruns.specs.Overruns.{all_windows}
 use Rattle.dk_window_table.specs.Table.{windows_csv}
+use Rattle.dk_window_tenths.specs.Table.{tenths_csv}
 use Rattle.dk_show_request.specs.declared.request.WindowsForm.{WindowsForm}
 use Rattle.dk_show_request.specs.declared.request.WindowsForm.TheVariants as form
 use Rattle.dk_show.specs.declared.status.Status.{Status}
 use Rattle.dk_show.specs.declared.status.Status.TheVariants as status
 use Rattle.dk_show.specs.Answers.{IsWrong}
 
--- lines, lines with each window that was overrun, or the table
+-- lines, lines with each window that was overrun, or one of the tables
 abbrev pub windows_page : WindowsForm → Heading → List Entry → List ℕ
 windows_page form.Plain = windows_lines strictness.Free
 windows_page form.Strict = windows_lines strictness.Strict
 windows_page form.Sparing = windows_lines strictness.Sparing
 windows_page form.All = all_windows
+windows_page form.Tenths = tenths_csv
 windows_page form.Csv = windows_csv
 
 -- where it has to be clean and isn't, the call ends as refused
@@ -38,6 +40,7 @@ windows_end form.Plain = lines_end strictness.Free
 windows_end form.Strict = lines_end strictness.Strict
 windows_end form.Sparing = lines_end strictness.Sparing
 windows_end form.All = done_end
+windows_end form.Tenths = done_end
 windows_end form.Csv = done_end
 
 -- a page of the entries, and how the call ends

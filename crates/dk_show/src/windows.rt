@@ -12,6 +12,7 @@ ghost use Rattle.dk_show.specs.Works.{ComesTo, HasText, IsMade, IsWhole, ended_o
 ghost use Rattle.dk_window_lines.specs.Lines.{windows_lines};
 ghost use Rattle.dk_window_overruns.specs.Overruns.{all_windows};
 ghost use Rattle.dk_window_table.specs.Table.{windows_csv};
+ghost use Rattle.dk_window_tenths.specs.Table.{tenths_csv};
 
 use crate::files::file_at;
 use crate::work::Work;
@@ -25,6 +26,7 @@ use dk_window_lines::{Strictness, is_sound};
 use dk_window_overruns::AllWindows;
 use dk_window_report::WindowReport;
 use dk_window_table::windows_csv;
+use dk_window_tenths::tenths_csv;
 use std::alloc::Global;
 
 /// How the call ends.
@@ -93,6 +95,18 @@ fn of_all(alloc: Global, bytes: &[u8]) -> Result<Work, Refusal>
     }
 }
 
+/// In how many windows each main of the ledger in these bytes used so many tenths of its budget.
+fn of_tenths(alloc: Global, bytes: &[u8]) -> Result<Work, Refusal>
+    ensures comes { ComesTo (IsOfPage tenths_csv done_end bytes.now) result }
+    ensures made { IsMade IsWhole result }
+{
+    match tenths_csv(alloc, bytes) {
+        Ok(table) => Ok(Work::Page(Page::new(table), Status::Done)),
+        Err(LedgerFault::Line(line)) => Err(Refusal::LedgerLine(line)),
+        Err(LedgerFault::NoMemory) => Err(Refusal::NoMemory),
+    }
+}
+
 /// What the threads of the ledger in these bytes did.
 fn of_ledger(alloc: Global, form: WindowsForm, bytes: &[u8]) -> Result<Work, Refusal>
     ensures comes { ComesTo (IsOfWindows form bytes.now) result }
@@ -103,6 +117,7 @@ fn of_ledger(alloc: Global, form: WindowsForm, bytes: &[u8]) -> Result<Work, Ref
         WindowsForm::Strict => of_lines(alloc, Strictness::Strict, bytes),
         WindowsForm::Sparing => of_lines(alloc, Strictness::Sparing, bytes),
         WindowsForm::All => of_all(alloc, bytes),
+        WindowsForm::Tenths => of_tenths(alloc, bytes),
         WindowsForm::Csv => of_table(alloc, bytes),
     }
 }

@@ -43,7 +43,7 @@ picture_rules = argument (codes "LEDGER") true ∷ argument (codes "FROM") false
 
 abbrev pub windows_rules : List Rule
 windows_rules = argument (codes "LEDGER") true ∷ flag (codes "strict") ∷ flag (codes "sparing") ∷ flag (codes "all")
-    ∷ flag (codes "csv") ∷ []
+    ∷ flag (codes "tenths") ∷ flag (codes "csv") ∷ []
 
 abbrev pub holds_rules : List Rule
 holds_rules = argument (codes "LEDGER") true ∷ argument (codes "FILE") false ∷ []

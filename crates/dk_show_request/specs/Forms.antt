@@ -30,7 +30,7 @@ picture_form = record range_form { marks = codes "--config" ∷ []; value = Some
 
 abbrev pub windows_form : Form
 windows_form = record (plain (codes "LEDGER" ∷ []) [] false) {
-  marks = codes "--strict" ∷ codes "--sparing" ∷ codes "--all" ∷ codes "--csv" ∷ [];
+  marks = codes "--strict" ∷ codes "--sparing" ∷ codes "--all" ∷ codes "--tenths" ∷ codes "--csv" ∷ [];
 }
 
 abbrev pub holds_form : Form

@@ -47,6 +47,7 @@ windows_form_in rows =
     if has (codes "strict") rows then windows_form.Strict
     else if has (codes "sparing") rows then windows_form.Sparing
     else if has (codes "all") rows then windows_form.All
+    else if has (codes "tenths") rows then windows_form.Tenths
     else if has (codes "csv") rows then windows_form.Csv
     else windows_form.Plain
 

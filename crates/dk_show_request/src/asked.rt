@@ -118,6 +118,8 @@ fn windows_form_in(given: &Given) -> WindowsForm
         WindowsForm::Sparing
     } else if given.has("all") {
         WindowsForm::All
+    } else if given.has("tenths") {
+        WindowsForm::Tenths
     } else if given.has("csv") {
         WindowsForm::Csv
     } else {

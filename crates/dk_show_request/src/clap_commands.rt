@@ -38,6 +38,7 @@ const WINDOWS: &[Argument] = &[
     Argument::Flag("strict"),
     Argument::Flag("sparing"),
     Argument::Flag("all"),
+    Argument::Flag("tenths"),
     Argument::Flag("csv"),
 ];
 

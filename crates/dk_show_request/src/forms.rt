@@ -62,7 +62,7 @@ const NO_MARKS: &[&str] = &[];
 
 const TABLE_MARKS: &[&str] = &["--csv"];
 
-const WINDOWS_MARKS: &[&str] = &["--strict", "--sparing", "--all", "--csv"];
+const WINDOWS_MARKS: &[&str] = &["--strict", "--sparing", "--all", "--tenths", "--csv"];
 
 const CHAIN_MARKS: &[&str] = &["--ledger"];
 

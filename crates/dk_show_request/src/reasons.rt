@@ -40,7 +40,7 @@ fn marks_of(command: Command) -> &'static str
 {
     match command {
         Command::Picture => "--config",
-        Command::Windows => "--strict|--sparing|--all|--csv",
+        Command::Windows => "--strict|--sparing|--all|--tenths|--csv",
         Command::Tell(_) | Command::Impact => "--csv",
         Command::Chain => "--ledger",
         Command::Check => "--csv|--junit",

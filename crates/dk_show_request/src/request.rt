@@ -45,6 +45,8 @@ pub enum WindowsForm {
     Sparing,
     /// With each window that was overrun.
     All,
+    /// In how many windows each main used so many tenths of its budget, as a table.
+    Tenths,
     Csv,
 }
 

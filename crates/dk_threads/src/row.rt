@@ -1,5 +1,6 @@
 //! The row of a thread, and what a start, a stop or an end makes of it.
 ghost use Rattle.std.specs.Prelude.{◌≡◌, ◌<◌, length};
+ghost use Rattle.dk_trace.specs.Entries.{is_same};
 ghost use Rattle.dk_threads.specs.Rows.{ends_at, is_starting, is_stopped, kept, started, starts_at, stopped, stopped_child, stopped_with_main};
 
 use dk_trace::ThreadId;
@@ -28,6 +29,14 @@ pub struct ThreadRow {
     pub start: u32,
     /// The tick at which a stopped child ends. A main has none.
     pub end: Option<u32>,
+}
+
+/// Whether the row is the thread's. Its numbers are read where they lie: a copy takes more instructions.
+#[inline(always)]
+pub fn is_same(id: ThreadId, name: &ThreadId) -> bool
+    ensures { result ≡ is_same id name.now }
+{
+    id.process == name.process && id.serial == name.serial
 }
 
 /// Whether the thread waits for its start.
@@ -92,7 +101,7 @@ pub fn stopped_child(row: ThreadRow, id: ThreadId, windows: &Windows) -> Option<
     requires { row.level < length windows.now.periods }
     ensures { result ≡ stopped_child id windows.now row }
 {
-    if id.is_same(row.id) {
+    if is_same(id, &row.id) {
         stopped(row, windows)
     } else {
         Some(row)

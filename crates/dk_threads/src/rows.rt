@@ -3,7 +3,7 @@ ghost use Rattle.std.specs.Prelude.{◌≡◌, ◌<◌, ◌≤◌, List, [], ◌
 ghost use Rattle.std.specs.List.{cons_option, list_any};
 ghost use Rattle.dk_threads.specs.Rows.{ends_at, is_row_of, is_taken, starts_at};
 
-use crate::row::{ThreadRow, ends_at, starts_at};
+use crate::row::{ThreadRow, ends_at, is_same, starts_at};
 use arrayvec::ArrayVec;
 use dk_config::MAX_CHILDREN;
 use dk_trace::ThreadId;
@@ -97,7 +97,7 @@ impl Rows {
     {
         for key in self.keys.as_slice() {
             if let Some(row) = self.slab.get(*key) {
-                if id.is_same(row.id) {
+                if is_same(id, &row.id) {
                     return Some(*row);
                 }
             }

@@ -103,7 +103,7 @@ impl AllTables {
 }
 
 /// A tick of the thread, of the level: it has one tick less left of each mutex that it holds, and can keep faster
-/// levels waiting for one less.
+/// levels waiting for one less. Mostly it is the thread that runs first of the holders: then no row is asked.
 #[inline(always)]
 fn spend_holds<L: Ledger>(
     mutexes: &mut Mutexes,
@@ -121,29 +121,9 @@ fn spend_holds<L: Ledger>(
     ensures steps { steps.new ≤ steps.old + level }
 {
     if !mutexes.are_free() {
-        spend_held(mutexes, demand, id, level, steps);
+        let first = spend_first(mutexes, id, level);
+        demand.lower_blocking(first..level, 1, steps);
     }
-}
-
-/// The same where somebody holds a mutex. Mostly it is the thread, and runs first of the holders: then no row is asked.
-#[inline(always)]
-fn spend_held<L: Ledger>(
-    mutexes: &mut Mutexes,
-    demand: &mut Demand,
-    id: ThreadId,
-    level: u8,
-    steps: &mut Steps<L>,
-)
-    requires known { level < length demand.old.windows.periods }
-    requires holds { holds_within id 0 mutexes.old ≡ false }
-    requires blocks { (j : ℕ) → effective_level id level mutexes.old ≤ j → j < level
-        → 1 ≤ slice_index demand.old.blocking j }
-    ensures mutexes { mutexes.new ≡ map (spent id) mutexes.old }
-    ensures demand { demand.new ≡ held_cells level (effective_level id level mutexes.old) 1 0 demand.old }
-    ensures steps { steps.new ≤ steps.old + level }
-{
-    let first = spend_first(mutexes, id, level);
-    demand.lower_blocking(first..level, 1, steps);
 }
 
 /// The same of the mutexes alone. Answers the level at which the thread runs, which is of the level.

@@ -6,9 +6,10 @@ use dk_trace::{Refusal, ThreadId};
 use std::sync::ledger::Ledger;
 
 impl AllTables {
-    ghost use Rattle.std.specs.Prelude.{◌≡◌, ◌+◌, ◌-◌, ◌<◌, ◌≤◌, length, Some, None, IfOk, MatchResult};
+    ghost use Rattle.std.specs.Prelude.{◌≡◌, ◌+◌, ◌-◌, ◌<◌, ◌≤◌, length, None, IfOk};
     ghost use Rattle.dk_recount.specs.Jobs.{MayClose, job_closed};
     ghost use Rattle.dk_recount.specs.Events.{wait_refusal_in, waited, MayWait, has_right, slack_refusal_in, asked, MayAsk, lock_refusal_in, locked, MayLock, unlock_refusal_in, unlocked, MayUnlock};
+    ghost use Rattle.dk_dispatch.specs.Calls.{Makes};
 
     /// The wait by the tables. At most as many steps as there are levels, and five more.
     pub(crate) fn wait<L: Ledger>(
@@ -17,9 +18,7 @@ impl AllTables {
         steps: &mut Steps<L>,
     ) -> Result<(), Refusal>
         requires { wait_refusal_in self.old id ≡ None → MayWait id self.old }
-        ensures answer { MatchResult result
-            (λ done. (wait_refusal_in self.old id ≡ None) × (self.new ≡ waited id self.old))
-            (λ refusal. (wait_refusal_in self.old id ≡ Some refusal) × (self.new ≡ self.old)) }
+        ensures answer { Makes result (wait_refusal_in self.old id) self.old (waited id self.old) self.new }
         ensures steps { steps.new ≤ steps.old + length self.old.kernel + 5 }
     {
         if self.mutexes.held_by(id).is_some() {
@@ -73,9 +72,7 @@ impl AllTables {
         steps: &mut Steps<L>,
     ) -> Result<(), Refusal>
         requires { slack_refusal_in self.old id amount ≡ None → MayAsk id self.old }
-        ensures answer { MatchResult result
-            (λ done. (slack_refusal_in self.old id amount ≡ None) × (self.new ≡ asked id amount self.old))
-            (λ refusal. (slack_refusal_in self.old id amount ≡ Some refusal) × (self.new ≡ self.old)) }
+        ensures answer { Makes result (slack_refusal_in self.old id amount) self.old (asked id amount self.old) self.new }
         ensures steps { steps.new ≤ steps.old + 2 }
     {
         match self.slack_refusal(id, amount) {
@@ -107,9 +104,7 @@ impl AllTables {
         steps: &mut Steps<L>,
     ) -> Result<u8, Refusal>
         requires { lock_refusal_in self.old id mutex ≡ None → MayLock id mutex self.old }
-        ensures answer { MatchResult result
-            (λ number. (lock_refusal_in self.old id mutex ≡ None) × (self.new ≡ locked id mutex self.old))
-            (λ refusal. (lock_refusal_in self.old id mutex ≡ Some refusal) × (self.new ≡ self.old)) }
+        ensures answer { Makes result (lock_refusal_in self.old id mutex) self.old (locked id mutex self.old) self.new }
         ensures number { IfOk result (λ number. number ≡ mutex) }
         ensures steps { steps.new ≤ steps.old + length self.old.kernel + 1 }
     {
@@ -132,9 +127,7 @@ impl AllTables {
         steps: &mut Steps<L>,
     ) -> Result<u8, Refusal>
         requires { unlock_refusal_in self.old id mutex ≡ None → MayUnlock id mutex self.old }
-        ensures answer { MatchResult result
-            (λ number. (unlock_refusal_in self.old id mutex ≡ None) × (self.new ≡ unlocked id mutex self.old))
-            (λ refusal. (unlock_refusal_in self.old id mutex ≡ Some refusal) × (self.new ≡ self.old)) }
+        ensures answer { Makes result (unlock_refusal_in self.old id mutex) self.old (unlocked id mutex self.old) self.new }
         ensures number { IfOk result (λ number. number ≡ mutex) }
         ensures steps { steps.new ≤ steps.old + length self.old.kernel }
     {

@@ -12,7 +12,7 @@ ghost use Rattle.dk_ledger.specs.Words.{texts, words_of, process_words};
 use super::Reader;
 use crate::header_text::{level_text, process_text};
 use crate::words::{level_of, number, place_of, small_number};
-use crate::{Header, ProcessLine};
+use crate::{Header, Name, ProcessLine};
 use dk_certify::TableRow;
 use dk_config::{MAX_LEVELS, MAX_PROCESSES, NoMemory, Text, is_name};
 use std::alloc::Global;
@@ -26,7 +26,7 @@ fn process_line(alloc: Global, words: &[&str]) -> Result<Option<ProcessLine>, No
         [_, name, _, level, _, budget] => {
             let name = String::from_str(alloc, name)?;
             Ok(Some(ProcessLine {
-                name: Text::new(name),
+                name: Name::new(Text::new(name)),
                 level: small_number(level),
                 budget: number(budget),
             }))

@@ -7,5 +7,5 @@ take_turn-requires-clause-breaks g c =
     let p = c.args.tables.now.past in
     let x = c.args.executor in
     sym (ne_eqb c.args.left 1 c.if-left-eq1.false)
-    ∙ breaks-not p.config (held_by x.thread p.entries) (context_at c.args.image.now x.slot) (outcome_at x c.args.cost c.args.image.now) c.args.left
+    ∙ breaks-not p.config (held_by x.thread p.entries) (context_at c.args.image.now x.slot) (outcome_at x c.args.image.now) c.args.left
     c.requires.left c.if-left-eq1.false

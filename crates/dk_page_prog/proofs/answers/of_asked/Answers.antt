@@ -1,7 +1,15 @@
+use Rattle.std.proofs.Common.{subst}
+use Rattle.std.specs.Prelude.{IfOk, IfSome}
+use Rattle.dk_page_prog.specs.Answers.{IsOfFiles}
+use Rattle.dk_page_prog.specs.Asking.{asking_of}
 use Rattle.dk_page_prog.proofs.Reading.{of_read}
 use Rattle.dk_page_prog.proofs.answers.of_asked.Goals as goal
 
 pub returns-clause-is : goal.returns-clause-is
 returns-clause-is g c =
-    of_read (g.D.Depot.seen c.args.depot.now).files c.args.name.now _ _ c.args.range c.in_ok-held.held _ _ _ c.of_files.result
-    c.as_slice.ensures.value c.as_slice-2.ensures.value c.as_slice-3.ensures.value c.in_ok-held.ensures.held c.of_files.ensures.is
+    let k = asking_of c.args.asked in
+    let h = c.in_ok-held.held in
+    let r = c.of_files.result in
+    of_read (g.D.Depot.seen c.args.depot.now).files k h r c.in_ok-held.ensures.held
+    (subst (λ fs. IfSome fs (λ at. IfOk r (λ a. IsOfFiles at k a h.document.items h.needs.items h.ledger.items))) c.in_ok-held.ensures.same
+    c.of_files.ensures.is)

@@ -1,7 +1,8 @@
-use Rattle.dk_picture.proofs.Names.{◌≡◌, ◌+◌, ◌++◌, flat_map, string_bytes, below, window_at, window_text}
+use Rattle.dk_picture.proofs.Names.{◌≡◌, ◌++◌, drop, flat_map, string_bytes, window_text, windows_text}
 use Rattle.dk_picture.proofs.windows.add_windows.Given as goal
 
--- the windows so far are added
-abbrev pub invariant-loop-number : goal.invariant-loop-number
-invariant-loop-number l =
-    string_bytes l.text ≡ string_bytes l.initial.text ++ flat_map (λ i. window_text l.span (window_at l.level l.period (l.first + i))) (below l.number)
+-- the windows so far, before those that are left
+abbrev pub invariant-loop-window : goal.invariant-loop-window
+invariant-loop-window l =
+    string_bytes l.text ++ flat_map (window_text l.span) (drop l.window-index l.window-items)
+    ≡ string_bytes l.initial.text ++ windows_text l.span l.level l.period

@@ -5,9 +5,11 @@ returns c =
     record {
       told = c.in_ok-told.told;
       stand = c.in_ok-needed.needed.standing;
-      added = c.in_ok-needed.needed.added;
+      first = c.in_ok-needed.needed.added;
+      added = c.in_ok-added.added;
       is_told = c.in_ok-told.ensures;
       needed = c.in_ok-needed.ensures;
+      both = c.in_ok-added.ensures;
       page = c.in_ok-bytes.ensures;
       ends = c.needs_ending-ending.ensures;
     }

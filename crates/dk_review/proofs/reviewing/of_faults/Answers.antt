@@ -6,7 +6,7 @@ pub returns : goal.returns
 returns c =
     record {
       faults = c.as_bytes.result.now;
-      tells = subst (Tells c.args.document.now) (sym c.as_bytes.ensures) c.in_ok-faults.ensures;
+      tells = subst (Tells c.args.file.bytes.now) (sym c.as_bytes.ensures) c.in_ok-faults.ensures;
       page = c.in_ok-bytes.ensures;
       ends = refl;
     }

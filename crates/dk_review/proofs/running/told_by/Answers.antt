@@ -7,5 +7,6 @@ returns-clause-told c =
       passed = c.has_passed-passed.ensures;
       drawing = c.in_ok-drawing.ensures.drawn;
       windows = c.in_ok-windows.ensures.told;
+      tenths = c.in_ok-tenths.ensures.told;
       totals = c.in_ok-texts.ensures.told;
     }

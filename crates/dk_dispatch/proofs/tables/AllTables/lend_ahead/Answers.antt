@@ -42,7 +42,9 @@ returns-clause-borrows c =
       may = λ n below.
           may-lend d ahead is c.quiet.result fit c.if-quiet-ahead.false c.quiet.ensures.within c.quiet.ensures.quiet fits x sits node free holds
           n (omega (arith, below, in-wish)) (omega (arith, below, in-fit)) (room-sooner n c.args.most d (omega (arith, below, in-most)) c.requires) (ends-sooner n most d below c.in_ok-most.ensures.within);
-      slot = ap (option_map (λ (r : ThreadRow). r.slot)) (sym found);
-      fits = c.in_ok-row.ensures.fits;
-      own = c.in_ok-row.ensures.own;
+      seat = record {
+        at = ap (option_map (λ (r : ThreadRow). r.slot)) (sym found);
+        fits = c.in_ok-row.ensures.fits;
+        own = c.in_ok-row.ensures.own;
+      };
     }

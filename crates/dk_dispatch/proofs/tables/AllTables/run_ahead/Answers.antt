@@ -38,7 +38,5 @@ returns-clause-runs c =
           may-run d first ahead.ticks computes sound kernel holders wish node free (subst (λ (t : Tables). map (spent_row first.thread) t.mutexes ≡ t.mutexes) c.self.view_is (c.are_free.ensures.holds first.thread on))
           (λ own. subst (λ (t : Tables). effective_level first.thread own t.mutexes ≡ own) c.self.view_is (c.are_free.ensures.levels first.thread own on))
           n (omega (arith, below, less)) (room-sooner n c.args.most d (omega (arith, below, less')) has) (ends-sooner n most d below c.in_ok-most.ensures.within);
-      slot = led.slot has.config has.past has.stands;
-      fits = led.fits has.config has.past has.stands;
-      own = led.own has.config has.past has.stands;
+      seat = led.seat has.config has.past has.stands;
     }

@@ -21,7 +21,7 @@ pub invariant_of-self-2 : goal.invariant_of-self-2
 invariant_of-self-2 c =
     let r = c.in_ok-borrower.borrower in
     let own = c.in_ok-borrower.ensures.borrows in
-    (worked-later (Choice.Slack r.thread r.source Phase.Body) r.thread refl refl c.self.invariant c.self.view_is c.cost-cost.ensures.cost own.slot own.fits own.own
+    (worked-later (Choice.Slack r.thread r.source Phase.Body) r.thread refl refl c.self.invariant c.self.view_is c.cost-cost.ensures.cost own.seat
     c.run-count.result c.index_mut.result.now c.run-count.new.self c.index_mut.ensures.value c.run-count.ensures.works c.lend.new.self c.lend.ensures.goes c.lend.ensures.past c.lend.ensures.rows).is
 
 pub returns-clause-next : goal.returns-clause-next
@@ -29,7 +29,7 @@ returns-clause-next c =
     let r = c.in_ok-borrower.borrower in
     let own = c.in_ok-borrower.ensures.borrows in
     seen-next
-    (worked-later (Choice.Slack r.thread r.source Phase.Body) r.thread refl refl c.self.invariant c.self.view_is c.cost-cost.ensures.cost own.slot own.fits own.own
+    (worked-later (Choice.Slack r.thread r.source Phase.Body) r.thread refl refl c.self.invariant c.self.view_is c.cost-cost.ensures.cost own.seat
     c.run-count.result c.index_mut.result.now c.run-count.new.self c.index_mut.ensures.value c.run-count.ensures.works c.lend.new.self c.lend.ensures.goes c.lend.ensures.past c.lend.ensures.rows)
     c.self.view_is
 
@@ -38,6 +38,6 @@ returns-clause-entries c =
     let r = c.in_ok-borrower.borrower in
     let own = c.in_ok-borrower.ensures.borrows in
     seen-newest
-    (worked-later (Choice.Slack r.thread r.source Phase.Body) r.thread refl refl c.self.invariant c.self.view_is c.cost-cost.ensures.cost own.slot own.fits own.own
+    (worked-later (Choice.Slack r.thread r.source Phase.Body) r.thread refl refl c.self.invariant c.self.view_is c.cost-cost.ensures.cost own.seat
     c.run-count.result c.index_mut.result.now c.run-count.new.self c.index_mut.ensures.value c.run-count.ensures.works c.lend.new.self c.lend.ensures.goes c.lend.ensures.past c.lend.ensures.rows)
     c.self.view_is c.if-count-eq0.false

@@ -21,7 +21,7 @@ pub invariant_of-self-2 : goal.invariant_of-self-2
 invariant_of-self-2 g c =
     let r = c.in_ok-runner.runner in
     let own = c.in_ok-runner.ensures.runs in
-    (worked-later (Choice.Budget r.thread Phase.Body) r.thread refl refl c.self.invariant c.self.view_is c.cost-cost.ensures.cost own.slot own.fits own.own
+    (worked-later (Choice.Budget r.thread Phase.Body) r.thread refl refl c.self.invariant c.self.view_is c.cost-cost.ensures.cost own.seat
     c.run-count.result c.index_mut.result.now c.run-count.new.self c.index_mut.ensures.value c.run-count.ensures.works c.run.new.self c.run.ensures.goes c.run.ensures.past c.run.ensures.rows).is
 
 pub returns-clause-next : goal.returns-clause-next
@@ -29,7 +29,7 @@ returns-clause-next g c =
     let r = c.in_ok-runner.runner in
     let own = c.in_ok-runner.ensures.runs in
     seen-next
-    (worked-later (Choice.Budget r.thread Phase.Body) r.thread refl refl c.self.invariant c.self.view_is c.cost-cost.ensures.cost own.slot own.fits own.own
+    (worked-later (Choice.Budget r.thread Phase.Body) r.thread refl refl c.self.invariant c.self.view_is c.cost-cost.ensures.cost own.seat
     c.run-count.result c.index_mut.result.now c.run-count.new.self c.index_mut.ensures.value c.run-count.ensures.works c.run.new.self c.run.ensures.goes c.run.ensures.past c.run.ensures.rows)
     c.self.view_is
 
@@ -38,6 +38,6 @@ returns-clause-entries g c =
     let r = c.in_ok-runner.runner in
     let own = c.in_ok-runner.ensures.runs in
     seen-newest
-    (worked-later (Choice.Budget r.thread Phase.Body) r.thread refl refl c.self.invariant c.self.view_is c.cost-cost.ensures.cost own.slot own.fits own.own
+    (worked-later (Choice.Budget r.thread Phase.Body) r.thread refl refl c.self.invariant c.self.view_is c.cost-cost.ensures.cost own.seat
     c.run-count.result c.index_mut.result.now c.run-count.new.self c.index_mut.ensures.value c.run-count.ensures.works c.run.new.self c.run.ensures.goes c.run.ensures.past c.run.ensures.rows)
     c.self.view_is c.if-count-eq0.false

@@ -1,7 +1,7 @@
 use Rattle.std.proofs.Common.{ap}
 use Rattle.std.specs.Prelude.{option_map}
 use Rattle.dk_page_prog.proofs.Reading.{none_read}
-use Rattle.dk_page_prog.proofs.answers.read_some.Goals as goal
+use Rattle.dk_page_prog.proofs.files.read_some.Goals as goal
 
 pub returns-in-None-clause-held : goal.returns-in-None-clause-held
 returns-in-None-clause-held g c =

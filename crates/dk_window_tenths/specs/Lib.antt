@@ -1,0 +1,4 @@
+pub mod Tenths
+pub mod Laws
+pub mod Told
+pub mod Table
