@@ -49,9 +49,10 @@ unfoldable pub both_names : List ℕ → List ℕ → List ℕ
 both_names file ledger = joined (file ∷ codes " " ∷ ledger ∷ [])
 
 -- what the commands write of the ledger
-unfoldable pub run_outputs : List ℕ → List ℕ → List ℕ → List ℕ → List ℕ → List ℕ
-run_outputs both ledger audit windows report = joined (output (codes "deosk audit ") both audit
+unfoldable pub run_outputs : List ℕ → List ℕ → List ℕ → List ℕ → List ℕ → List ℕ → List ℕ
+run_outputs both ledger audit windows tenths report = joined (output (codes "deosk audit ") both audit
     ∷ output (codes "deosk-show windows --csv ") ledger windows
+    ∷ output (codes "deosk-show windows --tenths ") ledger tenths
     ∷ output (codes "deosk ledger --report ") ledger report ∷ [])
 
 -- by the ledger of the one name in these bytes, to the page of the configuration in the file of the other
@@ -61,4 +62,4 @@ pub record IsAddedBy (name ledger bytes : List ℕ) (run : Run) (a : Additions) 
   pub sections : a.sections.items ≡ run_sections run.audit.items (drawing_text run.drawing) run.windows.items run.tenths.items
       run.totals.items
   pub outputs : a.outputs.items ≡ run_outputs (both_names name ledger) ledger run.audit.items run.windows.items
-      run.report.items
+      run.tenths.items run.report.items

@@ -30,7 +30,7 @@ pub struct Run {
     pub drawing: Drawing,
     /// What `windows` writes of it as a table.
     pub windows: Vec<u8>,
-    /// In how many of its windows each main used how many tenths of its budget, as a table.
+    /// What `windows --tenths` writes of it.
     pub tenths: Vec<u8>,
     /// What `deosk ledger --report` writes of it: the lines of its header, and its totals.
     pub report: Vec<u8>,
@@ -191,10 +191,11 @@ fn add_outputs<'x>(
     ledger: &'x [u8],
     audit: &'x [u8],
     windows: &'x [u8],
+    tenths: &'x [u8],
     report: &'x [u8],
 ) -> Result<(), AllocError>
     ensures { OnOk result (out.new.items
-        ≡ out.old.items ++ run_outputs both.now ledger.now audit.now windows.now report.now) }
+        ≡ out.old.items ++ run_outputs both.now ledger.now audit.now windows.now tenths.now report.now) }
 {
     let parts = [
         Part::Output {
@@ -208,6 +209,11 @@ fn add_outputs<'x>(
             text: windows,
         },
         Part::Output {
+            command: "deosk-show windows --tenths ",
+            name: ledger,
+            text: tenths,
+        },
+        Part::Output {
             command: "deosk ledger --report ",
             name: ledger,
             text: report,
@@ -218,7 +224,7 @@ fn add_outputs<'x>(
 
 fn outputs_of(alloc: Global, file: &[u8], ledger: &[u8], run: &Run) -> Result<Vec<u8>, AllocError>
     ensures { IfOk result (λ v. v.items ≡ run_outputs (both_names file.now ledger.now) ledger.now
-        run.now.audit.items run.now.windows.items run.now.report.items) }
+        run.now.audit.items run.now.windows.items run.now.tenths.items run.now.report.items) }
 {
     let mut both = Vec::new(alloc);
     add_both(alloc, &mut both, file, ledger)?;
@@ -230,6 +236,7 @@ fn outputs_of(alloc: Global, file: &[u8], ledger: &[u8], run: &Run) -> Result<Ve
         ledger,
         run.audit.as_slice(),
         run.windows.as_slice(),
+        run.tenths.as_slice(),
         run.report.as_slice(),
     )?;
     Ok(out)

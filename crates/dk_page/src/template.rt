@@ -423,7 +423,7 @@ pub(crate) const OUTPUTS: &str = "<section id=\"says\" aria-labelledby=\"says-ti
 </section>
 <section id=\"outputs\" aria-labelledby=\"outputs-title\">
 <div class=\"head\"><h2 id=\"outputs-title\">The outputs, word for word</h2><span class=\"scope given\">evidence</span></div>
-<p class=\"why\">The numbers of the tables above stand in these texts, but for the tenths of the budgets, which no command writes. Each text is what the command writes, byte for byte.</p>
+<p class=\"why\">The numbers of the tables above stand in these texts. Each text is what the command writes, byte for byte.</p>
 ";
 
 /// The end of the page, with lines for signatures.
