@@ -1,15 +1,17 @@
 -- What repeats in a run, of which the page tells more.
-use Rattle.std.specs.Prelude.{ℕ, ◌≡◌, List, Option, Some, None, Result, Ok, Err}
+use Rattle.std.specs.Prelude.{ℕ, ◌≡◌, List, [], ◌∷◌, Option, Some, None, Result, Ok, Err}
 use Rattle.dk_certify.specs.declared.certifying.Verdict.{Verdict}
 use Rattle.dk_certify.specs.declared.certifying.Verdict.TheVariants as verdict
 use Rattle.dk_certify.specs.Verdicts.{verdict_of}
+use Rattle.dk_config.specs.declared.rows.ProcessRow.{ProcessRow}
 use Rattle.dk_config.specs.Configuration.{Configuration}
 use Rattle.dk_loader.specs.declared.fault.LoadFault.{LoadFault}
 use Rattle.dk_loader.specs.declared.fault.LoadFault.TheVariants as fault
 use Rattle.dk_loader.specs.Programs.{loading}
 use Rattle.dk_loader.specs.Reading.{reading}
 use Rattle.dk_loader.specs.Workload.{Workload}
-use Rattle.dk_page.specs.More.{IsAddedByRepeats}
+use Rattle.dk_page.specs.More.{IsAddedByProgram, IsAddedByRepeats}
+use Rattle.dk_page.specs.Needs.{IsBoth}
 use Rattle.dk_page.specs.declared.repeating.RepeatsTold.{RepeatsTold}
 use Rattle.dk_page.specs.declared.told.Additions.{Additions}
 use Rattle.dk_repeat_search.specs.Repeats.{IsRepeatsOf}
@@ -34,12 +36,23 @@ abbrev pub search_asked : (List ℕ → Option (List ℕ)) → List ℕ → Opti
 search_asked at document (Some ticks) = search_read at ticks (reading document)
 search_asked at document None = None
 
--- what `repeats` tells of the run of this
+-- the files of these programs, one for each process
+abbrev pub AddsPrograms : List ProcessRow → List (List ℕ) → Additions → Type 0
+AddsPrograms [] codes a = AddsNothing a
+AddsPrograms (row ∷ rows) [] a = AddsNothing a
+AddsPrograms (row ∷ rows) (code ∷ codes) a = (first : Additions) × (rest : Additions) × IsAddedByProgram row.program code first
+    × AddsPrograms rows codes rest × IsBoth first rest a
+
+-- the programs of this, and what `repeats` tells of its run
 pub record TellsRepeats (name : List ℕ) (ticks : ℕ) (w : Workload) (more : Additions) : Type 0 where
+  pub files : Additions
   pub told : RepeatsTold
+  pub section : Additions
+  pub programs : AddsPrograms w.config.processes w.programs files
   pub ticks_are : told.ticks ≡ ticks
   pub repeats : IsRepeatsOf w ticks told.text.items told.whole
-  pub adds : IsAddedByRepeats name told more
+  pub adds : IsAddedByRepeats name told section
+  pub both : IsBoth files section more
 
 abbrev pub TellsOf : List ℕ → ℕ → Result Workload LoadFault → Additions → Type 0
 TellsOf name ticks (Ok w) more = TellsRepeats name ticks w more

@@ -8,29 +8,47 @@ ghost use Rattle.dk_loader.specs.declared.fault.LoadFault.{LoadFault};
 ghost use Rattle.dk_loader.specs.Programs.{loading};
 ghost use Rattle.dk_loader.specs.Reading.{reading};
 ghost use Rattle.dk_outside.specs.Counts.{Rises};
-ghost use Rattle.dk_page_prog.specs.Repeating.{ComesTo, TellsRepeats, search_asked, search_certified, search_read};
+ghost use Rattle.dk_page_prog.specs.Repeating.{AddsPrograms, ComesTo, TellsRepeats, search_asked, search_certified, search_read};
 
 use dk_certify::{Verdict, certify};
 use dk_config::{Config, MAX_CONFIG_BYTES};
 use dk_loader::{LoadFault, Loaded, load, read_config};
 use dk_outside::Depot;
-use dk_page::{Additions, RepeatsTold, repeats_additions};
+use dk_page::{Additions, RepeatsTold, program_additions, repeats_additions};
 use dk_repeat_search::find_repeats;
-use std::alloc::Global;
+use std::alloc::{AllocError, Global};
 
-/// What repeats in the run of a configuration with its programs.
+/// The files of the programs, one for each process.
+fn programs_of(alloc: Global, loaded: &Loaded) -> Result<Additions, AllocError>
+    requires { length loaded.now.programs ≡ length loaded.now.config.processes }
+    ensures { IfOk result (AddsPrograms loaded.now.config.processes loaded.now.programs) }
+{
+    let mut added = Additions::none(alloc);
+    let mut left = loaded.programs.len();
+    while left > 0 {
+        left -= 1;
+        let name = loaded.config.processes[left].program.as_str();
+        let one = program_additions(alloc, name, loaded.programs[left].bytes())?;
+        added = one.with(&added)?;
+    }
+    Ok(added)
+}
+
+/// What repeats in the run of a configuration with its programs, and these.
 fn of_loaded(alloc: Global, name: &str, loaded: Loaded, ticks: u32) -> Result<Additions, LoadFault>
     requires { IsLoaded loaded }
     ensures tells { IfOk result (TellsRepeats name.now ticks loaded) }
     ensures memory { IfErr result (λ e. e ≡ LoadFault.NoMemory) }
 {
+    let files = programs_of(alloc, &loaded)?;
     let found = find_repeats(alloc, loaded, ticks)?;
     let told = RepeatsTold {
         ticks,
         text: found.page.as_bytes().to_vec(alloc)?,
         whole: found.whole,
     };
-    Ok(repeats_additions(alloc, name, &told)?)
+    let section = repeats_additions(alloc, name, &told)?;
+    Ok(files.with(&section)?)
 }
 
 /// In that of a certified one, whose programs are read.
