@@ -8,8 +8,12 @@ returns-clause-tells c =
     let text = c.in_ok-to_vec.field-0 in
     let same : found.page ≡ text.items = search rules in
     record {
+      files = c.in_ok-files.files;
       told = record { ticks = c.args.ticks; text = text; whole = found.whole };
+      section = c.in_ok-section.section;
+      programs = c.in_ok-files.ensures;
       ticks_are = refl;
       repeats = subst (λ t. IsRepeatsOf c.args.loaded c.args.ticks t found.whole) same c.in_ok-found.ensures;
-      adds = c.in_ok-repeats_additions.ensures;
+      adds = c.in_ok-section.ensures;
+      both = c.in_ok-with.ensures;
     }
