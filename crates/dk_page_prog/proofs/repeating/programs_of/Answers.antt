@@ -1,4 +1,4 @@
-use Rattle.std.proofs.Common.{rules, ◌≡◌, ◌∙◌, ◌+◌, ◌-◌, ◌<◌, ◌≤◌, ◌∷◌, List, ℕ, ap, arith, drop, length, subst, sym, get_or}
+use Rattle.std.proofs.Common.{rules, ◌≡◌, ◌∙◌, ◌+◌, ◌-◌, ◌<◌, ◌∷◌, List, ℕ, ap, arith, drop, length, subst, sym, get_or}
 use Rattle.std.proofs.lemmas.List.{drop_more}
 use Rattle.dk_config.specs.declared.rows.ProcessRow.{ProcessRow}
 use Rattle.dk_page.specs.More.{IsAddedByProgram}
@@ -25,9 +25,9 @@ loop-left-preserved c =
     let row-at : get_or rows (c.loop-left.left - 1) c.index.result.now ≡ c.index.result.now = search rules in
     let code-at : get_or codes (c.loop-left.left - 1) c.bytes.result.now ≡ c.bytes.result.now = search rules in
     let added : IsAddedByProgram c.index.result.now.program c.bytes.result.now c.in_ok-one.one =
-        subst (λ n. IsAddedByProgram n c.bytes.result.now c.in_ok-one.one) c.as_str-name.ensures c.in_ok-one.ensures in
+    subst (λ n. IsAddedByProgram n c.bytes.result.now c.in_ok-one.one) c.as_str-name.ensures c.in_ok-one.ensures in
     let behind : AddsPrograms (drop (c.loop-left.left - 1 + 1) rows) (drop (c.loop-left.left - 1 + 1) codes) c.loop-left.added =
-        subst (λ k. AddsPrograms (drop k rows) (drop k codes) c.loop-left.added) again c.loop-left.invariant.added in
+    subst (λ k. AddsPrograms (drop k rows) (drop k codes) c.loop-left.added) again c.loop-left.invariant.added in
     record {
       least = omega (arith, least);
       added =

@@ -1,4 +1,4 @@
-use Rattle.std.proofs.Common.{◌≡◌, ◌≤◌, drop, length}
+use Rattle.std.proofs.Common.{◌≤◌, drop, length}
 use Rattle.dk_page_prog.specs.Repeating.{AddsPrograms}
 use Rattle.dk_page_prog.proofs.repeating.programs_of.Given as goal
 
