@@ -1,0 +1,6 @@
+pub mod Names
+pub mod Rest
+pub mod Pressed
+pub mod Lent
+pub mod Ended
+pub mod Long
