@@ -1,9 +1,10 @@
 -- A window that has ended: the entry of its last tick, over its past.
-use Rattle.dk_slack_promise.proofs.Names.{ℕ, suc, ◌≡◌, ◌+◌, ◌-◌, ◌%◌, ◌<◌, ◌≤◌, Bool, List, [], ◌∷◌, length, refl, sym, ap, ◌∙◌, subst, arith, count_by, Configuration, period, window_start, Entry, window, Audited, past_at}
+use Rattle.dk_slack_promise.proofs.Names.{ℕ, suc, ◌≡◌, ◌+◌, ◌-◌, ◌%◌, ◌<◌, ◌≤◌, Bool, List, [], ◌∷◌, length, refl, sym, ap, ◌∙◌, subst, arith, inl, inr, cases_lt, count_by, Configuration, period, window_start, Entry, window, Audited, past_at}
 use Rattle.std.specs.Prelude.{take}
 use Rattle.std.proofs.lemmas.List.{length-drop}
 use Rattle.dk_bound.proofs.ByWhen.{audited-drop}
-use Rattle.dk_bound.proofs.Bounded.{window-start}
+use Rattle.dk_bound.proofs.Bounded.{past_at-later, window-start}
+use Rattle.dk_bound.proofs.Received.{past_at-earlier}
 use Rattle.dk_slack_promise.specs.Long.{counted_from}
 
 pub record Ended (c : Configuration) (past : List Entry) (i s : ℕ) : Type 0 where
@@ -36,6 +37,12 @@ counted-ended test c past i s begins w =
     let start : window_start c i s ≡ window_start c i (length w.before) = own ∙ sym w.start in
     ap (λ q. count_by test (window c s q i)) w.is ∙ ap (λ (a : ℕ). count_by test (take (suc (length w.before) - a) (w.last ∷ w.before))) start
 
--- an earlier past of its entries is one of the whole past
-pub past-earlier : (c : Configuration) (past : List Entry) (i s u : ℕ) → s + period c i ≤ length past → u ≤ s + period c i → past_at (past_at past (s + period c i)) u ≡ past_at past u
-past-earlier c past i s u le early = ?
+-- an earlier past of an earlier past is one of the whole
+pub past-twice : (past : List Entry) (v u : ℕ) → u ≤ v → past_at (past_at past v) u ≡ past_at past u
+past-twice [] v u low = ap (λ q. past_at q u) (past_at-later [] v (omega arith))
+past-twice (e ∷ past) v u low =
+    elim (cases_lt (length past) v) [
+      | inl late ↦ ap (λ q. past_at q u) (past_at-later (e ∷ past) v (omega arith))
+      | inr early ↦
+          ap (λ q. past_at q u) (past_at-earlier e past v (omega arith)) ∙ past-twice past v u low ∙ sym (past_at-earlier e past u (omega arith))
+    ]

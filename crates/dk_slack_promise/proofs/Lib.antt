@@ -3,4 +3,6 @@ pub mod Rest
 pub mod Pressed
 pub mod Lent
 pub mod Ended
+pub mod First
 pub mod Long
+pub mod Short

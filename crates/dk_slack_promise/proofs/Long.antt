@@ -1,11 +1,12 @@
 -- In a window of the slowest level each tick is for work that certification counts, or lent, or idle.
 use Rattle.dk_slack_promise.proofs.Names.{ℕ, zero, suc, ◌≡◌, ◌+◌, ◌-◌, ◌%◌, ◌<◌, ◌≤◌, inl, inr, Bool, true, false, cond, eqb, ltb, leb, List, [], ◌∷◌, length, refl, sym, ap, ◌∙◌, subst, arith, Option, Some, None, is_some, count_by, cases_Bool, cases_lt, nat_tests, zero-mod, mod-lt, Configuration, IsChecked, IsAccepted, period, window_start, window_end, level_demand, level_blocking, spare, Entry, Label, Choice, payer, borrower, kernel_level, window, Has, Thread, threads, remaining_demand, Audited, HasChosenLabel, label_of, chosen, Always, holders-fit, steady, steady-fair, ready-of, remaining-begins, remaining-entry, remaining-moves, paid_by_kernel, paid_by_threads, thread-counts, kernel-counts, ThreadsFit, threads-fit, Kind, paid, lent, kernel, idle, kind, count-begins, count-charged, mod-next, window-charged, window-goes-on, window_start-within, window_start-le, past_at}
 use Rattle.dk_slack_promise.specs.Lent.{is_lent, ticks_lent}
-use Rattle.dk_slack_promise.specs.Long.{slowest, is_idle, is_idle_label, counted_from, LeavesSpare}
+use Rattle.dk_slack_promise.specs.Long.{slowest, is_idle, is_idle_label, is_lent_to, counted_from, LeavesSpare, IsOpen, LendsSpare}
 use Rattle.dk_slack_promise.proofs.Pressed.{lent_one}
-use Rattle.dk_slack_promise.proofs.Ended.{Ended, ended, counted-ended}
+use Rattle.dk_slack_promise.proofs.Ended.{Ended, ended, counted-ended, past-twice}
+use Rattle.dk_slack_promise.proofs.First.{all-mine, none-idle}
 
-idle-label : (label : Label) → payer label ≡ None → borrower label ≡ None → kernel_level label ≡ None → is_idle_label label ≡ true
+pub idle-label : (label : Label) → payer label ≡ None → borrower label ≡ None → kernel_level label ≡ None → is_idle_label label ≡ true
 idle-label label pays borrows level = grind (arith, nat_tests)
 
 -- each tick is one for the work of some level, or lent, or idle
@@ -85,3 +86,26 @@ leaves_spare c past checked accepted audited s some begins le =
     let start = w.start in
     let size = w.size in
     omega (arith, charged, lents, idles, start, size)
+
+-- A process that none stands before, and that goes on asking, gets the spare of the slowest level.
+pub lends_spare : Always LendsSpare
+lends_spare c past checked accepted audited p s here first begins le opens =
+    let j = slowest c in
+    let some : 0 < length c.levels = (let known = checked.levels p here in omega arith) in
+    let positive = checked.positive j (omega arith) in
+    let all = leaves_spare c past checked accepted audited s some begins le in
+    let w = ended c past j s positive audited begins le in
+    let size = w.size in
+    let start = w.start in
+    let entries = w.last ∷ w.before in
+    let k : ℕ = suc (length w.before) - window_start c j (length w.before) in
+    let open_at : (u : ℕ) → suc (length w.before) ≤ u + k → u < suc (length w.before) → IsOpen c (past_at entries u) p =
+    λ u low high.
+    let same : past_at entries u ≡ past_at past u = ap (λ q. past_at q u) (sym w.is) ∙ past-twice past (s + period c j) u (omega (arith, high, size)) in
+    subst (λ q. IsOpen c q p) (sym same) (opens u (omega (arith, low, size, start)) (omega (arith, high, size))) in
+    let idle_none = none-idle c p k entries checked accepted w.audited open_at in
+    let mine = all-mine c p k entries checked w.audited here first open_at in
+    let lents = counted-ended is_lent c past j s begins w in
+    let idles = counted-ended is_idle c past j s begins w in
+    let own = counted-ended (is_lent_to p) c past j s begins w in
+    omega (arith, all, idle_none, mine, lents, idles, own)

@@ -7,7 +7,7 @@ use Rattle.dk_config.specs.Certification.{spare}
 use Rattle.dk_trace.specs.declared.Label.{Label}
 use Rattle.dk_trace.specs.declared.Entry.{Entry}
 use Rattle.dk_trace.specs.Entries.{borrower, window}
-use Rattle.dk_trace.specs.Threads.{main_thread, threads, Thread, is_main}
+use Rattle.dk_trace.specs.Threads.{Thread, threads}
 use Rattle.dk_trace.specs.Members.{Has}
 use Rattle.dk_trace.specs.Jobs.{thread_rem}
 use Rattle.dk_trace.specs.Slack.{want}
@@ -39,10 +39,10 @@ LeavesSpare c past =
     (s : ℕ) → 0 < length c.levels → s % period c (slowest c) ≡ 0 → s + period c (slowest c) ≤ length past
     → spare c (slowest c) ≤ counted_from is_lent c past (slowest c) s + counted_from is_idle c past (slowest c) s
 
--- the main of process p has something left, or asks for slack
+-- a thread of process p, of its main's level, has something left or asks for slack
 abbrev pub IsOpen : Configuration → List Entry → ℕ → Type 0
 IsOpen c past p =
-    (x : Thread) × Has (threads c past) x × (x.id.process ≡ p) × (is_main x ≡ true)
+    (x : Thread) × Has (threads c past) x × (x.id.process ≡ p) × (x.level ≡ main_level c p)
     × ((0 < thread_rem c (length past) past x) ⊎ (0 < want c (length past) past x))
 
 -- at each tick of the window of level i that starts at s

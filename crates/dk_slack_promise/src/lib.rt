@@ -7,7 +7,8 @@
 ghost use Rattle.dk_bound.specs.Laws.{Always};
 ghost use Rattle.dk_slack_promise.specs.Rest.{IdleAtRest};
 ghost use Rattle.dk_slack_promise.specs.Lent.{SpareStays, LentFits};
-ghost use Rattle.dk_slack_promise.specs.Long.{LeavesSpare};
+ghost use Rattle.dk_slack_promise.specs.Long.{LeavesSpare, LendsSpare};
+ghost use Rattle.dk_slack_promise.specs.Short.{ShortFits, ShortLends};
 
 /// No tick is idle while anybody has something left or asks for slack.
 #[tactic(auto, using(crate::proofs::Rest::idle_at_rest))]
@@ -31,4 +32,22 @@ pub fn lent_law()
 #[tactic(auto, using(crate::proofs::Long::leaves_spare))]
 pub fn leaves_law()
     ensures { Always LeavesSpare }
+{}
+
+/// A process that no other with the right to slack stands before, and that goes on asking throughout a window of the
+/// slowest level, gets at least its spare in it.
+pub fn lends_law()
+    ensures { Always LendsSpare }
+{}
+
+/// Where s ticks more in each window of a level are within the spare of it and of all slower levels, and in no window of
+/// the level more were lent, slack fits while in the present one fewer were and no faster level has work.
+pub fn short_law()
+    ensures { Always ShortFits }
+{}
+
+/// And a process of the level that no other with the right to slack stands before, and that goes on asking until they
+/// were lent, gets them in each window.
+pub fn short_lends_law()
+    ensures { Always ShortLends }
 {}
