@@ -57,7 +57,7 @@ has-right c past x audited some =
       | inr none ↦ let never = want-none c past x none audited in absurd (omega arith)
     ]
 
-claims-none : (work : Option Choice) (wish : Option Thread) → option_or (option_map (λ w. false) work) (option_map (λ x. true) wish) ≡ None → (work ≡ None) × (wish ≡ None)
+pub claims-none : (work : Option Choice) (wish : Option Thread) → option_or (option_map (λ w. false) work) (option_map (λ x. true) wish) ≡ None → (work ≡ None) × (wish ≡ None)
 claims-none None None is = (refl, refl)
 claims-none None (Some x) is = absurd (cc)
 claims-none (Some w) wish is = absurd (cc)
@@ -113,10 +113,10 @@ claims-by c past i (Some b) known some first is =
       | inr early ↦ (q, omega (arith, early), λ none. claims-wish (work_at c past q) (wish_at c past q) answer none)
     ]
 
-record Wisher (c : Configuration) (past : List Entry) (i : ℕ) (y : Thread) : Type 0 where
-  level : y.level ≤ i
-  among : Has (threads c past) y
-  wants : 0 < want c (length past) past y
+pub record Wisher (c : Configuration) (past : List Entry) (i : ℕ) (y : Thread) : Type 0 where
+  pub level : y.level ≤ i
+  pub among : Has (threads c past) y
+  pub wants : 0 < want c (length past) past y
 
 -- the first wish is no slower than one that there is
 wish-by : (c : Configuration) (past : List Entry) (i q : ℕ) (o : Option Thread) (y : Thread) → q ≤ i → q < length c.levels → (wish_at c past q ≡ None → ⊥)
@@ -139,6 +139,25 @@ wish-by c past i q (Some z) y le known some first is =
     let level : y.level ≡ r = grind (arith, nat_tests) in
     record { level = omega (arith, level, early, le); among = found.0; wants = wish-wants c n past r y found.1 }
 
+-- whom a tick is lent to, where level i claims it: a thread of a level up to i that asks
+pub record LentBy (c : Configuration) (past : List Entry) (i : ℕ) (z : ThreadId) : Type 0 where
+  pub who : Thread
+  pub wisher : Wisher c past i who
+  pub same : who.id ≡ z
+
+pub lent-by : (c : Configuration) (i : ℕ) (e : Entry) (past : List Entry) (z : ThreadId) → Audited c (e ∷ past) → i < length c.levels
+    → (claims_slack_at c past i ≡ None → ⊥) → borrower e.label ≡ Some z → LentBy c past i z
+lent-by c i e past z audited known claims same =
+    let L = length c.levels in
+    let due : lent_to c past ≡ Some z = sym (granted c (e ∷ past) audited).1 ∙ same in
+    let l = lending (first_of (claims_slack_at c past) (below L)) (fits c (length past) past) (first_of (wish_at c past) (below L)) z due in
+    let q = claims-by c past i (first_of (claims_slack_at c past) (below L)) known claims (first_of-is (claims_slack_at c past) 0 L) l.slack in
+    record {
+      who = l.who;
+      wisher = wish-by c past i q.0 (first_of (wish_at c past) (below L)) l.who q.1 (omega (arith, q.1, known)) q.2 (first_of-is (wish_at c past) 0 L) l.first;
+      same = l.same;
+    }
+
 -- while a process is open that none with the right stands before, each tick that is lent is its own
 pub lent-mine : (c : Configuration) (p : ℕ) (e : Entry) (past : List Entry) → IsChecked c → Audited c (e ∷ past) → p < length c.processes → NoneBefore c p
     → IsOpen c past p → is_lent e ≡ true → is_lent_to p e ≡ true
@@ -147,14 +166,9 @@ lent-mine c p e past checked audited here first is lends = go (borrower e.label)
     go : (o : Option ThreadId) → borrower e.label ≡ o → is_some o ≡ true → option_map_or (λ x. eqb x.process p) (borrower e.label) false ≡ true
     go None same some = absurd (cc)
     go (Some z) same some =
-        let L = length c.levels in
-        let i = main_level c p in
-        let known : i < L = checked.levels p here in
-        let due : lent_to c past ≡ Some z = sym (granted c (e ∷ past) audited).1 ∙ same in
-        let l = lending (first_of (claims_slack_at c past) (below L)) (fits c (length past) past) (first_of (wish_at c past) (below L)) z due in
-        let q = claims-by c past i (first_of (claims_slack_at c past) (below L)) known (open-claims c past p is) (first_of-is (claims_slack_at c past) 0 L) l.slack in
+        let l = lent-by c (main_level c p) e past z audited (checked.levels p here) (open-claims c past p is) same in
         let y = l.who in
-        let w = wish-by c past i q.0 (first_of (wish_at c past) (below L)) y q.1 (omega (arith, q.1, known)) q.2 (first_of-is (wish_at c past) 0 L) l.first in
+        let w = l.wisher in
         let row = (threads-fit c past checked audited.0).rows y w.among in
         let low = row.low in
         let level = w.level in

@@ -5,4 +5,4 @@ pub mod Lent
 pub mod Ended
 pub mod First
 pub mod Long
-pub mod Short
+pub mod Allotted

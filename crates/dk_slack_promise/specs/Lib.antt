@@ -1,4 +1,4 @@
 pub mod Rest
 pub mod Lent
 pub mod Long
-pub mod Short
+pub mod Allotted

@@ -8,7 +8,7 @@ ghost use Rattle.dk_bound.specs.Laws.{Always};
 ghost use Rattle.dk_slack_promise.specs.Rest.{IdleAtRest};
 ghost use Rattle.dk_slack_promise.specs.Lent.{SpareStays, LentFits};
 ghost use Rattle.dk_slack_promise.specs.Long.{LeavesSpare, LendsSpare};
-ghost use Rattle.dk_slack_promise.specs.Short.{ShortFits, ShortLends};
+ghost use Rattle.dk_slack_promise.specs.Allotted.{AllottedFits, AllottedLends};
 
 /// No tick is idle while anybody has something left or asks for slack.
 #[tactic(auto, using(crate::proofs::Rest::idle_at_rest))]
@@ -40,14 +40,13 @@ pub fn lends_law()
     ensures { Always LendsSpare }
 {}
 
-/// Where s ticks more in each window of a level are within the spare of it and of all slower levels, and in no window of
-/// the level more were lent, slack fits while in the present one fewer were and no faster level has work.
-pub fn short_law()
-    ensures { Always ShortFits }
+/// Where the allotments of the processes are within the spare of each level, and no process was lent more in a window of
+/// its level, slack fits for each that was lent less in its present one, once no faster level has work.
+pub fn allotted_law()
+    ensures { Always AllottedFits }
 {}
 
-/// And a process of the level that no other with the right to slack stands before, and that goes on asking until they
-/// were lent, gets them in each window.
-pub fn short_lends_law()
-    ensures { Always ShortLends }
+/// And each that goes on asking until it was lent its allotment gets it in each window of its level.
+pub fn allotted_lends_law()
+    ensures { Always AllottedLends }
 {}
