@@ -1,24 +1,24 @@
 -- Allotments of slack: no window has lent its spare before each process had its allotment.
-use Rattle.dk_slack_promise.proofs.Names.{ℕ, zero, suc, ◌≡◌, ◌+◌, ◌-◌, ◌*◌, ◌/◌, ◌%◌, ◌<◌, ◌≤◌, ◌⊎◌, ◌&&◌, inl, inr, Bool, true, false, cond, eqb, leb, List, [], ◌∷◌, length, refl, sym, ap, ◌∙◌, subst, arith, Option, Some, None, MatchOption, is_some, option_map, option_or, unwrap_or, count_by, cases_Bool, cases_lt, cases_eq, nat_tests, zero-mod, mod-lt, Configuration, IsChecked, IsAccepted, below, first_of, main_level, period, window_start, window_end, spare, Entry, Label, ThreadId, borrower, window, Has, Thread, threads, own_demand, fits, work_at, wish_at, chosen, Audited, Always, NoAnswer, IsFirst, first_of-is, Passed, no-demand, no-work, threads-fit, steady, steady-fair, own-entry, own-moves, Kind, paid, lent, kernel, idle, kind, count-begins, count-charged, count_by-cons, mod-next, window-charged, window-goes-on, window_start-within, window_start-le, past_at}
+use Rattle.dk_slack_promise.proofs.Names.{ℕ, zero, suc, ◌≡◌, ◌+◌, ◌-◌, ◌*◌, ◌/◌, ◌%◌, ◌<◌, ◌≤◌, ◌⊎◌, ◌&&◌, inl, inr, Bool, true, false, cond, eqb, leb, List, [], ◌∷◌, length, refl, sym, ap, ◌∙◌, subst, arith, Option, Some, None, MatchOption, is_some, option_map, option_or, unwrap_or, count_by, cases_Bool, cases_lt, cases_eq, nat_tests, zero-mod, mod-lt, Configuration, IsChecked, IsAccepted, below, first_of, main_level, period, window_start, spare, Entry, ThreadId, borrower, window, Thread, own_demand, fits, work_at, wish_at, chosen, Audited, Always, NoAnswer, IsFirst, first_of-is, Passed, no-demand, no-work, threads-fit, steady, steady-fair, own-entry, own-moves, Kind, paid, lent, kernel, idle, kind, count-begins, count-charged, count_by-cons, mod-next, window-goes-on, window_start-within, window_start-le, past_at}
 use Rattle.std.specs.Prelude.{take, drop}
 use Rattle.std.specs.Option.{option_map_or}
 use Rattle.std.proofs.Math.Nat.{mul-le-mul_left, mul-le-mul_right}
 use Rattle.dk_config.specs.Sums.{sum_from}
 use Rattle.dk_config.proofs.Sums.{sum_from-add, sum_from-eq, sum_from-le, sum_from-term}
 use Rattle.dk_trace.specs.Choices.{claims_slack_at}
-use Rattle.dk_trace.specs.Guarantees.{lent_to, Granted}
+use Rattle.dk_trace.specs.Guarantees.{lent_to}
 use Rattle.dk_trace.proofs.Starts.{begins-together}
 use Rattle.dk_trace.proofs.Spans.{whole-times}
 use Rattle.dk_bound.proofs.Laws.{granted}
 use Rattle.dk_bound.proofs.ByWhen.{goes-on}
 use Rattle.dk_bound.proofs.Received.{past_at-earlier, past_at-now}
 use Rattle.dk_slack_promise.specs.Lent.{is_lent, ticks_lent}
-use Rattle.dk_slack_promise.specs.Long.{IsOpen, is_lent_to, counted_from}
-use Rattle.dk_slack_promise.specs.Allotted.{allotted, IsAllotted, own_lent, KeepsTo, AllottedFits, IsOpenUntil, AllottedLends}
+use Rattle.dk_slack_promise.specs.Long.{IsOpen, is_lent_to}
+use Rattle.dk_slack_promise.specs.Allotted.{IsAllotted, own_lent, KeepsTo, AllottedFits, AllottedLends}
 use Rattle.dk_slack_promise.proofs.Rest.{work-none, idle_at_rest}
-use Rattle.dk_slack_promise.proofs.Pressed.{IsPressed, lent_one}
+use Rattle.dk_slack_promise.proofs.Pressed.{IsPressed}
 use Rattle.dk_slack_promise.proofs.Lent.{HasRoom, room-begins, room-charged, room-step, lent_fits}
-use Rattle.dk_slack_promise.proofs.Ended.{Ended, ended, counted-ended, past-twice}
+use Rattle.dk_slack_promise.proofs.Ended.{ended, counted-ended, past-twice}
 use Rattle.dk_slack_promise.proofs.First.{one_of, claims-none, open-claims, open-not, idle-chosen, lent-by}
 use Rattle.dk_slack_promise.proofs.Long.{idle-label}
 
@@ -392,10 +392,10 @@ state-step c s p r e past know opens from long (inl behind) =
                 inl (record {
                   room = room-step c i e past know.checked know.accepted know.audited known long w (open-presses c s p e past know is less w) behind.room;
                   none = λ q slow.
-                  let off : one_of (is_lent_to q) e ≡ 0 = rw (not-slower c i q e past know.checked know.audited known (open-claims c past p is) slow) refl in
-                  let more = counted-next (is_lent_to q) c e past i long in
-                  let before = behind.none q slow in
-                  omega (arith, off, more, before);
+                      let off : one_of (is_lent_to q) e ≡ 0 = rw (not-slower c i q e past know.checked know.audited known (open-claims c past p is) slow) refl in
+                      let more = counted-next (is_lent_to q) c e past i long in
+                      let before = behind.none q slow in
+                      omega (arith, off, more, before);
                 })
           ]
     ]

@@ -1,5 +1,5 @@
 -- A window that has ended: the entry of its last tick, over its past.
-use Rattle.dk_slack_promise.proofs.Names.{ℕ, suc, ◌≡◌, ◌+◌, ◌-◌, ◌%◌, ◌<◌, ◌≤◌, Bool, List, [], ◌∷◌, length, refl, sym, ap, ◌∙◌, subst, arith, inl, inr, cases_lt, count_by, Configuration, period, window_start, Entry, window, Audited, past_at}
+use Rattle.dk_slack_promise.proofs.Names.{ℕ, suc, ◌≡◌, ◌+◌, ◌-◌, ◌%◌, ◌<◌, ◌≤◌, Bool, List, [], ◌∷◌, length, refl, sym, ap, ◌∙◌, arith, inl, inr, cases_lt, count_by, Configuration, period, window_start, Entry, window, Audited, past_at}
 use Rattle.std.specs.Prelude.{take}
 use Rattle.std.proofs.lemmas.List.{length-drop}
 use Rattle.dk_bound.proofs.ByWhen.{audited-drop}

@@ -1,5 +1,5 @@
 -- Who has the ticks that are lent while a process goes on asking that none with the right to slack stands before.
-use Rattle.dk_slack_promise.proofs.Names.{ℕ, zero, suc, ◌≡◌, ◌+◌, ◌-◌, ◌*◌, ◌%◌, ◌<◌, ◌≤◌, ◌⊎◌, ◌&&◌, inl, inr, Bool, true, false, cond, eqb, ltb, List, [], ◌∷◌, length, refl, sym, ap, ◌∙◌, subst, arith, Option, Some, None, MatchOption, is_some, option_map, option_or, unwrap_or, filter, count_by, cases_Bool, cases_lt, and_parts, and_from, nat_tests, Configuration, IsChecked, IsAccepted, below, first_of, main_level, period, Entry, Label, Choice, ThreadId, borrower, is_of, window, Has, Thread, threads, thread_rem, want, is_wishing, fits, work_at, wish_at, chosen, HasChosenLabel, label_of, Audited, Follows, Always, NoAnswer, IsFirst, first_of-is, filter-has, ThreadsFit, threads-fit, no-work, count_by-cons, past_at}
+use Rattle.dk_slack_promise.proofs.Names.{ℕ, zero, suc, ◌≡◌, ◌+◌, ◌<◌, ◌≤◌, ◌&&◌, inl, inr, Bool, true, false, cond, eqb, ltb, List, [], ◌∷◌, length, refl, sym, ap, ◌∙◌, subst, arith, Option, Some, None, MatchOption, is_some, option_map, option_or, unwrap_or, filter, count_by, cases_Bool, cases_lt, and_parts, nat_tests, Configuration, IsChecked, IsAccepted, below, first_of, main_level, Entry, Label, Choice, ThreadId, borrower, is_of, Has, Thread, threads, thread_rem, want, is_wishing, fits, work_at, wish_at, chosen, HasChosenLabel, Audited, Follows, NoAnswer, IsFirst, first_of-is, filter-has, threads-fit, no-work, count_by-cons, past_at}
 use Rattle.std.specs.Prelude.{take, not, ◌||◌}
 use Rattle.std.specs.Option.{option_map_or}
 use Rattle.dk_config.specs.declared.TheConstants.{MAX_SPAN}
@@ -7,8 +7,8 @@ use Rattle.dk_config.specs.Windows.{may_ask}
 use Rattle.dk_trace.specs.declared.Event.{Event}
 use Rattle.dk_trace.specs.declared.Refusal.{Refusal}
 use Rattle.dk_trace.specs.Choices.{claims_slack_at}
-use Rattle.dk_trace.specs.Guarantees.{lent_to, Granted}
-use Rattle.dk_trace.specs.Slack.{asked, last_request, oldest}
+use Rattle.dk_trace.specs.Guarantees.{lent_to}
+use Rattle.dk_trace.specs.Slack.{asked, last_request}
 use Rattle.dk_trace.proofs.Chosen.{oldest-Has}
 use Rattle.dk_trace.proofs.Entered.{done-event}
 use Rattle.dk_trace.proofs.Events.{none-holds}

@@ -1,5 +1,5 @@
 -- The spare of a level is still free, less what was lent in its window: along each window of the level.
-use Rattle.dk_slack_promise.proofs.Names.{ℕ, suc, ◌≡◌, ◌+◌, ◌-◌, ◌%◌, ◌<◌, ◌≤◌, inl, inr, true, false, cond, eqb, leb, List, [], ◌∷◌, length, refl, sym, ap, ◌∙◌, subst, arith, cases_Bool, nat_tests, le-leb, zero-mod, mod-lt, Configuration, IsChecked, IsAccepted, period, window_start, window_end, level_demand, level_blocking, spare, Entry, blocking, own_demand, remaining_demand, fits, fits_at, Audited, Always, holders-fit, steady, steady-fair, ready-of, blocks_at_most, remaining-begins, remaining-entry, remaining-moves, own-entry, own-moves, Kind, kind, count-begins, count-charged, count_by-cons, count_by, mod-next, window-goes-on, window_start-within, window_start-le, window-charged}
+use Rattle.dk_slack_promise.proofs.Names.{ℕ, suc, ◌≡◌, ◌+◌, ◌-◌, ◌%◌, ◌<◌, ◌≤◌, inl, inr, true, eqb, leb, List, [], ◌∷◌, length, refl, sym, ap, ◌∙◌, arith, cases_Bool, nat_tests, le-leb, zero-mod, mod-lt, Configuration, IsChecked, IsAccepted, period, window_end, spare, Entry, blocking, own_demand, remaining_demand, fits_at, Audited, Always, holders-fit, steady, steady-fair, ready-of, blocks_at_most, remaining-begins, remaining-entry, remaining-moves, own-entry, own-moves, Kind, kind, count-charged, count_by, mod-next, window-goes-on, window_start-within, window_start-le, window-charged}
 use Rattle.dk_slack_promise.specs.Lent.{is_lent, ticks_lent, SpareStays, LentFits}
 use Rattle.dk_slack_promise.proofs.Pressed.{IsPressed, lent_one, works-press, presses}
 use Rattle.dk_slack_promise.proofs.Rest.{all-true}

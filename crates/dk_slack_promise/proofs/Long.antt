@@ -1,9 +1,9 @@
 -- In a window of the slowest level each tick is for work that certification counts, or lent, or idle.
-use Rattle.dk_slack_promise.proofs.Names.{ℕ, zero, suc, ◌≡◌, ◌+◌, ◌-◌, ◌%◌, ◌<◌, ◌≤◌, inl, inr, Bool, true, false, cond, eqb, ltb, leb, List, [], ◌∷◌, length, refl, sym, ap, ◌∙◌, subst, arith, Option, Some, None, is_some, count_by, cases_Bool, cases_lt, nat_tests, zero-mod, mod-lt, Configuration, IsChecked, IsAccepted, period, window_start, window_end, level_demand, level_blocking, spare, Entry, Label, Choice, payer, borrower, kernel_level, window, Has, Thread, threads, remaining_demand, Audited, HasChosenLabel, label_of, chosen, Always, holders-fit, steady, steady-fair, ready-of, remaining-begins, remaining-entry, remaining-moves, paid_by_kernel, paid_by_threads, thread-counts, kernel-counts, ThreadsFit, threads-fit, Kind, paid, lent, kernel, idle, kind, count-begins, count-charged, mod-next, window-charged, window-goes-on, window_start-within, window_start-le, past_at}
+use Rattle.dk_slack_promise.proofs.Names.{ℕ, suc, ◌≡◌, ◌+◌, ◌-◌, ◌%◌, ◌<◌, ◌≤◌, inl, inr, true, cond, List, [], ◌∷◌, length, refl, sym, ap, ◌∙◌, subst, arith, None, count_by, nat_tests, zero-mod, Configuration, IsChecked, IsAccepted, period, window_start, level_demand, Entry, Label, payer, borrower, kernel_level, window, remaining_demand, Audited, Always, steady, steady-fair, ready-of, remaining-begins, remaining-entry, remaining-moves, paid_by_kernel, paid_by_threads, thread-counts, kernel-counts, threads-fit, Kind, paid, lent, kernel, idle, kind, count-charged, mod-next, window-charged, window-goes-on, window_start-within, window_start-le, past_at}
 use Rattle.dk_slack_promise.specs.Lent.{is_lent, ticks_lent}
-use Rattle.dk_slack_promise.specs.Long.{slowest, is_idle, is_idle_label, is_lent_to, counted_from, LeavesSpare, IsOpen, LendsSpare}
+use Rattle.dk_slack_promise.specs.Long.{slowest, is_idle, is_idle_label, is_lent_to, LeavesSpare, IsOpen, LendsSpare}
 use Rattle.dk_slack_promise.proofs.Pressed.{lent_one}
-use Rattle.dk_slack_promise.proofs.Ended.{Ended, ended, counted-ended, past-twice}
+use Rattle.dk_slack_promise.proofs.Ended.{ended, counted-ended, past-twice}
 use Rattle.dk_slack_promise.proofs.First.{all-mine, none-idle}
 
 pub idle-label : (label : Label) → payer label ≡ None → borrower label ≡ None → kernel_level label ≡ None → is_idle_label label ≡ true

@@ -1,6 +1,6 @@
 -- A tick that goes to the work of a level up to j, or to slack: level j needs a tick less, waits a tick less, or lent one.
-use Rattle.dk_slack_promise.proofs.Names.{ℕ, suc, ◌≡◌, ◌+◌, ◌-◌, ◌<◌, ◌≤◌, inl, inr, Bool, true, false, cond, ltb, List, ◌∷◌, length, refl, sym, ap, ◌∙◌, subst, arith, Option, Some, None, is_some, cases_Bool, cases_lt, nat_tests, Configuration, IsChecked, Entry, Label, payer, borrower, is_of, is_budget_of, stops, Has, Thread, threads, after_entry, Hold, held_by, thread_blocking, blocking, own_demand, Audited, Follows, ThreadsFit, threads-fit, Passed, Turn, no-demand, Kind, paid, lent, kernel, idle, kind, Rising, HoldersFit, paid_by_kernel, paid_by_threads, thread-counts, kernel-counts, payer-budget_of}
-use Rattle.std.specs.Prelude.{map, sum_by}
+use Rattle.dk_slack_promise.proofs.Names.{ℕ, ◌≡◌, ◌+◌, ◌-◌, ◌<◌, ◌≤◌, inl, inr, true, false, cond, ltb, List, ◌∷◌, length, refl, sym, ap, ◌∙◌, subst, arith, Option, Some, cases_Bool, cases_lt, nat_tests, Configuration, IsChecked, Entry, Label, payer, is_of, is_budget_of, stops, Has, Thread, threads, after_entry, Hold, held_by, thread_blocking, blocking, own_demand, Audited, Follows, ThreadsFit, threads-fit, Turn, no-demand, Kind, paid, lent, kernel, idle, Rising, HoldersFit, paid_by_kernel, paid_by_threads, thread-counts, kernel-counts, payer-budget_of}
+use Rattle.std.specs.Prelude.{map}
 use Rattle.dk_trace.specs.declared.Event.{Event}
 use Rattle.dk_trace.specs.Jobs.{thread_body_left}
 use Rattle.dk_trace.specs.Holds.{aged, held_after, ends_hold, innermost_left, greatest_left}

@@ -1,6 +1,6 @@
 -- A tick is idle exactly where nobody has anything left and nobody asks.
-use Rattle.dk_slack_promise.proofs.Names.{ℕ, zero, suc, ◌≡◌, ◌+◌, ◌<◌, ◌≤◌, ◌&&◌, inl, inr, Bool, true, false, eqb, ltb, List, [], ◌∷◌, length, refl, sym, ap, ◌∙◌, subst, arith, Option, Some, None, option_map, option_or, unwrap_or, MatchOption, filter, list_all, cases_Bool, and_from, and_parts, nat_tests, Configuration, IsChecked, IsAccepted, numbers, below, first_of, Choice, Entry, Has, Thread, threads, thread_rem, kernel_rem, held_by, is_holding, is_holder, effective_level, own_demand, fits, fits_at, want, is_wishing, older, oldest, chosen, choice_at, work_at, slack_at, wish_at, holder_at, ready_at, on_budget, on_slack, Audited, Always, holders_stand, IsFirst, NoAnswer, first-none, first_of-is, option_map-none, option_map-some, option_or-none, find-nothing, has-filter, filter-has, nothing-in, NoWorkAt, Passed, now_rem, no-demand, no-work, threads-fit}
-use Rattle.dk_slack_promise.specs.Rest.{IsAtRest, IdleAtRest}
+use Rattle.dk_slack_promise.proofs.Names.{ℕ, zero, suc, ◌≡◌, ◌+◌, ◌<◌, ◌≤◌, ◌&&◌, inl, inr, Bool, true, false, eqb, ltb, List, [], ◌∷◌, length, refl, ap, ◌∙◌, subst, arith, Option, Some, None, option_map, option_or, unwrap_or, MatchOption, filter, list_all, cases_Bool, cases_lt, and_parts, nat_tests, Configuration, IsChecked, IsAccepted, numbers, below, first_of, Choice, Entry, Has, Thread, threads, thread_rem, kernel_rem, held_by, is_holding, effective_level, fits, fits_at, want, is_wishing, older, oldest, choice_at, work_at, slack_at, wish_at, holder_at, ready_at, on_slack, Audited, Always, holders_stand, IsFirst, NoAnswer, first-none, first_of-is, option_map-none, option_or-none, find-nothing, has-filter, filter-has, nothing-in, NoWorkAt, Passed, no-demand, no-work, threads-fit}
+use Rattle.dk_slack_promise.specs.Rest.{IsAtRest, IdleAtRest, WishIsHeard}
 
 -- where nobody has work for a level, no work is chosen there
 pub work-none : (c : Configuration) (past : List Entry) (i : ℕ) → NoWorkAt c past i → work_at c past i ≡ None
@@ -136,8 +136,8 @@ works-not : (c : Configuration) (past : List Entry) → IsChecked c → IsAccept
 works-not c past checked accepted audited rest i known = record {
   kernel = rest.kernel i known;
   holders = λ x among holding level.
-  let some = (holders_stand c past checked accepted audited x among holding).rem in
-  let none = rest.shares x among in absurd (omega arith);
+      let some = (holders_stand c past checked accepted audited x among holding).rem in
+      let none = rest.shares x among in absurd (omega arith);
   ready = λ x among level. rest.shares x among;
 }
 
@@ -153,3 +153,35 @@ idle_at_rest c past checked accepted audited = (
         let wish = wish-none c past k rest.wishes in
         let slack : slack_at c past k ≡ None = elim (cases_Bool (fits c (length past) past)) [ inl t ↦ rw (t, wish) refl | inr f ↦ rw f refl ] in
         rw (work, slack) refl
+
+heard-by : (c : Configuration) (past : List Entry) (k : ℕ) (x : Thread) (o : Option Choice) → k < length c.levels → Has (threads c past) x → is_wishing c (length past) past k x ≡ true
+    → fits c (length past) past ≡ true
+    → MatchOption o (NoAnswer (choice_at c past) 0 (0 + length c.levels)) (IsFirst (choice_at c past) 0 (0 + length c.levels))
+    → (i : ℕ) × (i ≤ k) × (choice_at c past i ≡ Some (unwrap_or o Choice.Idle))
+heard-by c past k x o known among wishes fitting first = go o first
+  where
+    found : choice_at c past k ≡ None → ⊥
+    found none =
+        let work : work_at c past k ≡ None = option_or-none (work_at c past k) (slack_at c past k) none in
+        let slack : slack_at c past k ≡ None = rw work at none in
+        let mapped : option_map (on_slack c past) (wish_at c past k) ≡ None = rw fitting at slack in
+        let quiet = nobody-wishes c past k x (option_map-none (on_slack c past) (wish_at c past k) mapped) among in
+        absurd (cc)
+
+    go : (o : Option Choice) → MatchOption o (NoAnswer (choice_at c past) 0 (0 + length c.levels)) (IsFirst (choice_at c past) 0 (0 + length c.levels))
+        → (i : ℕ) × (i ≤ k) × (choice_at c past i ≡ Some (unwrap_or o Choice.Idle))
+    go None none = absurd (found (none k (omega arith) (omega (arith, known))))
+    go (Some choice) first =
+        elim (cases_lt k first.place) [
+          | inl later ↦ absurd (found (first.before k (omega arith) later))
+          | inr early ↦ (first.place, omega (arith, early), first.answer)
+        ]
+
+pub wish_is_heard : Always WishIsHeard
+wish_is_heard c past checked accepted audited k x known among wishes = (
+  λ is. let quiet = ((idle_at_rest c past checked accepted audited).0 is).wishes x among in
+      let parts = and_parts ((eqb x.level k) && eqb (thread_rem c (length past) past x) 0) (ltb 0 (want c (length past) past x)) wishes in
+      let some : ltb 0 (want c (length past) past x) ≡ true = parts.1 in
+      absurd (grind (arith, nat_tests)),
+  λ fitting. heard-by c past k x (first_of (choice_at c past) (below (length c.levels))) known among wishes fitting (first_of-is (choice_at c past) 0 (length c.levels)),
+)

@@ -5,7 +5,7 @@
 #![tactic(auto)]
 
 ghost use Rattle.dk_bound.specs.Laws.{Always};
-ghost use Rattle.dk_slack_promise.specs.Rest.{IdleAtRest};
+ghost use Rattle.dk_slack_promise.specs.Rest.{IdleAtRest, WishIsHeard};
 ghost use Rattle.dk_slack_promise.specs.Lent.{SpareStays, LentFits};
 ghost use Rattle.dk_slack_promise.specs.Long.{LeavesSpare, LendsSpare};
 ghost use Rattle.dk_slack_promise.specs.Allotted.{AllottedFits, AllottedLends};
@@ -14,6 +14,11 @@ ghost use Rattle.dk_slack_promise.specs.Allotted.{AllottedFits, AllottedLends};
 #[tactic(auto, using(crate::proofs::Rest::idle_at_rest))]
 pub fn rest_law()
     ensures { Always IdleAtRest }
+{}
+
+/// So no tick is idle while a thread asks, and where slack fits it goes to the thread's level or a faster one.
+pub fn wish_law()
+    ensures { Always WishIsHeard }
 {}
 
 /// Of each level with unfinished work the spare is still free, but for the ticks that were lent in its window.
