@@ -1,0 +1,8 @@
+//! How much slack is promised, as numbers.
+//!
+//! All times are ticks of the simulated processor. No call needs memory. The rules are this project's own.
+#![tactic(auto)]
+
+mod own;
+
+pub use own::{own_slack, slowest_slack};
