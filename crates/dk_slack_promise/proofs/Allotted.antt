@@ -23,19 +23,19 @@ use Rattle.dk_slack_promise.proofs.First.{one_of, claims-none, open-claims, open
 use Rattle.dk_slack_promise.proofs.Long.{idle-label}
 
 -- the entries that pass the test in the window of level i so far
-abbrev counted : (Entry → Bool) → Configuration → ℕ → List Entry → ℕ → ℕ
+abbrev pub counted : (Entry → Bool) → Configuration → ℕ → List Entry → ℕ → ℕ
 counted test c now past i = count_by test (window c now past i)
 
 -- within a window the entry counts where it is
-counted-next : (test : Entry → Bool) (c : Configuration) (e : Entry) (past : List Entry) (i : ℕ) → suc (length past) % period c i ≡ suc (length past % period c i)
+pub counted-next : (test : Entry → Bool) (c : Configuration) (e : Entry) (past : List Entry) (i : ℕ) → suc (length past) % period c i ≡ suc (length past % period c i)
     → counted test c (suc (length past)) (e ∷ past) i ≡ one_of test e + counted test c (length past) past i
 counted-next test c e past i long = ap (count_by test) (window-goes-on c e past i long) ∙ count_by-cons test e (window c (length past) past i)
 
 -- how many windows of its level of the present window of level j are over, and that process q was lent no more than so many allotments before
-record Bursts (c : Configuration) (s : ℕ → ℕ) (q j : ℕ) (past : List Entry) : Type 0 where
-  over : ℕ
-  place : window_start c (main_level c q) (length past) ≡ window_start c j (length past) + over * period c (main_level c q)
-  most : counted (is_lent_to q) c (length past) past j ≤ s q * over + own_lent c (length past) past q
+pub record Bursts (c : Configuration) (s : ℕ → ℕ) (q j : ℕ) (past : List Entry) : Type 0 where
+  pub over : ℕ
+  pub place : window_start c (main_level c q) (length past) ≡ window_start c j (length past) + over * period c (main_level c q)
+  pub most : counted (is_lent_to q) c (length past) past j ≤ s q * over + own_lent c (length past) past q
 
 bursts-begin : (c : Configuration) (s : ℕ → ℕ) (q j : ℕ) (past : List Entry) → IsChecked c → main_level c q ≤ j → j < length c.levels → length past % period c j ≡ 0 → Bursts c s q j past
 bursts-begin c s q j past checked le known begins =
@@ -43,7 +43,7 @@ bursts-begin c s q j past checked le known begins =
     let none = count-begins (is_lent_to q) c past j begins in
     record { over = 0; place = omega (arith, short, begins); most = omega (arith, none) }
 
-bursts : (c : Configuration) (s : ℕ → ℕ) (q j : ℕ) (past : List Entry) → IsChecked c → q < length c.processes → main_level c q ≤ j → j < length c.levels → KeepsTo c s past → Bursts c s q j past
+pub bursts : (c : Configuration) (s : ℕ → ℕ) (q j : ℕ) (past : List Entry) → IsChecked c → q < length c.processes → main_level c q ≤ j → j < length c.levels → KeepsTo c s past → Bursts c s q j past
 bursts c s q j [] checked here le known keeps = bursts-begin c s q j [] checked le known (zero-mod (period c j))
 bursts c s q j (e ∷ past) checked here le known keeps =
     let n = length past in
@@ -78,7 +78,7 @@ bursts c s q j (e ∷ past) checked here le known keeps =
     ]
 
 -- fewer windows are over than there are
-over-less : (m K P : ℕ) → m * P < K * P → m < K
+pub over-less : (m K P : ℕ) → m * P < K * P → m < K
 over-less m K P less =
     elim (cases_lt m K) [
       | inl fine ↦ fine
@@ -102,7 +102,7 @@ term-le c s q j d x own past checked le known b most fit =
     omega (arith, product, more, most, fit)
 
 -- now no process has more than its allotment in its window
-keeps-now : (c : Configuration) (s : ℕ → ℕ) (q : ℕ) (past : List Entry) → IsChecked c → q < length c.processes → KeepsTo c s past → own_lent c (length past) past q ≤ s q
+pub keeps-now : (c : Configuration) (s : ℕ → ℕ) (q : ℕ) (past : List Entry) → IsChecked c → q < length c.processes → KeepsTo c s past → own_lent c (length past) past q ≤ s q
 keeps-now c s q [] checked here keeps =
     let none = count-begins (is_lent_to q) c [] (main_level c q) (zero-mod (period c (main_level c q))) in omega (arith, none)
 keeps-now c s q (e ∷ past) checked here keeps =
@@ -122,7 +122,7 @@ to-whom q None is = absurd (cc)
 to-whom q (Some z) is = (z, refl, grind (arith, nat_tests))
 
 -- where level j claims no tick is lent to a process that is slower
-not-slower : (c : Configuration) (j q : ℕ) (e : Entry) (past : List Entry) → IsChecked c → Audited c (e ∷ past) → j < length c.levels → (claims_slack_at c past j ≡ None → ⊥)
+pub not-slower : (c : Configuration) (j q : ℕ) (e : Entry) (past : List Entry) → IsChecked c → Audited c (e ∷ past) → j < length c.levels → (claims_slack_at c past j ≡ None → ⊥)
     → j < main_level c q → is_lent_to q e ≡ false
 not-slower c j q e past checked audited known claims slow =
     elim (cases_Bool (is_lent_to q e)) [
@@ -177,7 +177,7 @@ lent-there c e past checked audited lends (kernel k low passed left pays borrows
 lent-there c e past checked audited lends (idle passed pays borrows level) = absurd (let h : is_some {T = ThreadId} None ≡ true = rw borrows at lends in cc)
 
 -- what is lent is lent to the processes
-lent-sum : (c : Configuration) (k : ℕ) (past : List Entry) → IsChecked c → Audited c past
+pub lent-sum : (c : Configuration) (k : ℕ) (past : List Entry) → IsChecked c → Audited c past
     → count_by is_lent (take k past) ≤ sum_from 0 (length c.processes) (λ q. count_by (is_lent_to q) (take k past))
 lent-sum c zero past checked audited = omega arith
 lent-sum c (suc k) [] checked audited = omega arith
@@ -200,7 +200,7 @@ lent-sum c (suc k) (e ∷ past) checked audited =
           omega (arith, before, a, each, split, on, mine, term)
     ]
 
-sum_from-less : (low n : ℕ) (f g : ℕ → ℕ) (p : ℕ) → ((k : ℕ) → low ≤ k → k < low + n → f k ≤ g k) → low ≤ p → p < low + n → f p + 1 ≤ g p
+pub sum_from-less : (low n : ℕ) (f g : ℕ → ℕ) (p : ℕ) → ((k : ℕ) → low ≤ k → k < low + n → f k ≤ g k) → low ≤ p → p < low + n → f p + 1 ≤ g p
     → sum_from low n f + 1 ≤ sum_from low n g
 sum_from-less low zero f g p le a b one = absurd (omega (arith, a, b))
 sum_from-less low (suc n) f g p le a b one =
@@ -312,15 +312,15 @@ must-lend c p k e past audited known less passed is fitting unlent =
     absurd (cc)
 
 -- what is known along a window of the level of process p
-record Asks (c : Configuration) (s : ℕ → ℕ) (p : ℕ) (past : List Entry) : Type 0 where
-  checked : IsChecked c
-  accepted : IsAccepted c
-  audited : Audited c past
-  here : p < length c.processes
-  fit : IsAllotted c s
-  keeps : KeepsTo c s past
+pub record Asks (c : Configuration) (s : ℕ → ℕ) (p : ℕ) (past : List Entry) : Type 0 where
+  pub checked : IsChecked c
+  pub accepted : IsAccepted c
+  pub audited : Audited c past
+  pub here : p < length c.processes
+  pub fit : IsAllotted c s
+  pub keeps : KeepsTo c s past
 
-asks-before : (c : Configuration) (s : ℕ → ℕ) (p : ℕ) (e : Entry) (past : List Entry) → Asks c s p (e ∷ past) → Asks c s p past
+pub asks-before : (c : Configuration) (s : ℕ → ℕ) (p : ℕ) (e : Entry) (past : List Entry) → Asks c s p (e ∷ past) → Asks c s p past
 asks-before c s p e past know =
     record { checked = know.checked; accepted = know.accepted; audited = know.audited.0; here = know.here; fit = know.fit; keeps = know.keeps.0 }
 
@@ -337,7 +337,7 @@ not-past c s p k e past know is less passed borrows =
     ]
 
 -- so each tick goes to work of a level up to its own, or is lent
-open-presses : (c : Configuration) (s : ℕ → ℕ) (p : ℕ) (e : Entry) (past : List Entry) → Asks c s p (e ∷ past) → IsOpen c past p → own_lent c (length past) past p < s p
+pub open-presses : (c : Configuration) (s : ℕ → ℕ) (p : ℕ) (e : Entry) (past : List Entry) → Asks c s p (e ∷ past) → IsOpen c past p → own_lent c (length past) past p < s p
     → (w : Kind c past e.label) → IsPressed c past e.label (main_level c p) w
 open-presses c s p e past know is less (paid k x low passed has turn pays borrows level) = not-past c s p k e past know is less passed borrows
 open-presses c s p e past know is less (lent k x low passed has none fitting pays borrows level) = tt
@@ -483,7 +483,7 @@ all-lent c s p r e past know opens begins size start =
           ]
     ]
 
-keeps-drop : (c : Configuration) (s : ℕ → ℕ) (k : ℕ) (past : List Entry) → KeepsTo c s past → KeepsTo c s (drop k past)
+pub keeps-drop : (c : Configuration) (s : ℕ → ℕ) (k : ℕ) (past : List Entry) → KeepsTo c s past → KeepsTo c s (drop k past)
 keeps-drop c s zero past keeps = keeps
 keeps-drop c s (suc k) [] keeps = tt
 keeps-drop c s (suc k) (e ∷ past) keeps = keeps-drop c s k past keeps.0

@@ -6,3 +6,4 @@ pub mod Ended
 pub mod First
 pub mod Long
 pub mod Allotted
+pub mod Soon

@@ -88,14 +88,14 @@ own-less c e past j k x checked fit follows inv among mine turn after pays slow 
     ]
 
 -- all that is known of a tick that a thread paid for at a level up to j
-record Pays (c : Configuration) (e : Entry) (past : List Entry) (j k : ℕ) (x : Thread) : Type 0 where
-  checked : IsChecked c
-  audited : Audited c (e ∷ past)
-  holders : HoldersFit c (length past) past
-  among : Has (threads c past) x
-  turn : Turn c past k x
-  reaches : k ≤ j
-  pays : payer e.label ≡ Some x.id
+pub record Pays (c : Configuration) (e : Entry) (past : List Entry) (j k : ℕ) (x : Thread) : Type 0 where
+  pub checked : IsChecked c
+  pub audited : Audited c (e ∷ past)
+  pub holders : HoldersFit c (length past) past
+  pub among : Has (threads c past) x
+  pub turn : Turn c past k x
+  pub reaches : k ≤ j
+  pub pays : payer e.label ≡ Some x.id
 
 row-less : (c : Configuration) (e : Entry) (past : List Entry) (j k : ℕ) (x y : Thread) → Pays c e past j k x → Has (threads c past) y
     → thread_blocking c (e ∷ past) j (after_entry e (length past) y) ≤ thread_blocking c past j y
@@ -115,14 +115,14 @@ row-less c e past j k x y know there =
           ]
     ]
 
-pays-falls : (c : Configuration) (e : Entry) (past : List Entry) (j k : ℕ) (x : Thread) → Pays c e past j k x → blocking c (e ∷ past) j ≤ blocking c past j
+pub pays-falls : (c : Configuration) (e : Entry) (past : List Entry) (j k : ℕ) (x : Thread) → Pays c e past j k x → blocking c (e ∷ past) j ≤ blocking c past j
 pays-falls c e past j k x know =
     let after = blocking-after c e past j know.checked know.audited.0 know.audited.1 know.holders in
     let less = sum_by-le (λ y. thread_blocking c (e ∷ past) j (after_entry e (length past) y)) (thread_blocking c past j) (threads c past)
     (λ y there. row-less c e past j k x y know there) in
     omega (arith, after, less)
 
-pays-less : (c : Configuration) (e : Entry) (past : List Entry) (j k : ℕ) (x : Thread) → Pays c e past j k x → j < x.level → blocking c (e ∷ past) j + 1 ≤ blocking c past j
+pub pays-less : (c : Configuration) (e : Entry) (past : List Entry) (j k : ℕ) (x : Thread) → Pays c e past j k x → j < x.level → blocking c (e ∷ past) j + 1 ≤ blocking c past j
 pays-less c e past j k x know slow =
     let fit = threads-fit c past know.checked know.audited.0 in
     let after = blocking-after c e past j know.checked know.audited.0 know.audited.1 know.holders in

@@ -2,3 +2,4 @@ pub mod Rest
 pub mod Lent
 pub mod Long
 pub mod Allotted
+pub mod Soon

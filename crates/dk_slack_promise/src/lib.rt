@@ -9,6 +9,7 @@ ghost use Rattle.dk_slack_promise.specs.Rest.{IdleAtRest, WishIsHeard};
 ghost use Rattle.dk_slack_promise.specs.Lent.{SpareStays, LentFits};
 ghost use Rattle.dk_slack_promise.specs.Long.{LeavesSpare, LendsSpare};
 ghost use Rattle.dk_slack_promise.specs.Allotted.{AllottedFits, AllottedLends};
+ghost use Rattle.dk_slack_promise.specs.Soon.{AllottedByWhen};
 
 /// No tick is idle while anybody has something left or asks for slack.
 #[tactic(auto, using(crate::proofs::Rest::idle_at_rest))]
@@ -54,4 +55,10 @@ pub fn allotted_law()
 /// And each that goes on asking until it was lent its allotment gets it in each window of its level.
 pub fn allotted_lends_law()
     ensures { Always AllottedLends }
+{}
+
+/// It has had it once so many ticks of the window are over as are enough for all threads of the levels up to its own and
+/// for the allotments of their processes.
+pub fn allotted_by_when_law()
+    ensures { Always AllottedByWhen }
 {}
