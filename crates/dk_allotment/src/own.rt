@@ -11,7 +11,7 @@ use dk_config::{Config, MAX_SPAN};
 use dk_plan::windows_in;
 
 /// The ticks of a window of the level that nobody can claim.
-fn spare_of(config: &Config, level: u32) -> u32
+pub(crate) fn spare_of(config: &Config, level: u32) -> u32
     requires checked { IsChecked config.now }
     requires limits { IsWithinLimits config.now }
     requires accepted { IsAccepted config.now }
@@ -37,7 +37,7 @@ pub fn slowest_slack(config: &Config) -> u32
 }
 
 /// The level of the process.
-fn level_of(config: &Config, process: u32) -> u32
+pub(crate) fn level_of(config: &Config, process: u32) -> u32
     requires checked { IsChecked config.now }
     requires process { process < length config.now.processes }
     ensures own { result ≡ main_level config.now process }
