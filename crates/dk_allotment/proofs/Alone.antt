@@ -29,7 +29,7 @@ sum-alone low (suc n) p f a b others =
     ]
 
 -- what one process alone is allotted in a window of level j
-allotted-alone : (c : Configuration) (p s j : ℕ) → p < length c.processes
+pub allotted-alone : (c : Configuration) (p s j : ℕ) → p < length c.processes
     → allotted c (alone p s) j ≡ cond (leb (main_level c p) j) (s * (period c j / period c (main_level c p))) 0
 allotted-alone c p s j here =
     let f : ℕ → ℕ = λ q. cond (leb (main_level c q) j) (alone p s q * (period c j / period c (main_level c q))) 0 in

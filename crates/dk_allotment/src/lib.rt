@@ -4,7 +4,9 @@
 #![tactic(auto)]
 
 mod given;
+mod laws;
 mod own;
 
 pub use given::{allotted_at, overdrawn_level};
+pub use laws::planned_law;
 pub use own::{own_slack, slowest_slack};
