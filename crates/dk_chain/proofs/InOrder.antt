@@ -139,7 +139,7 @@ pub record Comes (c : Configuration) (p q : ℕ) : Type 0 where
 pub unbegun-start : (c : Configuration) (q s : ℕ) (past : List Entry) → s % period c (main_level c q) ≡ 0 → length past ≤ s → (job_from c past (main_thread c q) s).used ≡ 0
 unbegun-start c q s past begins late = ap (count_by (is_budget_of (main_id q))) (window-later c past (main_level c q) s begins late)
 
-used-from : (c : Configuration) (q s : ℕ) (e : Entry) (past : List Entry) → s ≤ length past → suc (length past) ≤ s + period c (main_level c q)
+pub used-from : (c : Configuration) (q s : ℕ) (e : Entry) (past : List Entry) → s ≤ length past → suc (length past) ≤ s + period c (main_level c q)
     → (job_from c (e ∷ past) (main_thread c q) s).used ≡ spent (main_id q) e + (job_from c past (main_thread c q) s).used
 used-from c q s e past from within =
     let i = main_level c q in

@@ -11,14 +11,14 @@ use Rattle.dk_chain.proofs.InOrder.{Rules, Waits, at-tick, lent-at, rules-before
 use Rattle.dk_chain.proofs.Chain.{first-there, reacts_in_time}
 
 -- what was chosen to run on its budget: its level's kernel had nothing left, and it was the level's turn
-record Picked (c : Configuration) (past : List Entry) (x : ThreadId) : Type 0 where
-  place : ℕ
-  passed : Passed c past place
-  kernel : kernel_rem c (length past) past place ≡ 0
-  who : Thread
-  among : Has (threads c past) who
-  turn : Turn c past place who
-  same : who.id ≡ x
+pub record Picked (c : Configuration) (past : List Entry) (x : ThreadId) : Type 0 where
+  pub place : ℕ
+  pub passed : Passed c past place
+  pub kernel : kernel_rem c (length past) past place ≡ 0
+  pub who : Thread
+  pub among : Has (threads c past) who
+  pub turn : Turn c past place who
+  pub same : who.id ≡ x
 
 picked-at : (c : Configuration) (past : List Entry) (choice : Choice) (x : ThreadId) (part : Phase) → IsFirst (choice_at c past) 0 (0 + length c.levels) choice
     → choice ≡ Choice.Budget x part → Picked c past x
@@ -50,7 +50,7 @@ picked-at c past choice x part first is = go (work_at c past first.place) refl (
               }
         ]
 
-picked-of : (c : Configuration) (past : List Entry) (x : ThreadId) (part : Phase) → chosen c past ≡ Choice.Budget x part → Picked c past x
+pub picked-of : (c : Configuration) (past : List Entry) (x : ThreadId) (part : Phase) → chosen c past ≡ Choice.Budget x part → Picked c past x
 picked-of c past x part is = go (first_of (choice_at c past) (below (length c.levels))) (first_of-is (choice_at c past) 0 (length c.levels)) is
   where
     go : (o : Option Choice) → MatchOption o (NoAnswer (choice_at c past) 0 (0 + length c.levels)) (IsFirst (choice_at c past) 0 (0 + length c.levels))
@@ -58,14 +58,14 @@ picked-of c past x part is = go (first_of (choice_at c past) (below (length c.le
     go None none h = absurd (cc)
     go (Some choice) first h = picked-at c past choice x part first h
 
-budget-chosen : (choice : Choice) (label : Label) (x : ThreadId) → HasChosenLabel choice label → payer label ≡ Some x → (part : Phase) × (choice ≡ Choice.Budget x part)
+pub budget-chosen : (choice : Choice) (label : Label) (x : ThreadId) → HasChosenLabel choice label → payer label ≡ Some x → (part : Phase) × (choice ≡ Choice.Budget x part)
 budget-chosen (Choice.Kernel k) label x has pays = let none : payer label ≡ None = chosen-says payer (Choice.Kernel k) label None has (λ w. refl) in absurd (cc)
 budget-chosen (Choice.Budget y part) label x has pays = grind (arith, nat_tests, chosen-says, budget-labels)
 budget-chosen (Choice.Slack y source part) label x has pays = grind (arith, nat_tests, chosen-says, slack-labels)
 budget-chosen Choice.Idle label x has pays = let none : payer label ≡ None = chosen-says payer Choice.Idle label None has (λ w. refl) in absurd (cc)
 
 -- where a main that holds nothing has a tick, the kernel has nothing left for its level and the faster ones
-all-done : (c : Configuration) (p : ℕ) (e : Entry) (past : List Entry) → Rules c (e ∷ past) → p < length c.processes
+pub all-done : (c : Configuration) (p : ℕ) (e : Entry) (past : List Entry) → Rules c (e ∷ past) → p < length c.processes
     → is_holding (held_by (main_id p) past) ≡ false → is_of (main_id p) e ≡ true → Kind c past e.label
     → (i : ℕ) → i ≤ main_level c p → kernel_rem c (length past) past i ≡ 0
 all-done c p e past know here free mine (paid k y known passed has turn pays borrows at) i le =
@@ -103,7 +103,7 @@ one-of : (low n k : ℕ) → sum_from low n (λ i. cond (eqb k i) 1 0) ≤ 1
 one-of low zero k = omega arith
 one-of low (suc n) k = grind (arith, nat_tests, none-of, one-of (suc low) n)
 
-one-kernel : (low n : ℕ) (level : Option ℕ) (e : Entry) → kernel_level e.label ≡ level → sum_from low n (λ i. cond (is_kernel_at i e) 1 0) ≤ 1
+pub one-kernel : (low n : ℕ) (level : Option ℕ) (e : Entry) → kernel_level e.label ≡ level → sum_from low n (λ i. cond (is_kernel_at i e) 1 0) ≤ 1
 one-kernel low n None e is =
     let none = sum_from-eq low n (λ i. cond (is_kernel_at i e) 1 0) (λ i. 0) (λ i. rw is refl) in
     let zeros = sum_from-zero low n in
@@ -123,13 +123,13 @@ kernels-most low n (e ∷ es) =
     let rest = kernels-most low n es in
     omega (arith, split, add, one, rest)
 
-count-longer : (test : Entry → Bool) (j k : ℕ) (es : List Entry) → j ≤ k → count_by test (take j es) ≤ count_by test (take k es)
+pub count-longer : (test : Entry → Bool) (j k : ℕ) (es : List Entry) → j ≤ k → count_by test (take j es) ≤ count_by test (take k es)
 count-longer test zero k es le = omega arith
 count-longer test (suc j) zero es le = absurd (omega arith)
 count-longer test (suc j) (suc k) [] le = omega arith
 count-longer test (suc j) (suc k) (e ∷ es) le = grind (arith, nat_tests, count_by-cons, count-longer test j k es)
 
-take-short : (j : ℕ) (es : List Entry) → length (take j es) ≤ j
+pub take-short : (j : ℕ) (es : List Entry) → length (take j es) ≤ j
 take-short zero es = omega arith
 take-short (suc j) [] = omega arith
 take-short (suc j) (e ∷ es) = let rest = take-short j es in omega (arith, rest)

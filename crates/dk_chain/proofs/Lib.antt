@@ -8,3 +8,4 @@ pub mod Age
 pub mod Oldest
 pub mod KernelFirst
 pub mod Releases
+pub mod Soonest

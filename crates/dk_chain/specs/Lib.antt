@@ -4,3 +4,4 @@ pub mod Chain
 pub mod Pace
 pub mod Age
 pub mod Sooner
+pub mod NotBefore

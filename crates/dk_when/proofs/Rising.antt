@@ -14,15 +14,15 @@ use Rattle.dk_config.specs.Windows.{period, release, main_level, max_level, slot
 use Rattle.dk_config.specs.Ahead.{windows_begun, stands_after, slowest_before, may_come_before, budgets_begun, process_ahead, ahead, slowest_up_to, level_ahead, NoFasterSlack, IsEnough, IsEnoughForAll}
 use Rattle.dk_config.proofs.Sums.{sum_from-le}
 
-div-rises : (a b P : ℕ) → 0 < P → a ≤ b → a / P ≤ b / P
+pub div-rises : (a b P : ℕ) → 0 < P → a ≤ b → a / P ≤ b / P
 div-rises a b P positive le =
     let part = div-mul-le_self a P in
     le-div (a / P) b P positive (omega (arith, part, le))
 
-begun-rises : (c : Configuration) (i f g : ℕ) → 0 < period c i → f ≤ g → windows_begun c i f ≤ windows_begun c i g
+pub begun-rises : (c : Configuration) (i f g : ℕ) → 0 < period c i → f ≤ g → windows_begun c i f ≤ windows_begun c i g
 begun-rises c i f g positive le = div-rises (f + (period c i - 1)) (g + (period c i - 1)) (period c i) positive (omega arith)
 
-times-rises : (k a b : ℕ) → a ≤ b → k * a ≤ k * b
+pub times-rises : (k a b : ℕ) → a ≤ b → k * a ≤ k * b
 times-rises k a b le = grind (arith, le)
 
 -- a level that may come before is there

@@ -42,7 +42,7 @@ pub(crate) fn place_of(config: &Config, process: u32) -> Place
 }
 
 /// How many windows of the level begin in so many ticks.
-fn windows_begun(config: &Config, level: u32, ticks: u32) -> u32
+pub(crate) fn windows_begun(config: &Config, level: u32, ticks: u32) -> u32
     requires checked { IsChecked config.now }
     requires limits { IsWithinLimits config.now }
     requires level { level < length config.now.levels }

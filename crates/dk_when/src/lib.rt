@@ -4,8 +4,10 @@
 #![tactic(auto)]
 
 mod counting;
+mod earliest;
 mod levels;
 mod searching;
 
+pub use earliest::{begins_from, done_from};
 pub use levels::level_done_by;
 pub use searching::{begins_by, done_by};

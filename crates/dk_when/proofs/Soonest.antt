@@ -1,0 +1,41 @@
+-- What always comes before a main only rises with the ticks, so a search from below finds the least number that has room.
+use Rattle.std.proofs.Common.{ℕ, suc, ◌≡◌, ◌+◌, ◌-◌, ◌*◌, ◌/◌, ◌<◌, ◌≤◌, inl, inr, length, arith}
+use Rattle.std.specs.Prelude.{min, max}
+use Rattle.std.proofs.lemmas.Bool.{cases_Bool, cases_lt}
+use Rattle.std.proofs.lemmas.Bool.Decides.{nat_tests}
+use Rattle.dk_config.specs.Configuration.{Configuration}
+use Rattle.dk_config.specs.Checked.{IsChecked}
+use Rattle.dk_config.specs.Windows.{period, release, main_level}
+use Rattle.dk_config.proofs.Sums.{sum_from-le}
+use Rattle.dk_when.specs.Earliest.{may_hold_off, windows_over, always_ahead}
+use Rattle.dk_when.proofs.Rising.{begun-rises, div-rises, times-rises}
+
+over-rises : (c : Configuration) (p i f g : ℕ) → 0 < period c i → f ≤ g → windows_over c p i f ≤ windows_over c p i g
+over-rises c p i f g positive le =
+    elim (cases_Bool (may_hold_off c p i)) [
+      | inl may ↦ let more = div-rises f g (period c i) positive le in rw may (omega (arith, more))
+      | inr off ↦ let more = begun-rises c i f g positive le in rw off more
+    ]
+
+always-rises : (c : Configuration) (p f g : ℕ) → IsChecked c → p < length c.processes → f ≤ g → always_ahead c p f ≤ always_ahead c p g
+always-rises c p f g checked here le =
+    let known = checked.levels p here in
+    sum_from-le 0 (suc (main_level c p)) (λ i. release c i * windows_over c p i f) (λ i. release c i * windows_over c p i g)
+    (λ i a b. times-rises (release c i) (windows_over c p i f) (windows_over c p i g) (over-rises c p i f g (checked.positive i (omega arith)) le))
+
+-- no number of ticks below this one has room
+pub record Trying (c : Configuration) (p k window least : ℕ) : Type 0 where
+  pub within : least ≤ window
+  pub short : (f : ℕ) → f < least → f < always_ahead c p f + k
+
+module _ (c : Configuration) (p k window least : ℕ) where
+  pub try-step : IsChecked c → p < length c.processes → Trying c p k window least → (needs next : ℕ) → needs ≡ always_ahead c p least + k → next ≡ min needs window
+      → Trying c p k window next
+  try-step checked here before needs next is smaller = record {
+    within = omega arith;
+    short =
+        λ f low. elim (cases_lt f least) [
+          | inl old ↦ before.short f old
+          | inr new ↦ let rises = always-rises c p least f checked here (omega arith) in omega (arith, rises, is, smaller, low)
+        ];
+  }
