@@ -33,7 +33,7 @@ is-over c p s past know over x among of_p main =
     subst (λ y. let had = job_from c past y s in (had.share ≤ had.used) ⊎ (had.closed ≡ true)) (main-is c p past x know among of_p main) over
 
 -- in the window that the next tick lies in, the numbers now are those of the window
-now-from : (c : Configuration) (p s : ℕ) (past : List Entry) → s % period c (main_level c p) ≡ 0 → s ≤ length past
+pub now-from : (c : Configuration) (p s : ℕ) (past : List Entry) → s % period c (main_level c p) ≡ 0 → s ≤ length past
     → length past < s + period c (main_level c p) → job c (length past) past (main_row c p past) ≡ job_from c past (main_row c p past) s
 now-from c p s past begins from under = grind (arith, nat_tests, main_row, job_at, window-start, past_at-later)
 

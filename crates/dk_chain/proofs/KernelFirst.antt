@@ -135,7 +135,7 @@ take-short (suc j) [] = omega arith
 take-short (suc j) (e ∷ es) = let rest = take-short j es in omega (arith, rest)
 
 -- the present window doesn't begin before a window of a slower level
-start-from : (c : Configuration) (i s n : ℕ) → 0 < period c i → period c i ∣ s → s ≤ n → s ≤ window_start c i n
+pub start-from : (c : Configuration) (i s n : ℕ) → 0 < period c i → period c i ∣ s → s ≤ n → s ≤ window_start c i n
 start-from c i s n positive whole le =
     let P = period c i in
     let split = div-add-mod' n P in

@@ -9,3 +9,5 @@ pub mod Oldest
 pub mod KernelFirst
 pub mod Releases
 pub mod Soonest
+pub mod Leaving
+pub mod SoonestMet

@@ -28,16 +28,16 @@ use Rattle.dk_chain.proofs.InOrder.{Rules, Waits, rules-before, unbegun-start, u
 use Rattle.dk_chain.proofs.KernelFirst.{Picked, picked-of, budget-chosen, one-kernel, count-longer, take-short, all-done}
 
 -- the entries from tick s on
-abbrev since : ℕ → List Entry → List Entry
+abbrev pub since : ℕ → List Entry → List Entry
 since s past = take (length past - s) past
 
-abbrev kernels : ℕ → ℕ → List Entry → ℕ
+abbrev pub kernels : ℕ → ℕ → List Entry → ℕ
 kernels i s past = count_by (is_kernel_at i) (since s past)
 
-since-next : (s : ℕ) (e : Entry) (past : List Entry) → s ≤ length past → since s (e ∷ past) ≡ e ∷ since s past
+pub since-next : (s : ℕ) (e : Entry) (past : List Entry) → s ≤ length past → since s (e ∷ past) ≡ e ∷ since s past
 since-next s e past le = take-newest (length past) s e past le
 
-kernels-next : (i s : ℕ) (e : Entry) (past : List Entry) → s ≤ length past → kernels i s (e ∷ past) ≡ kernel_paid i e + kernels i s past
+pub kernels-next : (i s : ℕ) (e : Entry) (past : List Entry) → s ≤ length past → kernels i s (e ∷ past) ≡ kernel_paid i e + kernels i s past
 kernels-next i s e past le = ap (count_by (is_kernel_at i)) (since-next s e past le) ∙ count_by-cons (is_kernel_at i) e (since s past)
 
 -- what is left of the kernel's own work of level i until a tick falls by its ticks alone
@@ -104,10 +104,10 @@ credit-now c i s e past know known begins le =
     let next = kernels-next i s e past le in
     omega (arith, before, spends, next)
 
-none-later : (c : Configuration) (i n : ℕ) → 0 < period c i → windows_later c i n (suc n) ≡ 0
+pub none-later : (c : Configuration) (i n : ℕ) → 0 < period c i → windows_later c i n (suc n) ≡ 0
 none-later c i n positive = grind (arith, nat_tests)
 
-left-now : (c : Configuration) (i n : ℕ) (past : List Entry) → 0 < period c i → kernel_left c (suc n) n past i ≡ kernel_rem c n past i
+pub left-now : (c : Configuration) (i n : ℕ) (past : List Entry) → 0 < period c i → kernel_left c (suc n) n past i ≡ kernel_rem c n past i
 left-now c i n past positive =
     let later = none-later c i n positive in
     let product : release c i * windows_later c i n (suc n) ≡ 0 = ap (λ k. release c i * k) later ∙ omega arith in
@@ -175,7 +175,7 @@ one-each p low n e = go (kernel_level e.label) refl
         let none : spent (main_id p) e ≡ 0 = grind (arith, nat_tests) in
         omega (arith, most, none)
 
-mine-most : (p low n : ℕ) (es : List Entry) → sum_from low n (λ i. count_by (is_kernel_at i) es) + count_by (is_budget_of (main_id p)) es ≤ length es
+pub mine-most : (p low n : ℕ) (es : List Entry) → sum_from low n (λ i. count_by (is_kernel_at i) es) + count_by (is_budget_of (main_id p)) es ≤ length es
 mine-most p low n [] = let zeros = sum_from-zero low n in omega (arith, zeros)
 mine-most p low n (e ∷ es) =
     let split = sum_from-eq low n (λ i. count_by (is_kernel_at i) (e ∷ es)) (λ i. kernel_paid i e + count_by (is_kernel_at i) es)
@@ -244,7 +244,7 @@ abbrev OnceDone : Configuration → ℕ → ℕ → List Entry → Type 0
 OnceDone c p s past = (i : ℕ) → i ≤ main_level c p → release c i ≤ kernels i s past
 
 -- level i's windows begin with those of p
-begins-too : (c : Configuration) (p i s : ℕ) → IsChecked c → p < length c.processes → i ≤ main_level c p → s % period c (main_level c p) ≡ 0 → s % period c i ≡ 0
+pub begins-too : (c : Configuration) (p i s : ℕ) → IsChecked c → p < length c.processes → i ≤ main_level c p → s % period c (main_level c p) ≡ 0 → s % period c i ≡ 0
 begins-too c p i s checked here le begins =
     mod-eq-zero_of_dvd (period c i) (dvd_trans (period c i) (checked.divides i (main_level c p) le (checked.levels p here)) (dvd_of_mod-eq-zero (period c (main_level c p)) begins))
 
