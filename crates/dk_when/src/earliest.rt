@@ -2,6 +2,7 @@
 ghost use Rattle.std.specs.Prelude.{ℕ, ◌≡◌, ◌*◌, ◌<◌, ◌≤◌, ◌&&◌, nat_lt, length};
 ghost use Rattle.std.specs.List.{list_any};
 ghost use Rattle.dk_config.specs.Certification.{uses};
+ghost use Rattle.dk_config.specs.Ahead.{IsEnough};
 ghost use Rattle.dk_config.specs.Checked.{IsChecked, IsWithinLimits};
 ghost use Rattle.dk_config.specs.Windows.{budget, main_level, period, release};
 ghost use Rattle.dk_when.specs.Bounds.{most_work};
@@ -109,6 +110,7 @@ pub fn begins_from(config: &Config, process: u32) -> u32
     requires exists { process < length config.now.processes }
     ensures reached { MayHave config.now process 1 result }
     ensures least { (f : ℕ) → MayHave config.now process 1 f → result ≤ f }
+    ensures sooner { (f : ℕ) → IsEnough config.now process 1 f → result ≤ f }
     ensures within { result ≤ period config.now (main_level config.now process) }
 {
     least_room(config, process, 1)
@@ -121,6 +123,7 @@ pub fn done_from(config: &Config, process: u32) -> u32
     requires exists { process < length config.now.processes }
     ensures reached { MayHave config.now process (budget config.now process) result }
     ensures least { (f : ℕ) → MayHave config.now process (budget config.now process) f → result ≤ f }
+    ensures sooner { (f : ℕ) → IsEnough config.now process (budget config.now process) f → result ≤ f }
     ensures within { result ≤ period config.now (main_level config.now process) }
 {
     least_room(config, process, place_of(config, process).budget)
