@@ -65,7 +65,7 @@ drop-drop a zero es = ap (λ k. drop k es) (omega arith)
 drop-drop a (suc b) [] = drop-nil a ∙ sym (drop-nil (suc b + a))
 drop-drop a (suc b) (e ∷ es) = let step : suc (b + a) ≡ suc b + a = omega arith in drop-drop a b es ∙ ap (λ k. drop k (e ∷ es)) step
 
-past_at-twice : (past : List Entry) (s u : ℕ) → s ≤ u → u ≤ length past → past_at (past_at past u) s ≡ past_at past s
+pub past_at-twice : (past : List Entry) (s u : ℕ) → s ≤ u → u ≤ length past → past_at (past_at past u) s ≡ past_at past s
 past_at-twice past s u le known = grind (arith, nat_tests, length-drop, drop-drop)
 
 -- a window that has ended, by what it has received

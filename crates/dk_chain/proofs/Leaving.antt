@@ -212,9 +212,11 @@ leaving-audited c p (suc n) checked accepted =
     let past = leaving c p n in
     let e = leaving_entry c p past in
     let before = leaving-audited c p n checked accepted in
-    let mild = all-mild c p past (leaving-leaves c p n) in
-    (before, record {
-      choice = inr refl;
-      work = may-leave p e.label;
-      thread = thread-follows c past e (thread_of e.label) checked accepted before mild (leave-mild p e.label) refl;
-    })
+    let mild = all-mild c p past (leaving-leaves c p n) in (
+      before,
+      record {
+        choice = inr refl;
+        work = may-leave p e.label;
+        thread = thread-follows c past e (thread_of e.label) checked accepted before mild (leave-mild p e.label) refl;
+      },
+    )

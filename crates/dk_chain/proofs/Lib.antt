@@ -11,3 +11,4 @@ pub mod Releases
 pub mod Soonest
 pub mod Leaving
 pub mod SoonestMet
+pub mod Leastwise

@@ -321,7 +321,7 @@ each-over c p s i e past know here begins from within pays mine le =
         omega (arith, all, once)
 
 -- how many ticks of its share the main has had since s
-abbrev had : Configuration → ℕ → ℕ → List Entry → ℕ
+abbrev pub had : Configuration → ℕ → ℕ → List Entry → ℕ
 had c p s past = (job_from c past (main_thread c p) s).used
 
 room-now : (c : Configuration) (p s k : ℕ) (e : Entry) (past : List Entry) → Rules c (e ∷ past) → p < length c.processes → s % period c (main_level c p) ≡ 0
@@ -340,7 +340,7 @@ room-now c p s k e past know here begins from within pays mine few =
     ∙ ap (λ w. count_by (is_budget_of (main_id p)) (take (length (e ∷ past) - w) (e ∷ past))) start in
     omega (arith, each, most, short, whole, few)
 
-not-mine : (c : Configuration) (p s : ℕ) (e : Entry) (past : List Entry) → s + period c (main_level c p) ≤ length past → had c p s (e ∷ past) ≡ had c p s past
+pub not-mine : (c : Configuration) (p s : ℕ) (e : Entry) (past : List Entry) → s + period c (main_level c p) ≤ length past → had c p s (e ∷ past) ≡ had c p s past
 not-mine c p s e past late =
     let gone : suc (length past) - (s + period c (main_level c p)) ≡ suc (length past - (s + period c (main_level c p))) = omega arith in
     ap (λ k. (job_from_of (drop k (e ∷ past)))) gone

@@ -5,3 +5,4 @@ pub mod Pace
 pub mod Age
 pub mod Sooner
 pub mod NotBefore
+pub mod Least

@@ -1,5 +1,6 @@
 //! How soon in its window a main can have its ticks.
 ghost use Rattle.dk_bound.specs.Laws.{Always};
+ghost use Rattle.dk_chain.specs.Least.{TakesAtLeast};
 ghost use Rattle.dk_chain.specs.NotBefore.{NotBefore, SoonestIsMet};
 ghost use Rattle.dk_config.specs.Checked.{IsAccepted, IsChecked};
 ghost use Rattle.dk_config.specs.Configuration.{Configuration};
@@ -14,4 +15,10 @@ pub fn not_before_law()
 /// entries that follows the rules, in which the main has had k ticks of a window of its as soon as there is room for them.
 pub fn not_before_met_law()
     ensures { (c : Configuration) → IsChecked c → IsAccepted c → SoonestIsMet c }
+{}
+
+/// A chain of jobs that each have their whole budget, each begun only when the one before has it, takes at least the sum of
+/// their budgets.
+pub fn chain_takes_law()
+    ensures { Always TakesAtLeast }
 {}

@@ -12,7 +12,7 @@ mod in_order;
 mod reacting;
 mod sooner;
 
-pub use earliest::{not_before_law, not_before_met_law};
+pub use earliest::{chain_takes_law, not_before_law, not_before_met_law};
 pub use in_order::{begin_in_order_law, over_in_time_law};
 pub use reacting::{data_age, free_from, next_window, reaction, worst_event};
 pub use sooner::{releases_before, sooner_law};

@@ -59,7 +59,8 @@ fn release_over(config: &Config, process: u32, level: u32, ticks: u32) -> u64
     ensures work { result ≡ release config.now level * windows_over config.now process level ticks }
     ensures few { result ≤ most_work }
 {
-    level_row(config, level as usize).release as u64 * windows_over(config, process, level, ticks) as u64
+    level_row(config, level as usize).release as u64
+        * windows_over(config, process, level, ticks) as u64
 }
 
 /// All of the kernel's own work that always comes before the main.
