@@ -1,8 +1,10 @@
 pub mod Names
 pub mod Seen
 pub mod Whose
+pub mod Budgets
 pub mod Spent
 pub mod Across
+pub mod Greater
 pub mod Joined
 pub mod Windows
 pub mod Told

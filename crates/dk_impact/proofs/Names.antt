@@ -1,11 +1,12 @@
 -- The names of other libraries and of this crate's specs that proofs here speak of.
 pub use Rattle.dk_alone.proofs.Again.{entry-by, on, on-is}
 pub use Rattle.dk_alone.proofs.Own.{IsPlainEvent, Own, Plain, after, after-other, booked, booked-after, family-alone, filter-in, filter-out, fresh, own, own-begins, own-within}
+pub use Rattle.dk_alone.proofs.Overruns.{any-own, own-overruns}
 pub use Rattle.dk_alone.proofs.Premises.{call_of, earlier-call, program, spinner}
 pub use Rattle.dk_alone.proofs.Same.{row-at}
 pub use Rattle.dk_alone.proofs.Steps.{alone-rests, alone-works, turn-label}
 pub use Rattle.dk_alone.proofs.Ties.{alone-long, tail}
-pub use Rattle.dk_alone.specs.Again.{ProcessStandsAgain, own_window}
+pub use Rattle.dk_alone.specs.Again.{ProcessStandsAgain, own_window, overruns}
 pub use Rattle.dk_alone.specs.Alone.{IsSameFor, KeepsToItself, ReadsNoTick, alone, choice_alone, entries_of, is_of_process, step_alone}
 pub use Rattle.dk_bound.proofs.Accepted.{accepted}
 pub use Rattle.dk_config.proofs.CheckedConfig.{checked}
@@ -24,6 +25,7 @@ pub use Rattle.dk_cpu.specs.declared.Context.{Context}
 pub use Rattle.dk_cpu.specs.declared.Outcome.{Outcome}
 pub use Rattle.dk_cpu.specs.declared.kernel_call.KernelCall.{KernelCall}
 pub use Rattle.dk_impact.specs.Changes.{Tells, differs, first_change, mutex_change, use_of}
+pub use Rattle.dk_impact.specs.Greater.{LocksNothing, ReadsNoBudget, SeesTheSameButTime, SeesTheSameMutexes, has_enough, is_for_want}
 pub use Rattle.dk_impact.specs.Impact.{IsSameAcross, MakesNoThread, SeesTheSame, SeesTheSameButPeriod, renamed, renamed_label}
 pub use Rattle.dk_impact.specs.Laws.{ChangesOfOthersHaveNoImpact, ChangesOfPeriodHaveNoImpact, FirstWindowsTellAcross, FirstWindowsTellAtAnyPeriod}
 pub use Rattle.dk_impact.specs.declared.change.Change.{Change}
@@ -38,7 +40,7 @@ pub use Rattle.dk_trace.proofs.Orders.{InOrder, charge-order, fresh-order, is_ou
 pub use Rattle.dk_trace.proofs.Same.{same-self}
 pub use Rattle.dk_trace.proofs.Windows.{mod-next, spent}
 pub use Rattle.dk_trace.specs.Audit.{label_of, next_serial}
-pub use Rattle.dk_trace.specs.Entries.{does, is_budget_of, is_end, is_of, is_out, is_out_of, is_wait, payer, stops}
+pub use Rattle.dk_trace.specs.Entries.{does, has_event, is_budget_of, is_end, is_of, is_out, is_out_of, is_wait, payer, stops}
 pub use Rattle.dk_trace.specs.Holds.{Hold, aged, given_back, held_after, held_by, innermost_left, is_held, is_holding, is_innermost}
 pub use Rattle.dk_trace.specs.Jobs.{Job, body_left, phase, rem, thread_body_left}
 pub use Rattle.dk_trace.specs.Refusals.{create_refusal, delete_refusal, first_refusal, is_running_child, least_share, lock_refusal, number, slack_refusal, standing_children}
@@ -54,7 +56,8 @@ pub use Rattle.dk_world.proofs.Audits.{held-quiet}
 pub use Rattle.dk_world.proofs.Limits.{budget_period}
 pub use Rattle.dk_world.proofs.Outcomes.{own-tick}
 pub use Rattle.dk_world.proofs.Refused.{update-same}
-pub use Rattle.dk_world.specs.Calls.{Child, Effect, Reply, call_effect, effect, or_refused}
+pub use Rattle.dk_cpu.specs.State.{zero_context}
+pub use Rattle.dk_world.specs.Calls.{Child, Effect, Reply, answers, call_effect, creates, done, effect, or_refused}
 pub use Rattle.dk_world.specs.Run.{Image, Turn, World, breaks_hold, image_after, may_be_last, quiet_entry, quiet_step, step_of, thread_at, thread_turn, tick_in, trace, work_done, world}
 pub use Rattle.std.proofs.Common.{Bool, List, None, Option, Some, [], ap, arith, cond, eqb, false, inl, inr, leb, length, ltb, map, not, refl, rules, subst, suc, sym, true, zero, ℕ, ◌%◌, ◌&&◌, ◌*◌, ◌++◌, ◌+◌, ◌-◌, ◌/◌, ◌<◌, ◌||◌, ◌∙◌, ◌∷◌, ◌≡◌, ◌≤◌, ◌⊎◌}
 pub use Rattle.std.proofs.Math.Nat.{add-mod-mod, div-add-mod, mod-eq_of_lt, mod_self, mul-mod_left}
@@ -65,4 +68,4 @@ pub use Rattle.std.proofs.lemmas.List.Elements.{filter-append}
 pub use Rattle.std.proofs.lemmas.Option.{slice_get_past}
 pub use Rattle.std.specs.List.{list_any}
 pub use Rattle.std.specs.Option.{option_map_or, option_or}
-pub use Rattle.std.specs.Prelude.{filter, slice_get, slice_index_or, slice_range, sum_by, take}
+pub use Rattle.std.specs.Prelude.{count_by, filter, replicate, slice_get, slice_index_or, slice_range, sum_by, take}

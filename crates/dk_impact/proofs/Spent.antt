@@ -108,10 +108,10 @@ module _ (c : Configuration) (p : ℕ) (program : List ℕ) (positive : 0 < peri
   module _ (plains : (n : ℕ) → Plain (entries_of p (alone c p program n).past)) (room : 2 * c.costs.switch + 1 ≤ budget c p)
       (fits : budget c p ≤ period c (main_level c p)) where
     -- what tick n leaves, before and after the window that it may end gives way to the next
-    leaves : (n : ℕ) (e : Entry) → (v (suc n)).past ≡ e ∷ (v n).past → booked c p e (v n).past ≡ after p e (own c p (v n).past)
+    pub leaves : (n : ℕ) (e : Entry) → (v (suc n)).past ≡ e ∷ (v n).past → booked c p e (v n).past ≡ after p e (own c p (v n).past)
     leaves n e is = booked-after c p positive e (v n).past (subst (λ es. Plain (entries_of p es)) is (plains (suc n)))
 
-    goes-on : (n : ℕ) (e : Entry) → (v (suc n)).past ≡ e ∷ (v n).past → suc n % P ≡ suc (n % P) → own c p (v (suc n)).past ≡ booked c p e (v n).past
+    pub goes-on : (n : ℕ) (e : Entry) → (v (suc n)).past ≡ e ∷ (v n).past → suc n % P ≡ suc (n % P) → own c p (v (suc n)).past ≡ booked c p e (v n).past
     goes-on n e is within = grind (arith, nat_tests, own, own-within, alone-long)
 
     begins-anew : (n : ℕ) (e : Entry) → (v (suc n)).past ≡ e ∷ (v n).past → suc n % P ≡ 0 → own c p (v (suc n)).past ≡ fresh c p positive (booked c p e (v n).past)
@@ -137,16 +137,23 @@ module _ (c : Configuration) (p : ℕ) (program : List ℕ) (positive : 0 < peri
         (sym (goes-on n grown.0 grown.1 (moves-on P m j begins (omega (arith, some, fits))) ∙ leaves n grown.0 grown.1))
         (record { order = fall.order; few = omega (arith, few, less, some) })
 
-    -- so the window after that is the one of what the last tick of the budget left
-    pub finish : (m last : ℕ) (e : Entry) → m % P ≡ 0 → suc last ≡ budget c p → (v (suc (on last m))).past ≡ e ∷ (v (on last m)).past
-        → (own c p (v (on P m)).past ≡ fresh c p positive (booked c p e (v (on last m)).past)) × ((v (on P m)).images p ≡ (v (suc (on last m))).images p)
-    finish m last e begins whole is =
+    -- so nothing is left after its last
+    pub over-by : (m last : ℕ) (e : Entry) → m % P ≡ 0 → suc last ≡ budget c p → (v (suc (on last m))).past ≡ e ∷ (v (on last m)).past
+        → rem W (booked c p e (v (on last m)).past).job ≡ 0
+    over-by m last e begins whole is =
         let n = on last m in
         let before = left-after m last begins (omega arith) in
         let fall = falls (v n) e is before.order in
         let few = before.few in
         let less = fall.less in
-        let none : rem W (booked c p e (v n).past).job ≡ 0 = ap (λ (o : Own). rem W o.job) (leaves n e is) ∙ omega (arith, few, less, whole) in
+        ap (λ (o : Own). rem W o.job) (leaves n e is) ∙ omega (arith, few, less, whole)
+
+    -- and the window after a tick that leaves nothing is the one of what the tick left
+    pub finish : (m last : ℕ) (e : Entry) → m % P ≡ 0 → suc last ≤ P → (v (suc (on last m))).past ≡ e ∷ (v (on last m)).past
+        → rem W (booked c p e (v (on last m)).past).job ≡ 0
+        → (own c p (v (on P m)).past ≡ fresh c p positive (booked c p e (v (on last m)).past)) × ((v (on P m)).images p ≡ (v (suc (on last m))).images p)
+    finish m last e begins within is none =
+        let n = on last m in
         elim (cases_lt (suc last) P) [
           | inl more ↦
               let there = goes-on n e is (moves-on P m last begins more) in
@@ -158,7 +165,7 @@ module _ (c : Configuration) (p : ℕ) (program : List ℕ) (positive : 0 < peri
               (ap (λ (o : Own). rem W o.job) there ∙ none) in
               (rest.0 ∙ ap (fresh c p positive) there, rest.1)
           | inr full ↦
-              let ends : P ≡ suc last = omega (arith, full, whole, fits) in
+              let ends : P ≡ suc last = omega (arith, full, within) in
               let same : on P m ≡ suc n = ap (λ k. on k m) ends in
               let start : suc n % P ≡ 0 = ap (λ k. k % P) (sym same) ∙ next-begins P m begins in
               (ap (λ k. own c p (v k).past) same ∙ begins-anew n e is start, ap (λ k. (v k).images p) same)

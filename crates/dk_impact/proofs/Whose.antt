@@ -70,6 +70,42 @@ create-number n =
       | inr (other, differ) ↦ absurd (none-later (subst (λ b. cond b (Some KernelCall.Create) (later_calls n) ≡ Some KernelCall.Create) other is))
     ]
 
+-- the number of the call that locks
+pub lock-number : (n : ℕ) → call_of n ≡ Some KernelCall.Lock → n ≡ 5
+lock-number n =
+    passed (eqb n 1) KernelCall.Wait KernelCall.Lock _ (λ e. cc) (passed (eqb n 2) KernelCall.Exit KernelCall.Lock _ (λ e. cc) (passed (eqb n 3) KernelCall.Create KernelCall.Lock _ (λ e. cc)
+    (passed (eqb n 4) KernelCall.Delete KernelCall.Lock _ (λ e. cc) here)))
+  where
+    none-later : cond (eqb n 6) (Some KernelCall.Unlock) (cond (eqb n 7) (Some KernelCall.Slack) (cond (eqb n 8) (Some KernelCall.Put) (cond (eqb n 9) (Some KernelCall.Time) (cond (eqb n 10) (Some KernelCall.Left) None))))
+        ≡ Some KernelCall.Lock → ⊥
+    none-later =
+        passed (eqb n 6) KernelCall.Unlock KernelCall.Lock _ (λ e. cc) (passed (eqb n 7) KernelCall.Slack KernelCall.Lock _ (λ e. cc)
+        (passed (eqb n 8) KernelCall.Put KernelCall.Lock _ (λ e. cc) (passed (eqb n 9) KernelCall.Time KernelCall.Lock _ (λ e. cc)
+        (last-call (eqb n 10) KernelCall.Left KernelCall.Lock (λ e. cc)))))
+
+    here : cond (eqb n 5) (Some KernelCall.Lock) (cond (eqb n 6) (Some KernelCall.Unlock) (cond (eqb n 7) (Some KernelCall.Slack) (cond (eqb n 8) (Some KernelCall.Put) (cond (eqb n 9) (Some KernelCall.Time) (cond (eqb n 10) (Some KernelCall.Left) None)))))
+        ≡ Some KernelCall.Lock → n ≡ 5
+    here is = elim (eqb_tells n 5) [
+      | inl (is_five, same) ↦ same
+      | inr (other, differ) ↦ absurd (none-later (subst (λ b. cond b (Some KernelCall.Lock) (cond (eqb n 6) (Some KernelCall.Unlock) (cond (eqb n 7) (Some KernelCall.Slack) (cond (eqb n 8) (Some KernelCall.Put) (cond (eqb n 9) (Some KernelCall.Time) (cond (eqb n 10) (Some KernelCall.Left) None))))) ≡ Some KernelCall.Lock) other is))
+    ]
+
+-- the number of the call that reads what is left of the budget
+pub left-number : (n : ℕ) → call_of n ≡ Some KernelCall.Left → n ≡ 10
+left-number n =
+    passed (eqb n 1) KernelCall.Wait KernelCall.Left _ (λ e. cc) (passed (eqb n 2) KernelCall.Exit KernelCall.Left _ (λ e. cc) (passed (eqb n 3) KernelCall.Create KernelCall.Left _ (λ e. cc)
+    (passed (eqb n 4) KernelCall.Delete KernelCall.Left _ (λ e. cc) (passed (eqb n 5) KernelCall.Lock KernelCall.Left _ (λ e. cc) (passed (eqb n 6) KernelCall.Unlock KernelCall.Left _ (λ e. cc)
+    (passed (eqb n 7) KernelCall.Slack KernelCall.Left _ (λ e. cc) (passed (eqb n 8) KernelCall.Put KernelCall.Left _ (λ e. cc) (passed (eqb n 9) KernelCall.Time KernelCall.Left _ (λ e. cc) last))))))))
+  where
+    last : cond (eqb n 10) (Some KernelCall.Left) None ≡ Some KernelCall.Left → n ≡ 10
+    last is = elim (eqb_tells n 10) [
+      | inl (is_ten, same) ↦ same
+      | inr (other, differ) ↦ absurd (none-left (subst (λ b. cond b (Some KernelCall.Left) None ≡ Some KernelCall.Left) other is))
+    ]
+      where
+        none-left : None ≡ Some KernelCall.Left → ⊥
+        none-left e = cc
+
 -- a call isn't done where no instruction is that call
 pub not-done : (c : Configuration) (program : List ℕ) (image : Image) (number : ℕ) (call : KernelCall) → ((n : ℕ) → call_of n ≡ Some call → n ≡ number)
     → ((k : ℕ) → 4 * k + 4 ≤ length program → instruction_of (slice_range program (4 * k) (4 * k + 4)) ≡ Some (Instr.Trap number) → ⊥)

@@ -1,3 +1,5 @@
 pub mod Impact
 pub mod Laws
 pub mod Changes
+pub mod Greater
+pub mod GreaterLaws
