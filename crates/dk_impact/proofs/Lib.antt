@@ -3,6 +3,7 @@ pub mod Seen
 pub mod Whose
 pub mod Budgets
 pub mod Spent
+pub mod Room
 pub mod Across
 pub mod Greater
 pub mod Joined

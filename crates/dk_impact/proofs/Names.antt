@@ -38,7 +38,7 @@ pub use Rattle.dk_trace.proofs.Labels.{budget-labels, spent-payer}
 pub use Rattle.dk_trace.proofs.Mains.{main_id, main_row}
 pub use Rattle.dk_trace.proofs.Orders.{InOrder, charge-order, fresh-order, is_out_phase}
 pub use Rattle.dk_trace.proofs.Same.{same-self}
-pub use Rattle.dk_trace.proofs.Windows.{mod-next, spent}
+pub use Rattle.dk_trace.proofs.Windows.{count_by-cons, mod-next, spent}
 pub use Rattle.dk_trace.specs.Audit.{label_of, next_serial}
 pub use Rattle.dk_trace.specs.Entries.{does, has_event, is_budget_of, is_end, is_of, is_out, is_out_of, is_wait, payer, stops}
 pub use Rattle.dk_trace.specs.Holds.{Hold, aged, given_back, held_after, held_by, innermost_left, is_held, is_holding, is_innermost}
@@ -61,7 +61,7 @@ pub use Rattle.dk_world.specs.Calls.{Child, Effect, Reply, answers, call_effect,
 pub use Rattle.dk_world.specs.Run.{Image, Turn, World, breaks_hold, image_after, may_be_last, quiet_entry, quiet_step, step_of, thread_at, thread_turn, tick_in, trace, work_done, world}
 pub use Rattle.std.proofs.Common.{Bool, List, None, Option, Some, [], ap, arith, cond, eqb, false, inl, inr, leb, length, ltb, map, not, refl, rules, subst, suc, sym, true, zero, ℕ, ◌%◌, ◌&&◌, ◌*◌, ◌++◌, ◌+◌, ◌-◌, ◌/◌, ◌<◌, ◌||◌, ◌∙◌, ◌∷◌, ◌≡◌, ◌≤◌, ◌⊎◌}
 pub use Rattle.std.proofs.Math.Nat.{add-mod-mod, div-add-mod, mod-eq_of_lt, mod_self, mul-mod_left}
-pub use Rattle.std.proofs.lemmas.Bool.{cases_lt, eq-eqb}
+pub use Rattle.std.proofs.lemmas.Bool.{cases_Bool, cases_lt, eq-eqb}
 pub use Rattle.std.proofs.lemmas.Bool.Decides.{eqb_tells, nat_tests}
 pub use Rattle.std.proofs.lemmas.List.{append_cancel_right}
 pub use Rattle.std.proofs.lemmas.List.Elements.{filter-append}

@@ -5,6 +5,7 @@
 //! project's own.
 #![tactic(auto)]
 
+ghost use Rattle.dk_impact.specs.GreaterLaws.{AloneIsTheSameButTime, AloneIsTheSameWithMore, FirstWindowsTellWithMore, GreaterBudgetsHaveNoImpact, MutexesHaveNoImpact, WindowsAreTheSameWithMore};
 ghost use Rattle.dk_impact.specs.Laws.{AloneIsTheSameAcross, AloneIsTheSameAtAnyPeriod, ChangesOfOthersHaveNoImpact, ChangesOfPeriodHaveNoImpact, FirstWindowsTellAcross, FirstWindowsTellAtAnyPeriod, WindowsAreTheSameAcross, WindowsAreTheSameAtAnyPeriod};
 
 mod change;
@@ -12,7 +13,7 @@ mod changes;
 
 pub use change::Change;
 pub use changes::first_change;
-use dk_alone::{alone_law, first_windows_law};
+use dk_alone::{alone_law, first_windows_law, windows_law};
 
 /// With the processor to itself a process that may have neither children nor slack and doesn't read the tick runs the same
 /// in two configurations of which it sees the same.
@@ -77,3 +78,9 @@ pub fn first_windows_across_law()
 {
     first_windows_any_period_law();
 }
+
+/// With the processor to itself it does in the k-th of its windows the same with a greater budget, where no window before shows
+/// how large its budget is: in each of them its main waits or is stopped, and is refused no lock for want of budget.
+pub fn alone_with_more_law()
+    ensures { AloneIsTheSameWithMore }
+{}

@@ -1,0 +1,6 @@
+use Rattle.dk_impact.proofs.Greater.{with-more}
+use Rattle.dk_impact.proofs.alone_with_more_law.Goals as goal
+
+pub returns : goal.returns
+returns c one other program p p' k checked accepted checked' accepted' keeps keeps' sees reads more enough =
+    with-more one other p p' program checked accepted checked' accepted' keeps keeps' sees reads more k enough
