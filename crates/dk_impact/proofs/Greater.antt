@@ -1,5 +1,5 @@
 -- A process that is given a greater budget, by itself.
-use Rattle.dk_impact.proofs.Names.{ℕ, suc, ◌≡◌, ◌+◌, ◌*◌, ◌<◌, ◌≤◌, ◌∙◌, inl, inr, true, List, arith, subst, take, Configuration, IsChecked, IsAccepted, period, main_level, budget, alone, entries_of, KeepsToItself, budget_period, on, on-is, SeesTheSameButPeriod, SeesTheSameButTime, ReadsNoBudget, has_enough, IsSameAcross}
+use Rattle.dk_impact.proofs.Names.{ℕ, suc, ◌≡◌, ◌+◌, ◌*◌, ◌%◌, ◌<◌, ◌≤◌, ◌∙◌, inl, inr, true, List, ap, sym, mul-mod_left, arith, subst, take, Configuration, IsChecked, IsAccepted, period, main_level, budget, alone, entries_of, KeepsToItself, budget_period, on, on-is, SeesTheSameButPeriod, SeesTheSameButTime, ReadsNoBudget, has_enough, IsSameAcross}
 use Rattle.dk_impact.proofs.Spent.{start_of, start-is, start-begins}
 use Rattle.dk_impact.proofs.Room.{enough-at}
 use Rattle.dk_impact.proofs.Across.{any-period, plain-alone}
@@ -35,3 +35,15 @@ with-more c c' p p' program checked accepted checked' accepted' keeps keeps' see
         let begin = start-is (period c (main_level c p)) i in
         let far = on-is (period c (main_level c p)) (start_of (period c (main_level c p)) i) in
         omega (arith, begin, far)
+
+pub ends-window : (j P : ℕ) → (j * P + P) % P ≡ 0
+ends-window j P = ap (λ n. n % P) (sym more) ∙ mul-mod_left (suc j) P
+  where
+    more : suc j * P ≡ j * P + P
+    more = grind arith
+
+pub earlier : (j k : ℕ) → j < k → j < k + 1
+earlier j k less = omega arith
+
+pub no-later : (j k : ℕ) → j < suc k → j < k + 1
+no-later j k less = omega arith

@@ -84,3 +84,45 @@ pub fn first_windows_across_law()
 pub fn alone_with_more_law()
     ensures { AloneIsTheSameWithMore }
 {}
+
+/// So where the k-th of its windows begins its entries, its memory and its contexts are the same in both, whatever else differs.
+pub fn greater_budget_law()
+    ensures { GreaterBudgetsHaveNoImpact }
+{
+    alone_law();
+    windows_law();
+    alone_with_more_law();
+}
+
+/// And the k-th window of the one has the same entries of it as the k-th window of the other.
+pub fn windows_with_more_law()
+    ensures { WindowsAreTheSameWithMore }
+{
+    greater_budget_law();
+}
+
+/// So what holds of its entries in each window of one run, up to two ticks at which it stands alike, holds of them in every
+/// window of every run of every configuration that gives it no smaller budget, where none of these windows shows how large its
+/// budget is.
+///
+/// So one test of a process stays evidence where its budget grows.
+pub fn first_windows_with_more_law()
+    ensures { FirstWindowsTellWithMore }
+{
+    windows_with_more_law();
+    first_windows_law();
+}
+
+/// With the processor to itself a process whose budget is the same, and whose program locks nothing, does in the k-th of its
+/// windows the same whatever mutexes it may lock.
+pub fn alone_but_time_law()
+    ensures { AloneIsTheSameButTime }
+{}
+
+/// So it does in every run, whatever else differs.
+pub fn mutexes_law()
+    ensures { MutexesHaveNoImpact }
+{
+    alone_law();
+    alone_but_time_law();
+}
