@@ -10,4 +10,5 @@ pub mod Joined
 pub mod Windows
 pub mod Told
 mod Premises
+mod GreaterPremises
 mod Witness

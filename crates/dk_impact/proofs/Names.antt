@@ -2,7 +2,7 @@
 pub use Rattle.dk_alone.proofs.Again.{entry-by, on, on-is}
 pub use Rattle.dk_alone.proofs.Own.{IsPlainEvent, Own, Plain, after, after-other, booked, booked-after, family-alone, filter-in, filter-out, fresh, own, own-begins, own-within}
 pub use Rattle.dk_alone.proofs.Overruns.{any-own, own-overruns}
-pub use Rattle.dk_alone.proofs.Premises.{call_of, earlier-call, program, spinner}
+pub use Rattle.dk_alone.proofs.Premises.{call_of, earlier-call, program, shown, spinner}
 pub use Rattle.dk_alone.proofs.Same.{row-at}
 pub use Rattle.dk_alone.proofs.Steps.{alone-rests, alone-works, turn-label}
 pub use Rattle.dk_alone.proofs.Ties.{alone-long, tail}
@@ -26,13 +26,14 @@ pub use Rattle.dk_cpu.specs.declared.Outcome.{Outcome}
 pub use Rattle.dk_cpu.specs.declared.kernel_call.KernelCall.{KernelCall}
 pub use Rattle.dk_impact.specs.Changes.{Tells, differs, first_change, mutex_change, use_of}
 pub use Rattle.dk_impact.specs.Greater.{LocksNothing, ReadsNoBudget, SeesTheSameButTime, SeesTheSameMutexes, has_enough, is_for_want}
+pub use Rattle.dk_impact.specs.GreaterLaws.{FirstWindowsTellWithMore, GreaterBudgetsHaveNoImpact, MutexesHaveNoImpact}
 pub use Rattle.dk_impact.specs.Impact.{IsSameAcross, MakesNoThread, SeesTheSame, SeesTheSameButPeriod, renamed, renamed_label}
 pub use Rattle.dk_impact.specs.Laws.{ChangesOfOthersHaveNoImpact, ChangesOfPeriodHaveNoImpact, FirstWindowsTellAcross, FirstWindowsTellAtAnyPeriod}
 pub use Rattle.dk_impact.specs.declared.change.Change.{Change}
 pub use Rattle.dk_isa.specs.Table.{instruction_of}
 pub use Rattle.dk_isa.specs.declared.FaultKind.{FaultKind}
 pub use Rattle.dk_isa.specs.declared.Instr.{Instr}
-pub use Rattle.dk_isa.specs.declared.Instr.TheVariants.{Jmp, Ld, Trap}
+pub use Rattle.dk_isa.specs.declared.Instr.TheVariants.{Jmp, Ld, Nop, Trap}
 pub use Rattle.dk_trace.proofs.Charged.{family-charged, job-charged, the_job}
 pub use Rattle.dk_trace.proofs.Labels.{budget-labels, spent-payer}
 pub use Rattle.dk_trace.proofs.Mains.{main_id, main_row}

@@ -3,7 +3,7 @@ use Rattle.dk_impact.proofs.Names.{ℕ, zero, suc, ◌≡◌, ◌+◌, ◌*◌, 
 use Rattle.dk_config.specs.Rules.{all_tests, version_tests, count_tests, range_tests, period_tests, name_tests, again_tests, level_tests, budget_tests, user_tests, slowest_tests}
 
 -- one process, with a level for each of these periods, at the last of them
-abbrev frame : ℕ → ℕ → List LevelRow → ℕ → ℕ → ℕ → List Mutex → Configuration
+abbrev pub frame : ℕ → ℕ → List LevelRow → ℕ → ℕ → ℕ → List Mutex → Configuration
 frame switch call levels level budget memory mutexes = record {
   version = 2;
   costs = record { switch = switch; call = call };
@@ -12,10 +12,10 @@ frame switch call levels level budget memory mutexes = record {
   mutexes = mutexes;
 }
 
-abbrev at_period : ℕ → List LevelRow
+abbrev pub at_period : ℕ → List LevelRow
 at_period ticks = record { period = ticks; release = 0 } ∷ []
 
-abbrev held_for : ℕ → List Mutex
+abbrev pub held_for : ℕ → List Mutex
 held_for ticks = record { name = 109 ∷ []; ceiling = 0; hold = ticks; users = (97 ∷ []) ∷ [] } ∷ []
 
 abbrev plain : Configuration
@@ -93,7 +93,7 @@ unfolding all_tests version_tests count_tests range_tests period_tests name_test
 crowded-passes = refl
 
 -- shows a register, for ever
-abbrev putter : List ℕ
+abbrev pub putter : List ℕ
 putter = program (Trap 8 ∷ Jmp 0 ∷ [])
 
 -- reads a word of its memory, for ever
@@ -108,7 +108,7 @@ locker = program (Trap 5 ∷ Jmp 1 ∷ [])
 abbrev creator : List ℕ
 creator = program (Trap 3 ∷ Jmp 0 ∷ [])
 
-putter-clock : ReadsNoTick putter
+pub putter-clock : ReadsNoTick putter
 putter-clock zero within is = earlier-call 8 (omega arith) (ap call_of is)
 putter-clock (suc zero) within is = earlier-call 0 (omega arith) (ap call_of is)
 putter-clock (suc (suc k)) within is = let more : 4 * suc (suc k) + 4 ≤ 8 = within in absurd (omega arith)
@@ -196,7 +196,7 @@ told (e ∷ past) = one e.event + told past
     one (Some event) = 1
 
 -- the numbers of the refusals, added up
-abbrev refusals : List Entry → ℕ
+abbrev pub refusals : List Entry → ℕ
 refusals [] = 0
 refusals (e ∷ past) = one e.event + refusals past
   where
