@@ -1,12 +1,8 @@
 -- A process that is given a greater budget, by itself.
-use Rattle.dk_impact.proofs.Names.{ℕ, suc, ◌≡◌, ◌+◌, ◌*◌, ◌%◌, ◌<◌, ◌≤◌, ◌∙◌, inl, inr, true, List, ap, sym, mul-mod_left, arith, subst, take, Configuration, IsChecked, IsAccepted, period, main_level, budget, alone, entries_of, KeepsToItself, budget_period, on, on-is, SeesTheSameButPeriod, SeesTheSameButTime, ReadsNoBudget, has_enough, IsSameAcross}
+use Rattle.dk_impact.proofs.Names.{ℕ, suc, ◌≡◌, ◌+◌, ◌*◌, ◌%◌, ◌<◌, ◌≤◌, ◌∙◌, inl, inr, true, List, ap, sym, mul-mod_left, arith, subst, take, Configuration, IsChecked, IsAccepted, period, main_level, budget, alone, entries_of, KeepsToItself, budget_period, on, on-is, SeesTheSameButTime, ReadsNoBudget, has_enough, IsSameAcross}
 use Rattle.dk_impact.proofs.Spent.{start_of, start-is, start-begins}
 use Rattle.dk_impact.proofs.Room.{enough-at}
 use Rattle.dk_impact.proofs.Across.{any-period, plain-alone}
-
-pub but-time : (c c' : Configuration) (p p' : ℕ) (program : List ℕ) → SeesTheSameButPeriod c p c' p' program → SeesTheSameButTime c p c' p' program
-but-time c c' p p' program sees =
-    record { switch = sees.switch; call = sees.call; memory = sees.memory; mutexes = inl (record { users = sees.mutexes; holds = sees.holds }); levels = sees.levels }
 
 pub same-budgets : (c c' : Configuration) (p p' : ℕ) → budget c p ≡ budget c' p' → budget c p ≤ budget c' p'
 same-budgets c c' p p' same = omega (arith, same)

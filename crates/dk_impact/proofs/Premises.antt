@@ -181,7 +181,10 @@ whole : ChangesOfOthersHaveNoImpact
 whole law c c' programs others p p' n passes fits passes' fits' keeps keeps' agree met begins =
     law c c' programs others p p' n passes fits passes' fits' keeps keeps' agree
     (record {
-      but_period = record { switch = met.1.0; call = met.1.1; budget = met.1.3; memory = met.1.4; mutexes = met.1.5; holds = met.1.6; levels = met.0 };
+      but_period = record {
+        but_time = record { switch = met.1.0; call = met.1.1; memory = met.1.4; mutexes = inl (record { users = met.1.5; holds = met.1.6 }); levels = met.0 };
+        budget = met.1.3;
+      };
       period = met.1.2;
     })
     begins
@@ -268,7 +271,10 @@ pub acceptance-is-needed
 acceptance-is-needed law =
     let same = law plain crowded putter 0 0 1 (checked plain plain-passes) (accepted plain refl) (checked crowded crowded-passes)
     (record { known = omega arith; threads = refl; slack = refl; clock = putter-clock }) (record { known = omega arith; threads = refl; slack = refl; clock = putter-clock })
-    (record { switch = refl; call = refl; budget = refl; memory = refl; mutexes = λ m. refl; holds = λ m is. refl; levels = inl (refl, refl) }) in
+    (record {
+      but_time = record { switch = refl; call = refl; memory = refl; mutexes = inl (record { users = λ m. refl; holds = λ m is. refl }); levels = inl (refl, refl) };
+      budget = refl;
+    }) in
     differ _ _ refl refl (ap length same.entries)
   where
     differ : (n m : ℕ) → n ≡ 5 → m ≡ 4 → n ≡ m → ⊥

@@ -1,5 +1,5 @@
 -- What the first change tells of what a process sees.
-use Rattle.dk_impact.proofs.Names.{ℕ, zero, suc, ◌≡◌, ◌+◌, ◌<◌, ◌≤◌, ◌⊎◌, inl, inr, Bool, true, false, List, length, Option, Some, None, refl, sym, ap, subst, arith, slice_get, option_map_or, option_or, cases_lt, eqb_tells, slice_get_past, MAX_MUTEXES, Configuration, IsWithinLimits, numbers, first_of, Mutex, period, main_level, max_level, budget, memory, longest_hold, is_user, uses, Change, MakesNoThread, SeesTheSame, differs, use_of, mutex_change, first_change, Tells, nat_tests}
+use Rattle.dk_impact.proofs.Names.{ℕ, zero, suc, ◌≡◌, ◌+◌, ◌<◌, ◌≤◌, ◌⊎◌, inl, inr, Bool, true, false, List, length, Option, Some, None, refl, sym, ap, subst, arith, slice_get, option_map_or, option_or, cases_lt, eqb_tells, slice_get_past, MAX_MUTEXES, Configuration, IsWithinLimits, numbers, first_of, Mutex, period, main_level, max_level, budget, memory, longest_hold, is_user, uses, Change, Sight, LocksNothing, MakesNoThread, SeesTheSame, SeesTheSameMutexes, IsSight, TellsCall, differs, use_of, mutex_change, mutexes_change, level_change, seen, first_change, Tells, nat_tests}
 
 -- the numbers differ, or the search goes on
 step : (P : Option Change → Type 0) (change : Change) (a b : ℕ) (rest : Option Change) → ((a ≡ b → ⊥) → P (Some change)) → (a ≡ b → P rest)
@@ -25,25 +25,30 @@ use-told m old new false false = same refl (λ is. cc)
 use-told m old new true false = user (λ e. cc)
 use-told m old new false true = user (λ e. cc)
 
-module _ (c : Configuration) (p : ℕ) (c' : Configuration) (p' : ℕ) (limits : IsWithinLimits c) (limits' : IsWithinLimits c') where
+module _ (c : Configuration) (p : ℕ) (c' : Configuration) (p' : ℕ) (program : List ℕ) (limits : IsWithinLimits c) (limits' : IsWithinLimits c') where
   abbrev T : Option Change → Type 0
-  T o = Tells c p c' p' o
+  T o = Tells c p c' p' program o
 
   abbrev f : ℕ → Option Change
   f m = mutex_change c p c' p' m
 
-  use-at : (m : ℕ) (o : Option Change) → Use m (longest_hold c m) (longest_hold c' m) (is_user c m p) (is_user c' m p') o → (rest : Option Change) → (o ≡ None → T rest) → T (option_or o rest)
-  use-at m None told rest on = on refl
-  use-at m (Some x) (hold is differ) rest on = λ program sees. differ (sees.but_period.holds m is)
-  use-at m (Some x) (user differ) rest on = λ program sees. differ (sees.but_period.mutexes m)
+  seen-of : (some : ¬ LocksNothing program) (P : Type 0) → (SeesTheSameMutexes c p c' p' → P) → SeesTheSame c p c' p' program → P
+  seen-of some P by sees = elim sees.but_period.but_time.mutexes [ inl alike ↦ by alike | inr none ↦ absurd (some none) ]
+
+  use-at : (some : ¬ LocksNothing program) (m : ℕ) (o : Option Change) → Use m (longest_hold c m) (longest_hold c' m) (is_user c m p) (is_user c' m p') o
+      → (rest : Option Change) → (o ≡ None → T rest) → T (option_or o rest)
+  use-at some m None told rest on = on refl
+  use-at some m (Some x) (hold is differ) rest on = seen-of some ⊥ (λ same. differ (same.holds m is))
+  use-at some m (Some x) (user differ) rest on = seen-of some ⊥ (λ same. differ (same.users m))
 
   -- the mutexes from a number on
-  search-from : (low n : ℕ) (rest : Option Change) → (((j : ℕ) → low ≤ j → j < low + n → f j ≡ None) → T rest) → T (option_or (first_of f (numbers low n)) rest)
-  search-from low zero rest on = on (λ j above under. absurd (omega arith))
-  search-from low (suc n) rest on =
+  search-from : (some : ¬ LocksNothing program) (low n : ℕ) (rest : Option Change) → (((j : ℕ) → low ≤ j → j < low + n → f j ≡ None) → T rest)
+      → T (option_or (first_of f (numbers low n)) rest)
+  search-from some low zero rest on = on (λ j above under. absurd (omega arith))
+  search-from some low (suc n) rest on =
       subst T (sym (or-or (f low) (first_of f (numbers (suc low) n)) rest))
-      (use-at low (f low) (use-told low (longest_hold c low) (longest_hold c' low) (is_user c low p) (is_user c' low p')) (option_or (first_of f (numbers (suc low) n)) rest)
-      (λ here. search-from (suc low) n rest (λ later. on (λ j above under. at j above under here later))))
+      (use-at some low (f low) (use-told low (longest_hold c low) (longest_hold c' low) (is_user c low p) (is_user c' low p')) (option_or (first_of f (numbers (suc low) n)) rest)
+      (λ here. search-from some (suc low) n rest (λ later. on (λ j above under. at j above under here later))))
     where
       at : (j : ℕ) → low ≤ j → j < low + suc n → f low ≡ None → ((i : ℕ) → suc low ≤ i → i < suc low + n → f i ≡ None) → f j ≡ None
       at j above under here later =
@@ -66,36 +71,40 @@ module _ (c : Configuration) (p : ℕ) (c' : Configuration) (p' : ℕ) (limits :
   all-unchanged : ((j : ℕ) → j < MAX_MUTEXES → f j ≡ None) → (m : ℕ) → (is_user c m p ≡ is_user c' m p') × (is_user c m p ≡ true → longest_hold c m ≡ longest_hold c' m)
   all-unchanged none m = grind (arith, nat_tests, unchanged, use-told, nobody)
 
-  pub told : T (first_change c p c' p')
-  told =
-      subst T (sym (or-or (differs Change.Switch c.costs.switch c'.costs.switch) (differs Change.Call c.costs.call c'.costs.call) _))
-      (step T Change.Switch c.costs.switch c'.costs.switch _ (λ differ program sees. differ sees.but_period.switch) (λ switch.
-      step T Change.Call c.costs.call c'.costs.call _ (λ differ program sees. differ sees.but_period.call) (λ call.
-      subst T (sym (or-or (differs Change.Period (period c (main_level c p)) (period c' (main_level c' p'))) _ _))
-      (step T Change.Period (period c (main_level c p)) (period c' (main_level c' p')) _ (λ differ program sees. differ sees.period) (λ window.
-      subst T (sym (or-or (differs Change.Budget (budget c p) (budget c' p')) (differs Change.Memory (memory c p) (memory c' p')) _))
-      (step T Change.Budget (budget c p) (budget c' p') _ (λ differ program sees. differ sees.but_period.budget) (λ part.
-      step T Change.Memory (memory c p) (memory c' p') _ (λ differ program sees. differ sees.but_period.memory) (λ words.
-      search-from 0 MAX_MUTEXES _ (λ none.
-      let all = all-unchanged (λ j within. none j (omega arith) (omega (arith, within))) in
-      step T Change.Levels (main_level c p) (main_level c' p') _ (λ differ. levels-differ switch call window part words all (λ levels. differ levels.0)) (λ own.
-      last-step T Change.Levels (max_level c p) (max_level c' p') (λ differ. levels-differ switch call window part words all (λ levels. differ levels.1))
-      (λ slowest program. all-seen switch call window part words all program (inl (own, slowest)))))))))))))
-    where
-      all-seen : c.costs.switch ≡ c'.costs.switch → c.costs.call ≡ c'.costs.call → period c (main_level c p) ≡ period c' (main_level c' p')
-          → budget c p ≡ budget c' p' → memory c p ≡ memory c' p'
-          → ((m : ℕ) → (is_user c m p ≡ is_user c' m p') × (is_user c m p ≡ true → longest_hold c m ≡ longest_hold c' m))
-          → (program : List ℕ) → ((main_level c p ≡ main_level c' p') × (max_level c p ≡ max_level c' p')) ⊎ MakesNoThread program → SeesTheSame c p c' p' program
-      all-seen switch call window part words all program levels = record {
-        but_period = grind (arith, nat_tests);
-        period = window;
-      }
+  -- the mutexes, where the program locks any
+  mutexes-from : (b : Bool) → TellsCall b 5 program → (rest : Option Change) → (SeesTheSameMutexes c p c' p' ⊎ LocksNothing program → T rest)
+      → T (option_or (seen b (mutexes_change c p c' p')) rest)
+  mutexes-from false none rest on = on (inr none)
+  mutexes-from true some rest on =
+      search-from some 0 MAX_MUTEXES rest (λ none. on (inl (record {
+        users = λ m. (all-unchanged (λ j within. none j (omega arith) (omega (arith, within))) m).0;
+        holds = λ m. (all-unchanged (λ j within. none j (omega arith) (omega (arith, within))) m).1;
+      })))
 
-      levels-differ : c.costs.switch ≡ c'.costs.switch → c.costs.call ≡ c'.costs.call → period c (main_level c p) ≡ period c' (main_level c' p')
-          → budget c p ≡ budget c' p' → memory c p ≡ memory c' p'
-          → ((m : ℕ) → (is_user c m p ≡ is_user c' m p') × (is_user c m p ≡ true → longest_hold c m ≡ longest_hold c' m))
-          → (((main_level c p ≡ main_level c' p') × (max_level c p ≡ max_level c' p')) → ⊥) → T (Some Change.Levels)
-      levels-differ switch call window part words all differ program = (
-        λ sees. elim sees.but_period.levels [ inl levels ↦ absurd (differ levels) | inr none ↦ none ],
-        λ none. all-seen switch call window part words all program (inr none),
-      )
+  abbrev Levels : Type 0
+  Levels = ((main_level c p ≡ main_level c' p') × (max_level c p ≡ max_level c' p')) ⊎ MakesNoThread program
+
+  -- and the numbers of its levels, where it makes a thread
+  levels-from : (b : Bool) → TellsCall b 3 program → (Levels → T None) → T (seen b (level_change c p c' p'))
+  levels-from false none on = on (inr none)
+  levels-from true some on =
+      step T Change.Levels (main_level c p) (main_level c' p') _ (λ differ sees. elim sees.but_period.but_time.levels [ inl alike ↦ differ alike.0 | inr none ↦ some none ]) (λ own.
+      last-step T Change.Levels (max_level c p) (max_level c' p') (λ differ sees. elim sees.but_period.but_time.levels [ inl alike ↦ differ alike.1 | inr none ↦ some none ])
+      (λ slowest. on (inl (own, slowest))))
+
+  pub told : (s : Sight) → IsSight s program → T (first_change s c p c' p')
+  told s sight =
+      subst T (sym (or-or (differs Change.Switch c.costs.switch c'.costs.switch) (differs Change.Call c.costs.call c'.costs.call) _))
+      (step T Change.Switch c.costs.switch c'.costs.switch _ (λ differ sees. differ sees.but_period.but_time.switch) (λ switch.
+      step T Change.Call c.costs.call c'.costs.call _ (λ differ sees. differ sees.but_period.but_time.call) (λ call.
+      subst T (sym (or-or (differs Change.Period (period c (main_level c p)) (period c' (main_level c' p'))) _ _))
+      (step T Change.Period (period c (main_level c p)) (period c' (main_level c' p')) _ (λ differ sees. differ sees.period) (λ window.
+      subst T (sym (or-or (differs Change.Budget (budget c p) (budget c' p')) (differs Change.Memory (memory c p) (memory c' p')) _))
+      (step T Change.Budget (budget c p) (budget c' p') _ (λ differ sees. differ sees.but_period.budget) (λ part.
+      step T Change.Memory (memory c p) (memory c' p') _ (λ differ sees. differ sees.but_period.but_time.memory) (λ words.
+      mutexes-from s.locks sight.locks _ (λ mutexes.
+      levels-from s.creates sight.creates (λ levels.
+      record {
+        but_period = record { but_time = record { switch = switch; call = call; memory = words; mutexes = mutexes; levels = levels }; budget = part };
+        period = window;
+      }))))))))))

@@ -87,7 +87,11 @@ same-holds : (ticks other m : ℕ) → is_user (old_at ticks) m 0 ≡ true → l
 same-holds ticks other m is = grind (arith, nat_tests)
 
 sees-but-period : (ticks other : ℕ) → SeesTheSameButPeriod (old_at ticks) 0 (new_at other) 1 worker
-sees-but-period ticks other = grind (arith, nat_tests, same-users, same-holds, worker-makes-none)
+sees-but-period ticks other =
+    record {
+      but_time = record { switch = refl; call = refl; memory = refl; mutexes = inl (record { users = same-users ticks other; holds = same-holds ticks other }); levels = inr worker-makes-none };
+      budget = refl;
+    }
 
 sees : SeesTheSame old 0 new 1 worker
 sees = record { but_period = sees-but-period 20 20; period = refl }

@@ -1,5 +1,5 @@
 -- What a process sees change from one configuration to another, in order.
-use Rattle.std.specs.Prelude.{ℕ, ◌==◌, Bool, true, false, if◌then◌else◌, List, Option, Some, None, ◌↔◌}
+use Rattle.std.specs.Prelude.{ℕ, ◌≡◌, ◌==◌, Bool, true, false, if◌then◌else◌, List, Option, Some, None}
 use Rattle.std.specs.Option.{option_or}
 use Rattle.dk_config.specs.declared.TheConstants.{MAX_MUTEXES}
 use Rattle.dk_config.specs.Configuration.{Configuration}
@@ -7,7 +7,9 @@ use Rattle.dk_config.specs.Sums.{below, first_of}
 use Rattle.dk_config.specs.Windows.{period, main_level, max_level, budget, memory, longest_hold}
 use Rattle.dk_config.specs.Certification.{is_user}
 use Rattle.dk_impact.specs.declared.change.Change.{Change}
-use Rattle.dk_impact.specs.Impact.{MakesNoThread, SeesTheSame}
+use Rattle.dk_isa.specs.Calls.{HoldsNoCall}
+use Rattle.dk_impact.specs.declared.change.Sight.{Sight}
+use Rattle.dk_impact.specs.Impact.{SeesTheSame}
 
 -- the change, where the numbers differ
 abbrev pub differs : Change → ℕ → ℕ → Option Change
@@ -39,19 +41,37 @@ abbrev pub level_change : Configuration → ℕ → Configuration → ℕ → Op
 level_change c p c' p' =
     option_or (differs Change.Levels (main_level c p) (main_level c' p')) (differs Change.Levels (max_level c p) (max_level c' p'))
 
-abbrev pub use_change : Configuration → ℕ → Configuration → ℕ → Option Change
-use_change c p c' p' = option_or (mutexes_change c p c' p') (level_change c p c' p')
+-- what is seen of a change that only a program with some call sees
+abbrev pub seen : Bool → Option Change → Option Change
+seen true change = change
+seen false change = None
 
-abbrev pub own_change : Configuration → ℕ → Configuration → ℕ → Option Change
-own_change c p c' p' = option_or (row_change c p c' p') (use_change c p c' p')
+abbrev pub use_change : Sight → Configuration → ℕ → Configuration → ℕ → Option Change
+use_change s c p c' p' = option_or (seen s.locks (mutexes_change c p c' p')) (seen s.creates (level_change c p c' p'))
+
+abbrev pub own_change : Sight → Configuration → ℕ → Configuration → ℕ → Option Change
+own_change s c p c' p' = option_or (row_change c p c' p') (use_change s c p c' p')
 
 -- the first of all: of the costs, its row, its mutexes by number, and the numbers of its levels
-abbrev pub first_change : Configuration → ℕ → Configuration → ℕ → Option Change
-first_change c p c' p' = option_or (cost_change c c') (own_change c p c' p')
+abbrev pub first_change : Sight → Configuration → ℕ → Configuration → ℕ → Option Change
+first_change s c p c' p' = option_or (cost_change c c') (own_change s c p c' p')
 
--- what the first change tells: none that the process sees the same, whatever its program; that of the levels that it does so
--- exactly where its program makes no thread; and any other that it doesn't
-abbrev pub Tells : Configuration → ℕ → Configuration → ℕ → Option Change → Type 0
-Tells c p c' p' None = (program : List ℕ) → SeesTheSame c p c' p' program
-Tells c p c' p' (Some Change.Levels) = (program : List ℕ) → SeesTheSame c p c' p' program ↔ MakesNoThread program
-Tells c p c' p' (Some change) = (program : List ℕ) → SeesTheSame c p c' p' program → ⊥
+-- whether the program holds the call
+abbrev pub TellsCall : Bool → ℕ → List ℕ → Type 0
+TellsCall true n program = ¬ HoldsNoCall n program
+TellsCall false n program = HoldsNoCall n program
+
+pub record IsSight (s : Sight) (program : List ℕ) : Type 0 where
+  pub locks : TellsCall s.locks 5 program
+  pub creates : TellsCall s.creates 3 program
+
+-- the first thing that a process with this program sees change
+pub record IsFirst (c : Configuration) (p : ℕ) (c' : Configuration) (p' : ℕ) (program : List ℕ) (change : Option Change) : Type 0 where
+  pub sight : Sight
+  pub is : IsSight sight program
+  pub first : change ≡ first_change sight c p c' p'
+
+-- what it tells: none that the process sees the same, and any that it doesn't
+abbrev pub Tells : Configuration → ℕ → Configuration → ℕ → List ℕ → Option Change → Type 0
+Tells c p c' p' program None = SeesTheSame c p c' p' program
+Tells c p c' p' program (Some change) = ¬ SeesTheSame c p c' p' program

@@ -7,8 +7,8 @@ use Rattle.dk_trace.specs.declared.Entry.{Entry}
 use Rattle.dk_world.specs.Run.{world}
 use Rattle.dk_alone.specs.Alone.{alone, entries_of, KeepsToItself}
 use Rattle.dk_alone.specs.Again.{WindowBegins, ProcessStandsAgain, own_window}
-use Rattle.dk_impact.specs.Impact.{IsSameAcross, renamed}
-use Rattle.dk_impact.specs.Greater.{SeesTheSameButTime, ReadsNoBudget, has_enough}
+use Rattle.dk_impact.specs.Impact.{IsSameAcross, SeesTheSameButTime, renamed}
+use Rattle.dk_impact.specs.Greater.{ReadsNoBudget, has_enough}
 
 -- By itself a process is the same where the k-th window of it begins in each configuration that gives it no less, where no window
 -- before shows how large its budget is: with a greater budget and at another rate it does in each window what it did.
@@ -60,20 +60,3 @@ FirstWindowsTellWithMore =
     → ((tick : ℕ) → WindowBegins c p tick → tick < s + k → has_enough p (own_window c programs p tick) ≡ true)
     → ((tick : ℕ) → WindowBegins c p tick → tick < s + k → holds (map (renamed p') (own_window c programs p tick)) ≡ true)
     → (tick : ℕ) → WindowBegins c' p' tick → holds (own_window c' others p' tick) ≡ true
-
--- With the same budget no window need be seen: so a process of which the mutexes change is the same, where its program locks nothing.
-abbrev pub AloneIsTheSameButTime : Type 0
-AloneIsTheSameButTime =
-    (c c' : Configuration) (program : List ℕ) (p p' k : ℕ) → IsChecked c → IsAccepted c → IsChecked c' → IsAccepted c'
-    → KeepsToItself c p program → KeepsToItself c' p' program
-    → SeesTheSameButTime c p c' p' program → budget c p ≡ budget c' p'
-    → IsSameAcross p p' (alone c p program (k * period c (main_level c p))) (alone c' p' program (k * period c' (main_level c' p')))
-
-abbrev pub MutexesHaveNoImpact : Type 0
-MutexesHaveNoImpact =
-    (c c' : Configuration) (programs others : List (List ℕ)) (p p' k : ℕ)
-    → IsChecked c → IsAccepted c → IsChecked c' → IsAccepted c'
-    → KeepsToItself c p (slice_index_or programs p []) → KeepsToItself c' p' (slice_index_or others p' [])
-    → slice_index_or programs p [] ≡ slice_index_or others p' []
-    → SeesTheSameButTime c p c' p' (slice_index_or programs p []) → budget c p ≡ budget c' p'
-    → IsSameAcross p p' (world c programs (k * period c (main_level c p))) (world c' others (k * period c' (main_level c' p')))

@@ -14,19 +14,31 @@ use Rattle.dk_alone.specs.Alone.{entries_of}
 abbrev pub MakesNoThread : List ℕ → Type 0
 MakesNoThread program = HoldsNoCall 3 program
 
--- The process p of one configuration sees what the process p' of the other sees, maybe in windows of another length: the
--- costs, its budget, its memory, which mutexes it may lock, and how long it may hold each of them. The numbers of its levels
--- are read by one call alone, which a process without children is refused.
-pub record SeesTheSameButPeriod (c : Configuration) (p : ℕ) (c' : Configuration) (p' : ℕ) (program : List ℕ) : Type 0 where
+-- nor the call that locks a mutex
+abbrev pub LocksNothing : List ℕ → Type 0
+LocksNothing program = HoldsNoCall 5 program
+
+-- the process may lock the same mutexes in both configurations, by their numbers, and hold each of them as long
+pub record SeesTheSameMutexes (c : Configuration) (p : ℕ) (c' : Configuration) (p' : ℕ) : Type 0 where
+  pub users : (m : ℕ) → is_user c m p ≡ is_user c' m p'
+  pub holds : (m : ℕ) → is_user c m p ≡ true → longest_hold c m ≡ longest_hold c' m
+
+-- The process p of one configuration sees what the process p' of the other sees, but for its time, which is its budget and the length
+-- of its windows: the costs, its memory, and its mutexes. Those are seen by a lock alone, and the numbers of its levels by one call
+-- alone, which a process without children is refused.
+pub record SeesTheSameButTime (c : Configuration) (p : ℕ) (c' : Configuration) (p' : ℕ) (program : List ℕ) : Type 0 where
   pub switch : c.costs.switch ≡ c'.costs.switch
   pub call : c.costs.call ≡ c'.costs.call
-  pub budget : budget c p ≡ budget c' p'
   pub memory : memory c p ≡ memory c' p'
-  pub mutexes : (m : ℕ) → is_user c m p ≡ is_user c' m p'
-  pub holds : (m : ℕ) → is_user c m p ≡ true → longest_hold c m ≡ longest_hold c' m
+  pub mutexes : SeesTheSameMutexes c p c' p' ⊎ LocksNothing program
   pub levels : ((main_level c p ≡ main_level c' p') × (max_level c p ≡ max_level c' p')) ⊎ MakesNoThread program
 
--- and so it does in windows of the same length
+-- it has the same budget too, maybe in windows of another length
+pub record SeesTheSameButPeriod (c : Configuration) (p : ℕ) (c' : Configuration) (p' : ℕ) (program : List ℕ) : Type 0 where
+  pub but_time : SeesTheSameButTime c p c' p' program
+  pub budget : budget c p ≡ budget c' p'
+
+-- and in windows of the same length
 pub record SeesTheSame (c : Configuration) (p : ℕ) (c' : Configuration) (p' : ℕ) (program : List ℕ) : Type 0 where
   pub but_period : SeesTheSameButPeriod c p c' p' program
   pub period : period c (main_level c p) ≡ period c' (main_level c' p')

@@ -1,5 +1,14 @@
 //! What a process can see change.
 
+/// What only a program with some call sees.
+#[derive(Clone, Copy)]
+pub struct Sight {
+    /// It holds the call that locks: it sees mutexes.
+    pub locks: bool,
+    /// It holds the call that makes a thread: it sees the numbers of its levels.
+    pub creates: bool,
+}
+
 /// What a process sees change from one configuration to another. A number is a mutex's row.
 #[derive(Clone, Copy)]
 pub enum Change {

@@ -2,10 +2,17 @@
 ghost use Rattle.std.specs.Prelude.{◌≡◌};
 ghost use Rattle.dk_config.specs.Checked.{IsWithinLimits};
 ghost use Rattle.dk_config.specs.Windows.{budget, longest_hold, main_level, max_level, memory, period};
-ghost use Rattle.dk_impact.specs.Changes.{Tells, cost_change, differs, first_change, level_change, mutex_change, mutexes_change, own_change, row_change, size_change, use_change};
+ghost use Rattle.dk_impact.specs.Changes.{IsFirst, IsSight, Tells, cost_change, differs, first_change, level_change, mutex_change, mutexes_change, own_change, row_change, seen, size_change, use_change};
 
-use crate::Change;
+use crate::{Change, Sight};
 use dk_config::{Config, MAX_MUTEXES};
+use dk_isa::holds_call;
+
+/// The number of the call that makes a thread.
+const CREATE: u8 = 3;
+
+/// The number of the call that locks a mutex.
+const LOCK: u8 = 5;
 
 /// The change, where the numbers differ.
 fn differs(change: Change, old: u32, new: u32) -> Option<Change>
@@ -143,42 +150,58 @@ fn level_change(old: &Config, process: u32, new: &Config, same: u32) -> Option<C
     }
 }
 
-fn use_change(old: &Config, process: u32, new: &Config, same: u32) -> Option<Change>
-    ensures { result ≡ use_change old.now process new.now same }
+fn seen(sees: bool, change: Option<Change>) -> Option<Change>
+    ensures { result ≡ seen sees change }
 {
-    match mutexes_change(old, process, new, same) {
+    if sees { change } else { None }
+}
+
+fn use_change(old: &Config, process: u32, new: &Config, same: u32, sight: Sight) -> Option<Change>
+    ensures { result ≡ use_change sight old.now process new.now same }
+{
+    match seen(sight.locks, mutexes_change(old, process, new, same)) {
         Some(change) => Some(change),
-        None => level_change(old, process, new, same),
+        None => seen(sight.creates, level_change(old, process, new, same)),
     }
 }
 
-fn own_change(old: &Config, process: u32, new: &Config, same: u32) -> Option<Change>
-    ensures { result ≡ own_change old.now process new.now same }
+fn own_change(old: &Config, process: u32, new: &Config, same: u32, sight: Sight) -> Option<Change>
+    ensures { result ≡ own_change sight old.now process new.now same }
 {
     match row_change(old, process, new, same) {
         Some(change) => Some(change),
-        None => use_change(old, process, new, same),
+        None => use_change(old, process, new, same, sight),
     }
 }
 
-fn any_change(old: &Config, process: u32, new: &Config, same: u32) -> Option<Change>
-    ensures { result ≡ first_change old.now process new.now same }
+fn any_change(old: &Config, process: u32, new: &Config, same: u32, sight: Sight) -> Option<Change>
+    ensures { result ≡ first_change sight old.now process new.now same }
 {
     match cost_change(old, new) {
         Some(change) => Some(change),
-        None => own_change(old, process, new, same),
+        None => own_change(old, process, new, same, sight),
     }
 }
 
-/// The first thing that the process sees change from the old configuration to the new, where it is the process `same`.
+fn sight_of(program: &[u8]) -> Sight
+    ensures { IsSight result program.now }
+{
+    Sight {
+        locks: holds_call(program, LOCK),
+        creates: holds_call(program, CREATE),
+    }
+}
+
+/// The first thing that the process sees change from the old configuration to the new, where it is the process `same`, and
+/// has this program in both.
 ///
-/// None: it sees the same, whatever its program. `Levels`: it does so exactly where its program makes no thread. Any other
-/// change: it doesn't see the same.
-pub fn first_change(old: &Config, process: u32, new: &Config, same: u32) -> Option<Change>
+/// None: it sees the same. Any: it doesn't.
+pub fn first_change(old: &Config, process: u32, new: &Config, same: u32, program: &[u8]) -> Option<Change>
     requires old_limits { IsWithinLimits old.now }
     requires new_limits { IsWithinLimits new.now }
-    ensures first { result ≡ first_change old.now process new.now same }
-    ensures tells { Tells old.now process new.now same result }
+    ensures first { IsFirst old.now process new.now same program.now result }
+    ensures tells { Tells old.now process new.now same program.now result }
 {
-    any_change(old, process, new, same)
+    let sight = sight_of(program);
+    any_change(old, process, new, same, sight)
 }

@@ -5,13 +5,13 @@
 //! project's own.
 #![tactic(auto)]
 
-ghost use Rattle.dk_impact.specs.GreaterLaws.{AloneIsTheSameButTime, AloneIsTheSameWithMore, FirstWindowsTellWithMore, GreaterBudgetsHaveNoImpact, MutexesHaveNoImpact, WindowsAreTheSameWithMore};
+ghost use Rattle.dk_impact.specs.GreaterLaws.{AloneIsTheSameWithMore, FirstWindowsTellWithMore, GreaterBudgetsHaveNoImpact, WindowsAreTheSameWithMore};
 ghost use Rattle.dk_impact.specs.Laws.{AloneIsTheSameAcross, AloneIsTheSameAtAnyPeriod, ChangesOfOthersHaveNoImpact, ChangesOfPeriodHaveNoImpact, FirstWindowsTellAcross, FirstWindowsTellAtAnyPeriod, WindowsAreTheSameAcross, WindowsAreTheSameAtAnyPeriod};
 
 mod change;
 mod changes;
 
-pub use change::Change;
+pub use change::{Change, Sight};
 pub use changes::first_change;
 use dk_alone::{alone_law, first_windows_law, windows_law};
 
@@ -111,18 +111,4 @@ pub fn first_windows_with_more_law()
 {
     windows_with_more_law();
     first_windows_law();
-}
-
-/// With the processor to itself a process whose budget is the same, and whose program locks nothing, does in the k-th of its
-/// windows the same whatever mutexes it may lock.
-pub fn alone_but_time_law()
-    ensures { AloneIsTheSameButTime }
-{}
-
-/// So it does in every run, whatever else differs.
-pub fn mutexes_law()
-    ensures { MutexesHaveNoImpact }
-{
-    alone_law();
-    alone_but_time_law();
 }

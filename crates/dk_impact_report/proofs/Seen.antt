@@ -1,39 +1,13 @@
--- What a first change tells, and what follows for the evidence.
-use Rattle.std.proofs.Common.{ℕ, ◌≡◌, ◌∙◌, List, Some, sym, subst}
-use Rattle.std.specs.Prelude.{[], true, false, slice_index_or, ◌↔◌}
+-- What follows for the evidence.
+use Rattle.std.proofs.Common.{ℕ, ◌≡◌, ◌∙◌, List, sym, subst}
+use Rattle.std.specs.Prelude.{[], slice_index_or}
 use Rattle.dk_config.specs.Configuration.{Configuration}
 use Rattle.dk_config.specs.Checked.{IsAccepted, IsChecked}
 use Rattle.dk_loader.specs.Workload.{Workload}
 use Rattle.dk_alone.specs.Alone.{KeepsToItself}
-use Rattle.dk_impact.specs.declared.change.Change.{Change}
-use Rattle.dk_impact.specs.Changes.{Tells}
-use Rattle.dk_impact.specs.Impact.{MakesNoThread, SeesTheSame}
+use Rattle.dk_impact.specs.Impact.{SeesTheSame}
 use Rattle.dk_impact.specs.Laws.{ChangesOfOthersHaveNoImpact, FirstWindowsTellAcross}
-use Rattle.dk_impact_report.specs.Impacts.{EvidenceStands, IsSame, is_levels, program_of}
-
--- any other change than that of the levels' numbers is seen
-pub seen : (c : Configuration) (p : ℕ) (c' : Configuration) (p' : ℕ) (change : Change) → is_levels change ≡ false → Tells c p c' p' (Some change)
-    → (program : List ℕ) → SeesTheSame c p c' p' program → ⊥
-seen c p c' p' Change.Switch other tells = tells
-seen c p c' p' Change.Call other tells = tells
-seen c p c' p' Change.Period other tells = tells
-seen c p c' p' Change.Budget other tells = tells
-seen c p c' p' Change.Memory other tells = tells
-seen c p c' p' (Change.User m) other tells = tells
-seen c p c' p' (Change.Hold m) other tells = tells
-seen c p c' p' Change.Levels other tells = let never : true ≡ false = other in cc
-
--- and that one where the program makes a thread
-pub levels-seen : (c : Configuration) (p : ℕ) (c' : Configuration) (p' : ℕ) (change : Change) → is_levels change ≡ true → Tells c p c' p' (Some change)
-    → (program : List ℕ) → SeesTheSame c p c' p' program ↔ MakesNoThread program
-levels-seen c p c' p' Change.Levels is tells = tells
-levels-seen c p c' p' Change.Switch is tells = let never : false ≡ true = is in cc
-levels-seen c p c' p' Change.Call is tells = let never : false ≡ true = is in cc
-levels-seen c p c' p' Change.Period is tells = let never : false ≡ true = is in cc
-levels-seen c p c' p' Change.Budget is tells = let never : false ≡ true = is in cc
-levels-seen c p c' p' Change.Memory is tells = let never : false ≡ true = is in cc
-levels-seen c p c' p' (Change.User m) is tells = let never : false ≡ true = is in cc
-levels-seen c p c' p' (Change.Hold m) is tells = let never : false ≡ true = is in cc
+use Rattle.dk_impact_report.specs.Impacts.{EvidenceStands, IsSame, program_of}
 
 -- the laws of every run tell that the evidence of what sees the same stands
 pub evidence : (old new : Workload) (p q : ℕ) → IsChecked old.config → IsAccepted old.config → IsChecked new.config → IsAccepted new.config

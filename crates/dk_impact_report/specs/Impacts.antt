@@ -11,7 +11,7 @@ use Rattle.dk_world.specs.Run.{world}
 use Rattle.dk_alone.specs.Alone.{KeepsToItself, ReadsNoTick}
 use Rattle.dk_alone.specs.Again.{WindowBegins, ProcessStandsAgain, own_window}
 use Rattle.dk_impact.specs.declared.change.Change.{Change}
-use Rattle.dk_impact.specs.Changes.{first_change}
+use Rattle.dk_impact.specs.Changes.{IsFirst}
 use Rattle.dk_impact.specs.Impact.{IsSameAcross, SeesTheSame, renamed}
 use Rattle.dk_config_report.specs.Pages.{IsLeast}
 use Rattle.dk_impact_report.specs.declared.impact.Cause.{Cause}
@@ -51,12 +51,8 @@ pub record IsSame (old : Workload) (p : ℕ) (new : Workload) (q : ℕ) : Type 0
 pub record IsChanged (old : Workload) (p : ℕ) (new : Workload) (q : ℕ) (change : Change) : Type 0 where
   pub keeps : KeepsInBoth old p new q
   pub program : program_of old p ≡ program_of new q
-  pub first : first_change old.config p new.config q ≡ Some change
+  pub first : IsFirst old.config p new.config q (program_of old p) (Some change)
   pub differs : ¬ SeesTheSame old.config p new.config q (program_of old p)
-
-abbrev pub is_levels : Change → Bool
-is_levels Change.Levels = true
-is_levels _ = false
 
 abbrev pub IsFound : Workload → ℕ → Workload → ℕ → Impact → Type 0
 IsFound old p new q Impact.Same = IsSame old p new q

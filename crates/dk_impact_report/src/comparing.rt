@@ -4,18 +4,15 @@ ghost use Rattle.std.specs.Str.{bytes_eq};
 ghost use Rattle.dk_config.specs.declared.rows.ProcessRow.{ProcessRow as Process};
 ghost use Rattle.dk_config.specs.Checked.{IsAccepted, IsChecked, IsWithinLimits};
 ghost use Rattle.dk_config.specs.Windows.{process_name};
-ghost use Rattle.dk_impact_report.specs.Impacts.{AreRows, EvidenceStands, IsCause, IsFound, IsRow, IsSame, Keeps, is_levels, place_of, program_of};
+ghost use Rattle.dk_impact_report.specs.Impacts.{AreRows, EvidenceStands, IsCause, IsFound, IsRow, IsSame, Keeps, place_of, program_of};
 
 use crate::{Cause, Impact, Row};
 use dk_config::{Config, NoMemory, ProcessRow};
-use dk_impact::{Change, first_change, first_windows_across_law, impact_law};
+use dk_impact::{first_change, first_windows_across_law, impact_law};
 use dk_isa::holds_call;
 use dk_loader::Loaded;
 use dk_when::done_by;
 use std::alloc::Global;
-
-/// The number of the call that makes a thread.
-const CREATE: u8 = 3;
 
 /// The number of the call that reads the tick.
 const TIME: u8 = 9;
@@ -47,12 +44,6 @@ fn cause_of(loaded: &Loaded, process: u32) -> Option<Cause>
     None
 }
 
-fn is_levels(change: Change) -> bool
-    ensures { result ≡ is_levels change }
-{
-    matches!(change, Change::Levels)
-}
-
 /// What a process with one program sees change, which keeps to itself before and now.
 fn seen_change(old: &Loaded, process: u32, new: &Loaded, same: u32) -> Impact
     requires old_limits { IsWithinLimits old.now.config }
@@ -62,18 +53,10 @@ fn seen_change(old: &Loaded, process: u32, new: &Loaded, same: u32) -> Impact
     requires program { program_of old.now process ≡ program_of new.now same }
     ensures found { IsFound old.now process new.now same result }
 {
-    match first_change(&old.config, process, &new.config, same) {
+    let program = program_of(old, process);
+    match first_change(&old.config, process, &new.config, same, program) {
         None => Impact::Same,
-        // Only a program that makes a thread sees the numbers of its levels.
-        Some(change) => {
-            if !is_levels(change) {
-                Impact::Changed(change)
-            } else if holds_call(program_of(old, process), CREATE) {
-                Impact::Changed(change)
-            } else {
-                Impact::Same
-            }
-        }
+        Some(change) => Impact::Changed(change),
     }
 }
 

@@ -1,8 +1,0 @@
-use Rattle.dk_impact.proofs.Names.{inl}
-use Rattle.dk_impact.proofs.Across.{any-period}
-use Rattle.dk_impact.proofs.Greater.{same-budgets}
-use Rattle.dk_impact.proofs.alone_but_time_law.Goals as goal
-
-pub returns : goal.returns
-returns c one other program p p' k checked accepted checked' accepted' keeps keeps' sees same =
-    any-period one other p p' program checked accepted checked' accepted' keeps keeps' sees (same-budgets one other p p' same) k (λ i less j within. inl same)
