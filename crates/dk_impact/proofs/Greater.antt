@@ -21,10 +21,13 @@ with-more c c' p p' program checked accepted checked' accepted' keeps keeps' see
     (λ i less j within.
     let m = start_of P i in
     let place : i * P + P ≡ on P m = sum i in
-    inr ((omega (arith, room), more), reads,
-    enough-at c p program positive (plain-alone c p program positive keeps) room fits m (start-begins P i positive)
-    (subst (λ n. has_enough p (entries_of p (take P (alone c p program n).past)) ≡ true) place (enough i less))
-    j (omega (arith, within, fits))))
+    inr (
+      (omega (arith, room), more),
+      reads,
+      enough-at c p program positive (plain-alone c p program positive keeps) room fits m (start-begins P i positive)
+          (subst (λ n. has_enough p (entries_of p (take P (alone c p program n).past)) ≡ true) place (enough i less))
+          j (omega (arith, within, fits)),
+    ))
   where
     sum : (i : ℕ) → i * period c (main_level c p) + period c (main_level c p) ≡ on (period c (main_level c p)) (start_of (period c (main_level c p)) i)
     sum i =

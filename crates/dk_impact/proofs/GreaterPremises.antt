@@ -129,7 +129,7 @@ neither a b one other = grind (arith, nat_tests)
 -- the law is the one with all four
 whole : GreaterBudgetsHaveNoImpact → LawWith (λ c c' code k. NoLess c c' code k × Reads c c' code k × Waits c c' code k × WantsNone c c' code k)
 whole law c c' code k passes fits passes' fits' keeps keeps' sees met =
-    law c c' (code ∷ []) (code ∷ []) 0 0 k passes fits passes' fits' keeps keeps' refl sees met.1 met.0
+    law c c' (code ∷ []) (code ∷ []) 0 0 k passes fits passes' fits' keeps keeps' refl (record { sees = sees; budget = met.0; reads = met.1 })
     (λ j less. neither (overruns 0 (own_window c (code ∷ []) 0 (j * period c (main_level c 0)))) _ (met.2 j less) (met.3 j less))
 
 abbrev of_alpha : Configuration → List ℕ → List Entry
@@ -175,14 +175,18 @@ granted-locks-are-needed =
 pub unread-budgets-are-needed : LawWith (λ c c' code k. NoLess c c' code k × Waits c c' code k × WantsNone c c' code k) → ⊥
 unread-budgets-are-needed =
     refuted (λ c c' code k. NoLess c c' code k × Waits c c' code k × WantsNone c c' code k) 6 7 left_teller shown 5 6 six-passes seven-passes (accepted six refl) (accepted seven refl)
-    (record { known = omega arith; threads = refl; slack = refl; clock = teller-clock }) (record { known = omega arith; threads = refl; slack = refl; clock = teller-clock })
-    (omega arith, first-only (λ j. overruns 0 (own_window six (left_teller ∷ []) 0 (j * 12)) ≡ false) refl,
-    first-only (λ j. list_any (does is_for_want (main_id 0)) (own_window six (left_teller ∷ []) 0 (j * 12)) ≡ false) refl) refl refl (λ e. absurd (omega arith))
+    (record { known = omega arith; threads = refl; slack = refl; clock = teller-clock }) (record { known = omega arith; threads = refl; slack = refl; clock = teller-clock }) (
+      omega arith,
+      first-only (λ j. overruns 0 (own_window six (left_teller ∷ []) 0 (j * 12)) ≡ false) refl,
+      first-only (λ j. list_any (does is_for_want (main_id 0)) (own_window six (left_teller ∷ []) 0 (j * 12)) ≡ false) refl,
+    ) refl refl (λ e. absurd (omega arith))
 
 -- with two ticks less it doesn't come to its wait
 pub no-less-is-needed : LawWith (λ c c' code k. Reads c c' code k × Waits c c' code k × WantsNone c c' code k) → ⊥
 no-less-is-needed =
     refuted (λ c c' code k. Reads c c' code k × Waits c c' code k × WantsNone c c' code k) 6 4 late_waiter length 5 4 six-passes four-passes (accepted six refl) (accepted four refl)
-    (record { known = omega arith; threads = refl; slack = refl; clock = waiter-clock }) (record { known = omega arith; threads = refl; slack = refl; clock = waiter-clock })
-    (waiter-reads, first-only (λ j. overruns 0 (own_window six (late_waiter ∷ []) 0 (j * 12)) ≡ false) refl,
-    first-only (λ j. list_any (does is_for_want (main_id 0)) (own_window six (late_waiter ∷ []) 0 (j * 12)) ≡ false) refl) refl refl (λ e. absurd (omega arith))
+    (record { known = omega arith; threads = refl; slack = refl; clock = waiter-clock }) (record { known = omega arith; threads = refl; slack = refl; clock = waiter-clock }) (
+      waiter-reads,
+      first-only (λ j. overruns 0 (own_window six (late_waiter ∷ []) 0 (j * 12)) ≡ false) refl,
+      first-only (λ j. list_any (does is_for_want (main_id 0)) (own_window six (late_waiter ∷ []) 0 (j * 12)) ≡ false) refl,
+    ) refl refl (λ e. absurd (omega arith))

@@ -24,8 +24,8 @@ pub use Rattle.dk_cpu.specs.Machine.{Tick, body_tick, reg}
 pub use Rattle.dk_cpu.specs.declared.Context.{Context}
 pub use Rattle.dk_cpu.specs.declared.Outcome.{Outcome}
 pub use Rattle.dk_cpu.specs.declared.kernel_call.KernelCall.{KernelCall}
-pub use Rattle.dk_impact.specs.Changes.{IsFirst, IsSight, Tells, TellsCall, differs, first_change, level_change, mutex_change, mutexes_change, seen, use_of}
-pub use Rattle.dk_impact.specs.Greater.{ReadsNoBudget, has_enough, is_for_want}
+pub use Rattle.dk_impact.specs.Changes.{IsFirst, IsSight, Tells, TellsCall, TellsOf, but_time_change, cost_change, differs, first_change, level_change, mutex_change, mutexes_change, seen, use_change, use_of}
+pub use Rattle.dk_impact.specs.Greater.{GivesNoLess, ReadsNoBudget, has_enough, is_for_want}
 pub use Rattle.dk_impact.specs.GreaterLaws.{FirstWindowsTellWithMore, GreaterBudgetsHaveNoImpact}
 pub use Rattle.dk_impact.specs.Impact.{IsSameAcross, LocksNothing, MakesNoThread, SeesTheSame, SeesTheSameButPeriod, SeesTheSameButTime, SeesTheSameMutexes, renamed, renamed_label}
 pub use Rattle.dk_impact.specs.Laws.{ChangesOfOthersHaveNoImpact, ChangesOfPeriodHaveNoImpact, FirstWindowsTellAcross, FirstWindowsTellAtAnyPeriod}

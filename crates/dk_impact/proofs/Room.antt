@@ -29,10 +29,11 @@ open-next p e o es before =
       shut = λ is.
           let some = parts (does is_wait (main_id p) e) (does is_end (main_id p) e) o.ended o.job.closed is in
           let past = before.shut some.1 in
-          let goes : does is_end (main_id p) e ≡ false = not-ended (does is_end (main_id p) e) o.ended past.0 some.2 in
-          (none-of o.ended (does is_end (main_id p) e) past.0 goes,
-          none-of (does is_wait (main_id p) e) (list_any (does is_wait (main_id p)) es) some.0 past.1,
-          none-of (stops (main_id p) e) (list_any (stops (main_id p)) es) (stops-is p e ∙ goes) past.2);
+          let goes : does is_end (main_id p) e ≡ false = not-ended (does is_end (main_id p) e) o.ended past.0 some.2 in (
+            none-of o.ended (does is_end (main_id p) e) past.0 goes,
+            none-of (does is_wait (main_id p) e) (list_any (does is_wait (main_id p)) es) some.0 past.1,
+            none-of (stops (main_id p) e) (list_any (stops (main_id p)) es) (stops-is p e ∙ goes) past.2,
+          );
     }
 
 -- the job has no more than its last part left, and isn't closed

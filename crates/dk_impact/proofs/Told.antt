@@ -1,5 +1,6 @@
 -- What the first change tells of what a process sees.
-use Rattle.dk_impact.proofs.Names.{ℕ, zero, suc, ◌≡◌, ◌+◌, ◌<◌, ◌≤◌, ◌⊎◌, inl, inr, Bool, true, false, List, length, Option, Some, None, refl, sym, ap, subst, arith, slice_get, option_map_or, option_or, cases_lt, eqb_tells, slice_get_past, MAX_MUTEXES, Configuration, IsWithinLimits, numbers, first_of, Mutex, period, main_level, max_level, budget, memory, longest_hold, is_user, uses, Change, Sight, LocksNothing, MakesNoThread, SeesTheSame, SeesTheSameMutexes, IsSight, TellsCall, differs, use_of, mutex_change, mutexes_change, level_change, seen, first_change, Tells, nat_tests}
+use Rattle.dk_impact.proofs.Names.{ℕ, zero, suc, ◌≡◌, ◌+◌, ◌<◌, ◌≤◌, ◌⊎◌, inl, inr, Bool, true, false, List, length, Option, Some, None, refl, sym, ap, subst, arith, slice_get, option_map_or, option_or, cases_lt, eqb_tells, slice_get_past, MAX_MUTEXES, Configuration, IsWithinLimits, numbers, first_of, Mutex, period, main_level, max_level, budget, memory, longest_hold, is_user, uses, Change, Sight, LocksNothing, MakesNoThread, SeesTheSame, SeesTheSameButTime, SeesTheSameMutexes, IsSight, TellsCall, TellsOf, but_time_change, cost_change, differs, use_of, mutex_change, mutexes_change, level_change, seen, use_change, first_change, Tells, nat_tests}
+use Rattle.std.specs.Prelude.{IsTrue, is_none, ◌↔◌}
 
 -- the numbers differ, or the search goes on
 step : (P : Option Change → Type 0) (change : Change) (a b : ℕ) (rest : Option Change) → ((a ≡ b → ⊥) → P (Some change)) → (a ≡ b → P rest)
@@ -25,15 +26,17 @@ use-told m old new false false = same refl (λ is. cc)
 use-told m old new true false = user (λ e. cc)
 use-told m old new false true = user (λ e. cc)
 
-module _ (c : Configuration) (p : ℕ) (c' : Configuration) (p' : ℕ) (program : List ℕ) (limits : IsWithinLimits c) (limits' : IsWithinLimits c') where
+-- Same says more than that the process sees the same but its time
+module _ (c : Configuration) (p : ℕ) (c' : Configuration) (p' : ℕ) (program : List ℕ) (limits : IsWithinLimits c) (limits' : IsWithinLimits c')
+    (Same : Type 0) (sees-of : Same → SeesTheSameButTime c p c' p' program) where
   abbrev T : Option Change → Type 0
-  T o = Tells c p c' p' program o
+  T o = TellsOf Same o
 
   abbrev f : ℕ → Option Change
   f m = mutex_change c p c' p' m
 
-  seen-of : (some : ¬ LocksNothing program) (P : Type 0) → (SeesTheSameMutexes c p c' p' → P) → SeesTheSame c p c' p' program → P
-  seen-of some P by sees = elim sees.but_period.but_time.mutexes [ inl alike ↦ by alike | inr none ↦ absurd (some none) ]
+  seen-of : (some : ¬ LocksNothing program) (P : Type 0) → (SeesTheSameMutexes c p c' p' → P) → Same → P
+  seen-of some P by sees = elim (sees-of sees).mutexes [ inl alike ↦ by alike | inr none ↦ absurd (some none) ]
 
   use-at : (some : ¬ LocksNothing program) (m : ℕ) (o : Option Change) → Use m (longest_hold c m) (longest_hold c' m) (is_user c m p) (is_user c' m p') o
       → (rest : Option Change) → (o ≡ None → T rest) → T (option_or o rest)
@@ -88,23 +91,49 @@ module _ (c : Configuration) (p : ℕ) (c' : Configuration) (p' : ℕ) (program 
   levels-from : (b : Bool) → TellsCall b 3 program → (Levels → T None) → T (seen b (level_change c p c' p'))
   levels-from false none on = on (inr none)
   levels-from true some on =
-      step T Change.Levels (main_level c p) (main_level c' p') _ (λ differ sees. elim sees.but_period.but_time.levels [ inl alike ↦ differ alike.0 | inr none ↦ some none ]) (λ own.
-      last-step T Change.Levels (max_level c p) (max_level c' p') (λ differ sees. elim sees.but_period.but_time.levels [ inl alike ↦ differ alike.1 | inr none ↦ some none ])
+      step T Change.Levels (main_level c p) (main_level c' p') _ (λ differ sees. elim (sees-of sees).levels [ inl alike ↦ differ alike.0 | inr none ↦ some none ]) (λ own.
+      last-step T Change.Levels (max_level c p) (max_level c' p') (λ differ sees. elim (sees-of sees).levels [ inl alike ↦ differ alike.1 | inr none ↦ some none ])
       (λ slowest. on (inl (own, slowest))))
 
-  pub told : (s : Sight) → IsSight s program → T (first_change s c p c' p')
-  told s sight =
-      subst T (sym (or-or (differs Change.Switch c.costs.switch c'.costs.switch) (differs Change.Call c.costs.call c'.costs.call) _))
-      (step T Change.Switch c.costs.switch c'.costs.switch _ (λ differ sees. differ sees.but_period.but_time.switch) (λ switch.
-      step T Change.Call c.costs.call c'.costs.call _ (λ differ sees. differ sees.but_period.but_time.call) (λ call.
-      subst T (sym (or-or (differs Change.Period (period c (main_level c p)) (period c' (main_level c' p'))) _ _))
-      (step T Change.Period (period c (main_level c p)) (period c' (main_level c' p')) _ (λ differ sees. differ sees.period) (λ window.
-      subst T (sym (or-or (differs Change.Budget (budget c p) (budget c' p')) (differs Change.Memory (memory c p) (memory c' p')) _))
-      (step T Change.Budget (budget c p) (budget c' p') _ (λ differ sees. differ sees.but_period.budget) (λ part.
-      step T Change.Memory (memory c p) (memory c' p') _ (λ differ sees. differ sees.but_period.but_time.memory) (λ words.
+  -- the costs
+  costs-from : (rest : Option Change) → (c.costs.switch ≡ c'.costs.switch → c.costs.call ≡ c'.costs.call → T rest)
+      → T (option_or (cost_change c c') rest)
+  costs-from rest on =
+      subst T (sym (or-or (differs Change.Switch c.costs.switch c'.costs.switch) (differs Change.Call c.costs.call c'.costs.call) rest))
+      (step T Change.Switch c.costs.switch c'.costs.switch _ (λ differ sees. differ (sees-of sees).switch) (λ switch.
+      step T Change.Call c.costs.call c'.costs.call _ (λ differ sees. differ (sees-of sees).call) (λ call. on switch call)))
+
+  -- the memory, and what the program uses
+  uses-from : (s : Sight) → IsSight s program → (c.costs.switch ≡ c'.costs.switch) → (c.costs.call ≡ c'.costs.call)
+      → (SeesTheSameButTime c p c' p' program → Same)
+      → T (option_or (differs Change.Memory (memory c p) (memory c' p')) (use_change s c p c' p'))
+  uses-from s sight switch call all =
+      step T Change.Memory (memory c p) (memory c' p') _ (λ differ sees. differ (sees-of sees).memory) (λ words.
       mutexes-from s.locks sight.locks _ (λ mutexes.
       levels-from s.creates sight.creates (λ levels.
-      record {
-        but_period = record { but_time = record { switch = switch; call = call; memory = words; mutexes = mutexes; levels = levels }; budget = part };
-        period = window;
-      }))))))))))
+      all (record { switch = switch; call = call; memory = words; mutexes = mutexes; levels = levels }))))
+
+-- of all that it sees
+pub told : (c : Configuration) (p : ℕ) (c' : Configuration) (p' : ℕ) (program : List ℕ) → IsWithinLimits c → IsWithinLimits c' → (s : Sight) → IsSight s program
+    → Tells c p c' p' program (first_change s c p c' p')
+told c p c' p' program limits limits' s sight =
+    let Same = SeesTheSame c p c' p' program in
+    let sees-of : Same → SeesTheSameButTime c p c' p' program = λ sees. sees.but_period.but_time in
+    costs-from c p c' p' program limits limits' Same sees-of _ (λ switch call.
+    subst (TellsOf Same) (sym (or-or (differs Change.Period (period c (main_level c p)) (period c' (main_level c' p'))) _ _))
+    (step (TellsOf Same) Change.Period (period c (main_level c p)) (period c' (main_level c' p')) _ (λ differ sees. differ sees.period) (λ window.
+    subst (TellsOf Same) (sym (or-or (differs Change.Budget (budget c p) (budget c' p')) (differs Change.Memory (memory c p) (memory c' p')) _))
+    (step (TellsOf Same) Change.Budget (budget c p) (budget c' p') _ (λ differ sees. differ sees.but_period.budget) (λ part.
+    uses-from c p c' p' program limits limits' Same sees-of s sight switch call (λ sees. record { but_period = record { but_time = sees; budget = part }; period = window }))))))
+
+-- of all but its budget and the length of its windows
+pub told-but-time : (c : Configuration) (p : ℕ) (c' : Configuration) (p' : ℕ) (program : List ℕ) → IsWithinLimits c → IsWithinLimits c' → (s : Sight) → IsSight s program
+    → TellsOf (SeesTheSameButTime c p c' p' program) (but_time_change s c p c' p')
+told-but-time c p c' p' program limits limits' s sight =
+    let Same = SeesTheSameButTime c p c' p' program in
+    costs-from c p c' p' program limits limits' Same (λ sees. sees) _ (λ switch call. uses-from c p c' p' program limits limits' Same (λ sees. sees) s sight switch call (λ sees. sees))
+
+-- whether there is none
+pub none-tells : (Same : Type 0) (change : Option Change) → TellsOf Same change → IsTrue (is_none change) ↔ Same
+none-tells Same None so = (λ is. so, λ is. refl)
+none-tells Same (Some change) differ = (λ is. absurd (let never : false ≡ true = is in cc), λ so. absurd (differ so))

@@ -71,7 +71,16 @@ pub record IsFirst (c : Configuration) (p : ℕ) (c' : Configuration) (p' : ℕ)
   pub is : IsSight sight program
   pub first : change ≡ first_change sight c p c' p'
 
--- what it tells: none that the process sees the same, and any that it doesn't
+-- none tells that it is so, any that it isn't
+abbrev pub TellsOf : Type 0 → Option Change → Type 0
+TellsOf Same None = Same
+TellsOf Same (Some change) = ¬ Same
+
+-- what the first change tells: none that the process sees the same, and any that it doesn't
 abbrev pub Tells : Configuration → ℕ → Configuration → ℕ → List ℕ → Option Change → Type 0
-Tells c p c' p' program None = SeesTheSame c p c' p' program
-Tells c p c' p' program (Some change) = ¬ SeesTheSame c p c' p' program
+Tells c p c' p' program change = TellsOf (SeesTheSame c p c' p' program) change
+
+-- the first of all but its budget and the length of its windows
+abbrev pub but_time_change : Sight → Configuration → ℕ → Configuration → ℕ → Option Change
+but_time_change s c p c' p' =
+    option_or (cost_change c c') (option_or (differs Change.Memory (memory c p) (memory c' p')) (use_change s c p c' p'))

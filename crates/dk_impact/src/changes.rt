@@ -1,8 +1,12 @@
 //! The first thing that a process sees change.
-ghost use Rattle.std.specs.Prelude.{◌≡◌};
+ghost use Rattle.std.specs.Prelude.{ℕ, ◌≡◌, ◌↔◌, IsTrue};
+ghost use Rattle.std.specs.Option.{option_or};
+ghost use Rattle.dk_impact.specs.declared.change.Change.{Change};
+ghost use Rattle.dk_impact.specs.Greater.{GivesNoLess};
+ghost use Rattle.dk_impact.specs.Impact.{SeesTheSameButTime};
 ghost use Rattle.dk_config.specs.Checked.{IsWithinLimits};
 ghost use Rattle.dk_config.specs.Windows.{budget, longest_hold, main_level, max_level, memory, period};
-ghost use Rattle.dk_impact.specs.Changes.{IsFirst, IsSight, Tells, cost_change, differs, first_change, level_change, mutex_change, mutexes_change, own_change, row_change, seen, size_change, use_change};
+ghost use Rattle.dk_impact.specs.Changes.{IsFirst, IsSight, Tells, TellsOf, but_time_change, cost_change, differs, first_change, level_change, mutex_change, mutexes_change, own_change, row_change, seen, size_change, use_change};
 
 use crate::{Change, Sight};
 use dk_config::{Config, MAX_MUTEXES};
@@ -10,6 +14,9 @@ use dk_isa::holds_call;
 
 /// The number of the call that makes a thread.
 const CREATE: u8 = 3;
+
+/// The number of the call that reads what is left of the budget.
+const LEFT: u8 = 10;
 
 /// The number of the call that locks a mutex.
 const LOCK: u8 = 5;
@@ -183,6 +190,40 @@ fn any_change(old: &Config, process: u32, new: &Config, same: u32, sight: Sight)
     }
 }
 
+fn memory_and_use_change(
+    old: &Config,
+    process: u32,
+    new: &Config,
+    same: u32,
+    sight: Sight,
+) -> Option<Change>
+    ensures { result ≡ option_or (differs Change.Memory (memory old.now process) (memory new.now same)) (use_change sight old.now process new.now same) }
+{
+    match differs(
+        Change::Memory,
+        memory_of(old, process),
+        memory_of(new, same),
+    ) {
+        Some(change) => Some(change),
+        None => use_change(old, process, new, same, sight),
+    }
+}
+
+fn but_time_change(
+    old: &Config,
+    process: u32,
+    new: &Config,
+    same: u32,
+    sight: Sight,
+) -> Option<Change>
+    ensures { result ≡ but_time_change sight old.now process new.now same }
+{
+    match cost_change(old, new) {
+        Some(change) => Some(change),
+        None => memory_and_use_change(old, process, new, same, sight),
+    }
+}
+
 fn sight_of(program: &[u8]) -> Sight
     ensures { IsSight result program.now }
 {
@@ -196,7 +237,13 @@ fn sight_of(program: &[u8]) -> Sight
 /// has this program in both.
 ///
 /// None: it sees the same. Any: it doesn't.
-pub fn first_change(old: &Config, process: u32, new: &Config, same: u32, program: &[u8]) -> Option<Change>
+pub fn first_change(
+    old: &Config,
+    process: u32,
+    new: &Config,
+    same: u32,
+    program: &[u8],
+) -> Option<Change>
     requires old_limits { IsWithinLimits old.now }
     requires new_limits { IsWithinLimits new.now }
     ensures first { IsFirst old.now process new.now same program.now result }
@@ -204,4 +251,40 @@ pub fn first_change(old: &Config, process: u32, new: &Config, same: u32, program
 {
     let sight = sight_of(program);
     any_change(old, process, new, same, sight)
+}
+
+/// Whether nothing is seen to change but the budget and the period, by a process with this program in both.
+fn sees_the_same_but_time(
+    old: &Config,
+    process: u32,
+    new: &Config,
+    same: u32,
+    program: &[u8],
+) -> bool
+    requires old_limits { IsWithinLimits old.now }
+    requires new_limits { IsWithinLimits new.now }
+    ensures { IsTrue result ↔ SeesTheSameButTime old.now process new.now same program.now }
+{
+    let sight = sight_of(program);
+    match but_time_change(old, process, new, same, sight) {
+        Some(_) => false,
+        None => true,
+    }
+}
+
+/// Whether the process, which is the process `same` of the new configuration and has this program in both, is given no less
+/// there: it sees nothing change but its budget and its period, its budget is no smaller, and its program doesn't read what is
+/// left of it.
+///
+/// Then what was seen of its windows holds of them in the new configuration too, where each of them had enough
+/// (`first_windows_with_more_law`).
+pub fn gives_no_less(old: &Config, process: u32, new: &Config, same: u32, program: &[u8]) -> bool
+    requires old_limits { IsWithinLimits old.now }
+    requires new_limits { IsWithinLimits new.now }
+    ensures { IsTrue result ↔ GivesNoLess old.now process new.now same program.now }
+{
+    if holds_call(program, LEFT) || budget_of(old, process) > budget_of(new, same) {
+        return false;
+    }
+    sees_the_same_but_time(old, process, new, same, program)
 }

@@ -12,7 +12,7 @@ mod change;
 mod changes;
 
 pub use change::{Change, Sight};
-pub use changes::first_change;
+pub use changes::{first_change, gives_no_less};
 use dk_alone::{alone_law, first_windows_law, windows_law};
 
 /// With the processor to itself a process that may have neither children nor slack and doesn't read the tick runs the same
