@@ -28,7 +28,7 @@ pub use Rattle.dk_cpu.specs.declared.kernel_call.KernelCall.{KernelCall}
 pub use Rattle.dk_isa.specs.declared.FaultKind.{FaultKind}
 pub use Rattle.dk_isa.specs.declared.Instr.TheVariants.{Addi, Jmp, Ld, Li, Nop, St, Trap}
 pub use Rattle.dk_repeat.specs.Laws.{ProgramsReadNoTick, RunsRepeat}
-pub use Rattle.dk_repeat.specs.Repeat.{ReadsNoTickNext, RunStandsAgain, Standing, WindowsBegin, entry_at, keeps_threads, newest, standing}
+pub use Rattle.dk_repeat.specs.Repeat.{ReadsNoTickNext, RunStandsAgain, RunStandsAlike, Standing, WindowsBegin, entry_at, keeps_threads, newest, standing}
 pub use Rattle.dk_trace.proofs.Charged.{family-charged, same-job}
 pub use Rattle.dk_trace.proofs.Events.{new-row}
 pub use Rattle.dk_trace.proofs.Families.{children, dvd-start}

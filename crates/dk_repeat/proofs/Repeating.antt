@@ -1,7 +1,7 @@
 -- A run that stands as it stood before goes on as it did.
-use Rattle.dk_repeat.proofs.Names.{ℕ, zero, suc, ◌≡◌, ◌+◌, ◌-◌, ◌*◌, ◌<◌, inl, inr, true, false, List, [], ◌∷◌, ◌++◌, length, Option, Some, None, refl, sym, ap, ◌∙◌, subst, arith, slice_index_or, option_map_or, cases_lt, cases_Bool, eqb_tells, slice_get_past, LevelRow, Configuration, period, IsChecked, IsAccepted, ThreadId, Choice, Entry, family, held_by, is_holding, is_holder, chosen, Work, Audited, label_of, Always, ChoosesWithCause, BeginsFree, ChosenHolds, ThreadsPlaced, AskersThere, HoldersKnown, RunsAreAudited, TicksAreCounted, Image, World, executes, tick_in, thread_turn, quiet_entry, body_step, quiet_step, step, world, trace, ReadsNoTick, no-tick, turn-code, holds-none, WindowsBegin, ReadsNoTickNext, RunStandsAgain, newest, entry_at}
+use Rattle.dk_repeat.proofs.Names.{ℕ, zero, suc, ◌≡◌, ◌+◌, ◌-◌, ◌*◌, ◌<◌, inl, inr, true, false, List, [], ◌∷◌, ◌++◌, length, Option, Some, None, refl, sym, ap, ◌∙◌, subst, arith, slice_index_or, option_map_or, cases_lt, cases_Bool, eqb_tells, slice_get_past, LevelRow, Configuration, period, IsChecked, IsAccepted, ThreadId, Choice, Entry, family, held_by, is_holding, is_holder, chosen, Work, Audited, label_of, Always, ChoosesWithCause, BeginsFree, ChosenHolds, ThreadsPlaced, AskersThere, HoldersKnown, RunsAreAudited, TicksAreCounted, Image, World, executes, tick_in, thread_turn, quiet_entry, body_step, quiet_step, step, world, trace, ReadsNoTick, no-tick, turn-code, holds-none, WindowsBegin, ReadsNoTickNext, RunStandsAgain, RunStandsAlike, Standing, standing, newest, entry_at, Bool, Thread, ◌%◌, add-mod-mod, ltb, is_some, map}
 use Rattle.std.specs.Prelude.{take}
-use Rattle.dk_repeat.proofs.Since.{LevelsBegin}
+use Rattle.dk_repeat.proofs.Since.{LevelsBegin, Since, Stop, row_since, stop_since}
 use Rattle.dk_repeat.proofs.Pairs.{Pairs}
 use Rattle.dk_repeat.proofs.Twins.{Twin}
 use Rattle.dk_repeat.proofs.Standing.{first-twins, twins-go-on}
@@ -65,6 +65,44 @@ world-later c programs s zero t is = let same : t ≡ s = omega (arith, is) in a
 world-later c programs s (suc n) t is =
     let same : t ≡ suc (n + s) = omega (arith, is) in
     ap (world c programs) same ∙ ap (step c) (world-later c programs s n (n + s) refl)
+
+mod-sum : (m n d : ℕ) → m % d ≡ 0 → n % d ≡ 0 → (m + n) % d ≡ 0
+mod-sum m n d one other = sym (add-mod-mod m n d) ∙ ap (λ k. (m + k) % d) other ∙ ap (λ k. k % d) (omega arith) ∙ one
+
+mod-rest : (m n d : ℕ) → m % d ≡ 0 → (m + n) % d ≡ 0 → n % d ≡ 0
+mod-rest m n d one both =
+    ap (λ k. k % d) (omega arith) ∙ sym (ap (λ k. (n + k) % d) one) ∙ add-mod-mod n m d ∙ ap (λ k. k % d) (omega arith) ∙ both
+
+-- twins stand alike
+abbrev was-stopped : Stop → Bool
+was-stopped Stop.never = false
+was-stopped Stop.before = true
+was-stopped (Stop.since n) = true
+
+stop-known : (A : ℕ) (o : Option ℕ) → is_some o ≡ was-stopped (stop_since A o)
+stop-known A None = refl
+stop-known A (Some t) =
+    elim (cases_Bool (ltb t A)) [
+      | inl early ↦ rw early refl
+      | inr late ↦ rw late refl
+    ]
+
+abbrev since-standing : Since → Standing
+since-standing r = record { id = r.id; level = r.level; quota = r.quota; stopped = was-stopped r.stop }
+
+abbrev standing-with : Thread → Bool → Standing
+standing-with x b = record { id = x.id; level = x.level; quota = x.quota; stopped = b }
+
+standing-since : (A : ℕ) (x : Thread) → standing x ≡ since-standing (row_since A x)
+standing-since A x = ap (λ b. standing-with x b) (stop-known A x.stop)
+
+twins-stand : (c : Configuration) (A B : ℕ) (xs ys : List Thread) → Pairs (Twin c A B) xs ys → map standing xs ≡ map standing ys
+twins-stand c A B [] [] pairs = refl
+twins-stand c A B [] (y ∷ ys) pairs = absurd pairs
+twins-stand c A B (x ∷ xs) [] pairs = absurd pairs
+twins-stand c A B (x ∷ xs) (y ∷ ys) pairs =
+    ap (λ z. z ∷ map standing xs) (standing-since A x ∙ ap since-standing pairs.0.same ∙ sym (standing-since B y))
+    ∙ ap (λ zs. standing y ∷ zs) (twins-stand c A B xs ys pairs.1)
 
 module _ (c : Configuration) (programs : List (List ℕ)) (s k : ℕ) (checked : IsChecked c) (accepted : IsAccepted c)
     (audits : RunsAreAudited) (counts : TicksAreCounted) (causes : Always ChoosesWithCause) (works : Always ChosenHolds) (placed : Always ThreadsPlaced)
@@ -202,6 +240,34 @@ module _ (c : Configuration) (programs : List (List ℕ)) (s k : ℕ) (checked :
       let at : world c programs (s + n) ≡ world_of (al.new ++ one) al.f = world-later c programs s n (s + n) (omega arith) ∙ al.first in
       let at' : world c programs (s + k + n) ≡ world_of (al.new ++ other) al.g = world-later c programs (s + k) n (s + k + n) (omega arith) ∙ al.second in
       ap (λ (w : World). (w.images p).memory) at' ∙ sym (al.images p here).memory ∙ sym (ap (λ (w : World). (w.images p).memory) at)
+
+  -- the two worlds n ticks later
+  alike-later : (n : ℕ) → RunStandsAlike c (world c programs (s + n)) (world c programs (s + k + n))
+  alike-later n =
+      let al = all-along n in
+      let at : world c programs (s + n) ≡ world_of (al.new ++ one) al.f = world-later c programs s n (s + n) (omega arith) ∙ al.first in
+      let at' : world c programs (s + k + n) ≡ world_of (al.new ++ other) al.g = world-later c programs (s + k) n (s + k + n) (omega arith) ∙ al.second in
+      let alike : RunStandsAlike c (world_of (al.new ++ one) al.f) (world_of (al.new ++ other) al.g) =
+      record {
+        threads = λ p here. twins-stand c (length one) (length other) (family c p (al.new ++ one)) (family c p (al.new ++ other)) (rows-after al.new (audited-along n al) p here);
+        memory = λ p here. (al.images p here).memory;
+        contexts = λ p x here has running. (al.images p here).contexts x has running;
+      } in
+      subst (λ (w : World). RunStandsAlike c w (world c programs (s + k + n))) (sym at)
+      (subst (λ (v : World). RunStandsAlike c (world_of (al.new ++ one) al.f) v) (sym at') alike)
+
+  pub stands-on : (n : ℕ) → WindowsBegin c (s + n) → RunStandsAgain c programs (s + n) k
+  stands-on n begins =
+      let order : s + k + n ≡ s + n + k = omega arith in
+      record {
+        later = again.later;
+        begins = begins;
+        begins_later = λ i known. mod-sum (s + n) k (period c i) (begins i known) (mod-rest s k (period c i) (again.begins i known) (again.begins_later i known));
+        alike = subst (λ t. RunStandsAlike c (world c programs (s + n)) (world c programs t)) order (alike-later n);
+        clock = λ m less.
+            let is : world c programs (s + n + m) ≡ later c (n + m) (world c programs s) = world-later c programs s (n + m) (s + n + m) (omega arith) in
+            subst (ReadsNoTickNext c) (sym is) (all-still (n + m));
+      }
 
 -- cycle by cycle
 pub for-ever : (c : Configuration) (programs : List (List ℕ)) (s k : ℕ) → ((n : ℕ) → entry_at c programs (s + k + n) ≡ entry_at c programs (s + n))

@@ -6,7 +6,7 @@ use Rattle.dk_config.specs.Checked.{IsChecked, IsAccepted}
 use Rattle.dk_trace.specs.declared.Entry.{Entry}
 use Rattle.dk_world.specs.Run.{world, trace}
 use Rattle.dk_alone.specs.Alone.{ReadsNoTick}
-use Rattle.dk_repeat.specs.Repeat.{ReadsNoTickNext, RunStandsAgain, ThreadsStandAlike, entry_at, keeps_threads}
+use Rattle.dk_repeat.specs.Repeat.{ReadsNoTickNext, RunStandsAgain, ThreadsStandAlike, WindowsBegin, entry_at, keeps_threads}
 
 -- a run that stands at tick s + k as it stood at tick s goes on as it went on from there: each tick has the entry of the
 -- tick k ticks before it
@@ -34,6 +34,12 @@ MemoriesRepeat =
     (c : Configuration) (programs : List (List ℕ)) (s k n p : ℕ) → IsChecked c → IsAccepted c
     → RunStandsAgain c programs s k → p < length c.processes
     → ((world c programs (s + k + n)).images p).memory ≡ ((world c programs (s + n)).images p).memory
+
+-- and it stands again, as many ticks later, at each tick from there on at which all windows begin
+abbrev pub RunsStandOn : Type 0
+RunsStandOn =
+    (c : Configuration) (programs : List (List ℕ)) (s k n : ℕ) → IsChecked c → IsAccepted c
+    → RunStandsAgain c programs s k → WindowsBegin c (s + n) → RunStandsAgain c programs (s + n) k
 
 -- where no program holds the call that reads the tick, no tick is read
 abbrev pub ProgramsReadNoTick : Type 0

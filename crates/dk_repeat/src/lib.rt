@@ -8,7 +8,7 @@
 //! project's own.
 #![tactic(auto)]
 
-ghost use Rattle.dk_repeat.specs.Laws.{EntriesKeepThreads, MemoriesRepeat, ProgramsReadNoTick, RunsRepeat, RunsRepeatForEver, SpansRepeat};
+ghost use Rattle.dk_repeat.specs.Laws.{EntriesKeepThreads, MemoriesRepeat, ProgramsReadNoTick, RunsRepeat, RunsRepeatForEver, RunsStandOn, SpansRepeat};
 ghost use Rattle.dk_repeat.specs.Reading.{EntriesShowReads};
 
 use dk_bound::{begin_law, cause_law, chosen_law, known_holders_law, standing_law, threads_law};
@@ -45,6 +45,20 @@ pub fn span_law()
 /// And its memories.
 pub fn memory_law()
     ensures { MemoriesRepeat }
+{
+    audited_law();
+    length_law();
+    cause_law();
+    chosen_law();
+    threads_law();
+    standing_law();
+    begin_law();
+    known_holders_law();
+}
+
+/// And it stands again, as many ticks later, at each tick from there on at which all windows begin.
+pub fn stand_on_law()
+    ensures { RunsStandOn }
 {
     audited_law();
     length_law();
