@@ -1,6 +1,9 @@
 pub mod Names
 pub mod Serials
 pub mod Stands
+pub mod Sought
+pub mod Finding
+pub mod FindingRun
 pub mod Telling
 pub mod Seen
 pub mod Starts

@@ -5,7 +5,7 @@ use Rattle.dk_cycle.proofs.Stands.{begins-all, entry-there}
 -- ---- a run that stands again makes and stops no thread any more
 
 -- from the start of a cycle on in which none is made or stopped
-keeps-later : (c : Configuration) (programs : List (List ℕ)) (s k n : ℕ) → RunsRepeatForEver → IsChecked c → IsAccepted c → RunStandsAgain c programs s k
+pub keeps-later : (c : Configuration) (programs : List (List ℕ)) (s k n : ℕ) → RunsRepeatForEver → IsChecked c → IsAccepted c → RunStandsAgain c programs s k
     → KeepsThreadsFrom c programs s k → s ≤ n → KeepsThreadsIn c programs n
 keeps-later c programs s k n law checked accepted again keeps low = λ e is.
     let q = (n - s) / k in
@@ -69,7 +69,7 @@ start-quiet c programs tick s e reader keeping showing checked accepted is adds 
       loud = λ t less. let l = is.loud t less in let high = l.2 in (l.0, l.1, omega (arith, high), l.3);
     }
 
-is-loud : (c : Configuration) (programs : List (List ℕ)) (tick : ℕ) (e : Entry) (reader : Option ℕ) → trace c programs (tick + 1) ≡ e ∷ trace c programs tick
+pub is-loud : (c : Configuration) (programs : List (List ℕ)) (tick : ℕ) (e : Entry) (reader : Option ℕ) → trace c programs (tick + 1) ≡ e ∷ trace c programs tick
     → IsReader c programs tick e reader → (GoesOn true e reader → ⊥) → IsLoud c programs tick
 is-loud c programs tick e None adds here not-quiet = λ keeps clock.
     not-quiet (record { still = refl; keeps = keeps e (entry-there c programs tick e adds); none = refl })

@@ -2,6 +2,7 @@ pub mod Keeping
 pub mod Own
 pub mod Run
 pub mod Start
+pub mod Seeking
 pub mod Repeating
 pub mod Made
 pub mod Told

@@ -57,11 +57,10 @@ pub record IsSameProcess (one other : ProcessState) : Type 0 where
   pub memory : one.words.items ≡ other.words.items
   pub threads : AreAllThreads one.threads.items other.threads.items
 
--- one with this memory, and this context of its first thread, isn't the same
+-- it had another memory, or its main, which ran on, another context
 abbrev pub IsOtherProcess : ProcessState → Context → List ℕ → Type 0
 IsOtherProcess s context words =
-    (now : ProcessState) (main : ThreadState) → now.words.items ≡ words → slice_get now.threads.items 0 ≡ Some main
-    → main.context ≡ context → IsSameProcess s now → ⊥
+    s.words.items ≡ words → ((main : ThreadState) → slice_get s.threads.items 0 ≡ Some main → main.serial ≡ 0 → main.context ≡ context) → ⊥
 
 abbrev pub AreSame : List ProcessState → List ProcessState → ℕ → Type 0
 AreSame one other many =

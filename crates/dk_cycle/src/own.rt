@@ -1,12 +1,14 @@
 //! The search for a cycle of one process by itself.
-ghost use Rattle.std.specs.Prelude.{ℕ, List, [], ◌≡◌, ◌<◌, ◌≤◌, ◌%◌, length, slice_index_or, true, false, IfSome, is_some};
+ghost use Rattle.std.specs.Prelude.{ℕ, List, [], ◌≡◌, ◌-◌, ◌<◌, ◌≤◌, ◌%◌, length, slice_index_or, true, false, IfSome, is_some};
 ghost use Rattle.dk_config.specs.Configuration.{Configuration};
 ghost use Rattle.dk_config.specs.Checked.{IsChecked};
 ghost use Rattle.dk_config.specs.Windows.{main_level, period};
 ghost use Rattle.dk_cycle.specs.Own.{IsOwnSearch, IsSameMain};
+ghost use Rattle.dk_cycle.specs.Seeking.{HasLooked};
 
 use crate::Cycle;
 use crate::keeping::{Keeping, keeping_of};
+use dk_alone::{again_law, own_stand_law};
 use dk_config::Config;
 use dk_cpu::Context;
 
@@ -69,9 +71,10 @@ fn same_main(one: &MainState, other: &MainState) -> bool
 }
 
 impl OwnSearch {
-    ghost use Rattle.std.specs.Prelude.{[], slice_index_or, ℕ, List, ◌%◌};
+    ghost use Rattle.std.specs.Prelude.{[], slice_index_or, ℕ, List, ◌-◌, ◌%◌};
     ghost use Rattle.dk_config.specs.Configuration.{Configuration};
     ghost use Rattle.dk_cycle.specs.Own.{Finds, IsBack, IsFound, IsGone, IsMainState, IsOwnSearch, Looks};
+    ghost use Rattle.dk_cycle.specs.Seeking.{HasLooked, IsDone, IsOld, IsYoung, LooksOn};
 
     /// Before the first tick, of the process with this program.
     pub fn new(config: &Config, process: u8, program: &[u8]) -> OwnSearch
@@ -79,6 +82,7 @@ impl OwnSearch {
         requires known { process < length config.now.processes }
         ensures own { (programs : List (List ℕ)) → slice_index_or programs process [] ≡ program.now
             → IsOwnSearch config.now programs 0 result }
+        ensures looked { (programs : List (List ℕ)) → HasLooked config.now programs 0 result }
         ensures process { result.process ≡ process }
     {
         OwnSearch {
@@ -91,7 +95,9 @@ impl OwnSearch {
     }
 
     /// Whether nothing is looked for any more: a cycle was found, or none would tell of other runs.
-    pub fn is_done(&self) -> bool {
+    pub fn is_done(&self) -> bool
+        ensures { result ≡ true → IsDone self.now }
+    {
         !matches!(self.keeping, Keeping::Keeps) || self.cycle.is_some()
     }
 
@@ -100,6 +106,7 @@ impl OwnSearch {
         requires { 0 < self.now.period }
         ensures some { 1 ≤ result }
         ensures begins { result ≡ self.now.period → tick % self.now.period ≡ 0 }
+        ensures is { result ≡ self.now.period - tick % self.now.period }
     {
         self.period - tick % self.period
     }
@@ -137,7 +144,10 @@ impl OwnSearch {
     }
 
     /// Whether what is kept is as old as the run was then, so that the search goes on from now (after Brent 1980).
-    pub fn is_due(&self, tick: u32) -> bool {
+    pub fn is_due(&self, tick: u32) -> bool
+        ensures old { result ≡ true → IsOld self.now.saved tick }
+        ensures young { result ≡ false → IsYoung self.now.saved tick }
+    {
         match &self.saved {
             None => true,
             Some(saved) => saved.tick <= tick / 2,
@@ -148,8 +158,11 @@ impl OwnSearch {
     pub fn look(&mut self, now: MainState)
         ensures own { Looks self.old now self.new }
         ensures finds { Finds self.old now self.new }
+        ensures looked { LooksOn self.old now self.new }
         ensures process { self.new.process ≡ self.old.process }
     {
+        again_law();
+        own_stand_law();
         if let Some(cycle) = self.ends(&now) {
             self.cycle = Some(cycle);
             return;

@@ -1,5 +1,5 @@
 //! The search for a cycle of a whole run.
-ghost use Rattle.std.specs.Prelude.{ℕ, List, ◌≡◌, ◌<◌, ◌≤◌, ◌%◌, length, true, false, option_map, is_some, IfSome};
+ghost use Rattle.std.specs.Prelude.{ℕ, List, ◌≡◌, ◌-◌, ◌<◌, ◌≤◌, ◌%◌, length, true, false, option_map, is_some, IfSome};
 ghost use Rattle.std.specs.Option.{option_map_or};
 ghost use Rattle.dk_config.specs.Checked.{IsChecked, IsWithinLimits};
 ghost use Rattle.dk_repeat.specs.Repeat.{keeps_threads};
@@ -11,7 +11,7 @@ use crate::made::{Made, last_made};
 use crate::own::{period_of, same_context};
 use dk_config::Config;
 use dk_cpu::Context;
-use dk_repeat::{forever_law, kept_law, reads_law};
+use dk_repeat::{forever_law, kept_law, reads_law, stand_on_law};
 use dk_trace::{Entry, Event};
 
 /// A thread, by its serial, and its context.
@@ -86,7 +86,7 @@ fn same_process(one: &ProcessState, other: &ProcessState) -> bool
 impl ProcessState {
     ghost use Rattle.dk_cycle.specs.Run.{IsOtherProcess};
 
-    /// Whether the process had this memory, and its first thread this context.
+    /// Whether the process had this memory, and its main, where it ran on, this context.
     pub fn had(&self, context: &Context, words: &[u32]) -> bool
         ensures { result ≡ false → IsOtherProcess self.now context.now words.now }
     {
@@ -94,7 +94,7 @@ impl ProcessState {
             return false;
         }
         match self.threads.get(0) {
-            Some(main) => same_context(&main.context, context),
+            Some(main) => main.serial != 0 || same_context(&main.context, context),
             None => true,
         }
     }
@@ -164,6 +164,7 @@ fn longest_of(config: &Config) -> u32
 impl RunSearch {
     ghost use Rattle.dk_config.specs.Checked.{IsWithinLimits};
     ghost use Rattle.dk_cycle.specs.Run.{FindsRun, Follows, IsBackRun, IsFoundRun, IsRunSearch, LooksAtRun};
+    ghost use Rattle.dk_cycle.specs.Seeking.{FollowsOn, HasLookedAtRun, IsOldRun, IsYoungRun, LooksOnRun};
     ghost use Rattle.dk_cycle.specs.Start.{StartsAt};
 
     /// Before the first tick.
@@ -171,6 +172,7 @@ impl RunSearch {
         requires checked { IsChecked config.now }
         requires limits { IsWithinLimits config.now }
         ensures run { (programs : List (List ℕ)) → IsRunSearch config.now programs 0 result }
+        ensures looked { (programs : List (List ℕ)) → HasLookedAtRun config.now programs 0 0 result }
     {
         RunSearch {
             longest: longest_of(config),
@@ -194,6 +196,7 @@ impl RunSearch {
         requires { 0 < self.now.longest }
         ensures some { 1 ≤ result }
         ensures begins { result ≡ self.now.longest → tick % self.now.longest ≡ 0 }
+        ensures is { result ≡ self.now.longest - tick % self.now.longest }
     {
         self.longest - tick % self.longest
     }
@@ -201,7 +204,8 @@ impl RunSearch {
     /// Looks at the entry of the next tick, in which a thread of this process read the tick, or nobody did.
     #[inline(always)]
     pub fn follow(&mut self, tick: u32, entry: &Entry, reader: Option<u8>)
-        ensures { Follows self.old tick entry.now reader self.new }
+        ensures run { Follows self.old tick entry.now reader self.new }
+        ensures looked { FollowsOn self.old tick entry.now reader self.new }
     {
         kept_law();
         reads_law();
@@ -237,7 +241,10 @@ impl RunSearch {
     /// Whether what is kept is as old as the run was then, so that the search goes on from now (after Brent 1980). Where a
     /// thread was made or stopped since, or the tick was read, it does so an eighth of the run later: so a run in which
     /// that goes on isn't kept each time.
-    pub fn is_due(&self, tick: u32) -> bool {
+    pub fn is_due(&self, tick: u32) -> bool
+        ensures old { result ≡ true → self.now.kept ≡ true → IsOldRun self.now.saved tick }
+        ensures young { result ≡ false → IsYoungRun self.now.saved tick }
+    {
         match &self.saved {
             None => true,
             Some(saved) => {
@@ -251,7 +258,10 @@ impl RunSearch {
     pub fn look(&mut self, now: RunState)
         ensures run { LooksAtRun self.old now self.new }
         ensures finds { FindsRun self.old now self.new }
+        ensures looked { LooksOnRun self.old now self.new }
     {
+        forever_law();
+        stand_on_law();
         if let Some(cycle) = self.ends(&now) {
             self.cycle = Some(cycle);
             return;

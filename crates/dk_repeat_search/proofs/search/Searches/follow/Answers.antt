@@ -10,4 +10,4 @@ pub returns-clause-is : goal.returns-clause-is
 returns-clause-is g c =
     searching-next c.args.kernel.now c.tick-entry.new.self c.args.self.now c.tick-entry.result c.reader_of-reader.result c.follow.new.self
     c.tick-entry.ensures.next c.tick-entry.ensures.entry c.dispatcher.ensures.ruled.checked c.dispatcher.ensures.ruled.accepted c.requires.is c.reader_of-reader.ensures
-    (subst (λ n. Follows c.args.self.now.run n c.tick-entry.result c.reader_of-reader.result c.follow.new.self) c.now-tick.ensures.ticks c.follow.ensures)
+    (subst (λ n. Follows c.args.self.now.run n c.tick-entry.result c.reader_of-reader.result c.follow.new.self) c.now-tick.ensures.ticks c.follow.ensures.run)
