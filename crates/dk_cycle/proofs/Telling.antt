@@ -44,7 +44,6 @@ made-behind c programs tick None (Some m) audited checked accepted is = only-beh
 
 pub run-is-told : RunsAreAudited → RunsRepeatForEver → RunIsTold
 run-is-told audited law c programs tick search checked accepted is first = record {
-  ticks = tick;
   cycle = run-cycle c programs search.cycle law checked accepted is.cycle first;
   reader = read-last c programs tick search.cycle search.reader is.reader;
   made = made-last c programs tick search.cycle search.made is.made;

@@ -47,8 +47,7 @@ pub record IsRunCycle (c : Configuration) (programs : List (List ℕ)) (y : Cycl
 -- The run repeats for ever. Where that isn't told, a thread of the process that is named read the tick, last of all that did in
 -- so many ticks; or nobody did in them. And then the child that is named was made in them, last of all, and from no tick up to
 -- that the run repeats; or none was made in them.
-pub record IsRunTold (c : Configuration) (programs : List (List ℕ)) (told : RunTold) : Type 0 where
-  pub ticks : ℕ
+pub record IsRunTold (c : Configuration) (programs : List (List ℕ)) (ticks : ℕ) (told : RunTold) : Type 0 where
   pub cycle : IfSome told.cycle (IsRunCycle c programs)
   pub reader : told.cycle ≡ None → IsLastReader c programs ticks told.reader
   pub made : told.cycle ≡ None → IsLastMade c programs ticks told.made
@@ -69,7 +68,7 @@ pub record IsOwnTold (c : Configuration) (programs : List (List ℕ)) (told : Ow
 
 abbrev pub RunIsTold : Type 0
 RunIsTold = (c : Configuration) (programs : List (List ℕ)) (tick : ℕ) (search : RunSearch) → IsChecked c → IsAccepted c → IsRunSearch c programs tick search
-    → IfSome search.cycle (StartsFirst c programs) → IsRunTold c programs (run_told search)
+    → IfSome search.cycle (StartsFirst c programs) → IsRunTold c programs tick (run_told search)
 
 abbrev pub OwnIsTold : Type 0
 OwnIsTold = (c : Configuration) (programs : List (List ℕ)) (tick : ℕ) (search : OwnSearch) → IsChecked c → IsAccepted c → IsOwnSearch c programs tick search

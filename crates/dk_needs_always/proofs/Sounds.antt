@@ -109,8 +109,8 @@ repeats-met w (Some p) cycle t is same met = absurd (let bad : Verdict.Open ≡ 
 repeats-met w None None t is same met = absurd (let bad : Verdict.Open ≡ Verdict.Met = met in cc)
 repeats-met w None (Some y) t is same met = (y.start, y.length, same, is.stands.later, is.repeats)
 
-pub sound : (w : Workload) (a : Always) → IsAlways w a → IsSound w a
-sound w a is =
+pub sound : (w : Workload) (ticks : ℕ) (a : Always) → IsAlways w ticks a → IsSound w a
+sound w ticks a is =
     record {
       waits = λ needs row p asks met.
           waits-met w a.waits.items p (slice_get a.waits.items p) is.waits refl

@@ -1,4 +1,5 @@
 //! What is told of needs of all ticks.
+ghost use Rattle.std.specs.Prelude.{ℕ};
 ghost use Rattle.dk_loader.specs.Workload.{Workload};
 ghost use Rattle.dk_repeat_search.specs.Always.{IsAlways};
 ghost use Rattle.dk_repeat_search.specs.declared.always.Always.{Always};
@@ -9,5 +10,5 @@ ghost use Rattle.dk_needs_always.specs.Sound.{IsSound};
 /// waits in the window that begins at the tick that is told. A row that asks whether the run repeats is told met only
 /// where the run of these programs does, for ever, from the tick on and after so many ticks as are told.
 pub fn always_law()
-    ensures { (w : Workload) (a : Always) → IsAlways w a → IsSound w a }
+    ensures { (w : Workload) (ticks : ℕ) (a : Always) → IsAlways w ticks a → IsSound w a }
 {}

@@ -45,19 +45,21 @@ own-found c programs f told-law law checked accepted one =
 -- what was found is told
 pub repeats-text : (c : Configuration) (programs : List (List ℕ)) (ticks : ℕ) (run : RunSearch) (counts : Option CycleCounts) (own : List OwnFound) (text : List ℕ)
     → RunIsTold → OwnIsTold → CyclesAreAlike → OwnCyclesAreAlike → IsChecked c → IsAccepted c → AreOf c programs run counts own
-    → text ≡ found_text (names_of c) ticks run counts own → (r : IsRepeats c programs ticks text) × (r.run ≡ run_told run)
+    → text ≡ found_text (names_of c) ticks run counts own → (r : IsRepeats c programs ticks text) × (r.run ≡ run_told run) × (r.own ≡ own)
 repeats-text c programs ticks run counts own text run-law own-law cycles-law own-cycles-law checked accepted of is =
     let told = run-law c programs of.tick run checked accepted of.run_is of.first in (
       record {
         run = run_told run;
         counts = counts;
         own = own;
+        searched = of.tick;
         run_is = told;
         counts_are = each-counted c programs run.cycle counts cycles-law told.cycle of.counts_are;
         own_are = λ k d less. own-found c programs (slice_index_or own k d) own-law own-cycles-law checked accepted (of.own_are k d less);
         processes = of.processes;
         text_is = is;
       },
+      refl,
       refl,
     )
 

@@ -141,7 +141,8 @@ pub record IsRepeats (c : Configuration) (programs : List (List ℕ)) (ticks : �
   pub run : RunTold
   pub counts : Option CycleCounts
   pub own : List OwnFound
-  pub run_is : IsRunTold c programs run
+  pub searched : ℕ
+  pub run_is : IsRunTold c programs searched run
   pub counts_are : IsEachCounted c programs run.cycle counts
   pub own_are : All (IsOwnFound c programs) own
   pub processes : map process_of own ≡ range_with_len 0 (length c.processes)

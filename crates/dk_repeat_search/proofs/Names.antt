@@ -5,6 +5,7 @@ pub use Rattle.dk_config.specs.Checked.{IsAccepted, IsChecked}
 pub use Rattle.dk_config.specs.Configuration.{Configuration}
 pub use Rattle.dk_config.specs.declared.TheConstants.{MAX_RUN_TICKS, MAX_THREADS}
 pub use Rattle.dk_cpu.specs.declared.Context.{Context}
+pub use Rattle.dk_cycle.specs.Made.{IsLastMade}
 pub use Rattle.dk_cycle.specs.Own.{IsMainState, IsOwnSearch}
 pub use Rattle.dk_cycle.specs.Run.{AreProcessStates, Follows, IsLastReader, IsProcessState, IsReader, IsRunSearch, IsRunState}
 pub use Rattle.dk_cycle.specs.Start.{with_start}

@@ -1,5 +1,5 @@
 -- What is told of each process's windows.
-use Rattle.dk_repeat_search.proofs.Names.{ℕ, zero, suc, ◌≡◌, ◌+◌, ◌<◌, ◌≤◌, ◌≢◌, ◌∙◌, ◌∷◌, ◌++◌, inl, inr, List, [], length, get_or, set, map, false, None, refl, sym, ap, subst, arith, slice_index_or, range_with_len, cases_eq, get_or-set_other, get_or-set_same, get_or_append_left, length-map, length-set, length_push, get_or-range_with_len, length-range_with_len, get_or_from_slice_get, slice_get_within, get_or-append_seam, Configuration, IsChecked, IsAccepted, Workload, IsLoaded, Running, OwnSearch, RunTold, IsRunTold, RunIsTold, run_told, Waits, WaitWatch, IsWaits, WaitsAreTold, waits_told, Searches, AreOwn, HasSettled, loaded_of, process_of, AreTold, AreWaits, AreWatches, watched_process}
+use Rattle.dk_repeat_search.proofs.Names.{ℕ, zero, suc, ◌≡◌, ◌+◌, ◌<◌, ◌≤◌, ◌≢◌, ◌∙◌, ◌∷◌, ◌++◌, inl, inr, List, [], length, get_or, set, map, false, None, refl, sym, ap, subst, arith, slice_index_or, range_with_len, cases_eq, get_or-set_other, get_or-set_same, get_or_append_left, length-map, length-set, length_push, get_or-range_with_len, length-range_with_len, get_or_from_slice_get, slice_get_within, get_or-append_seam, Configuration, IsChecked, IsAccepted, Workload, IsLoaded, Running, OwnSearch, RunTold, IsLastMade, IsLastReader, IsRunTold, RunIsTold, run_told, Waits, WaitWatch, IsWaits, WaitsAreTold, waits_told, Searches, AreOwn, HasSettled, loaded_of, process_of, AreTold, AreWaits, AreWatches, watched_process}
 use Rattle.dk_cycle.specs.declared.keeping.Keeping.TheVariants as kind
 use Rattle.dk_repeat_search.proofs.Places.{many-own}
 
@@ -65,18 +65,31 @@ are-waits law c programs tick own watches waits checked accepted are seen told =
     wide : length watches ≡ length c.processes
     wide = many-watches c programs tick watches seen
 
+-- what is told of a run holds of all ticks that were to be searched
+told-in : (c : Configuration) (programs : List (List ℕ)) (n ticks : ℕ) (told : RunTold) → IsRunTold c programs n told → (told.cycle ≡ None → n ≡ ticks)
+    → IsRunTold c programs ticks told
+told-in c programs n ticks told is all = record {
+  cycle = is.cycle;
+  reader = λ none. subst (λ m. IsLastReader c programs m told.reader) (all none) (is.reader none);
+  made = λ none. subst (λ m. IsLastMade c programs m told.made) (all none) (is.made none);
+  behind = is.behind;
+  alone = is.alone;
+}
+
 -- what a kernel's searches and watches tell of its run
-pub always-of : (w : Workload) (k : Running) (watches : List WaitWatch) (before after : Searches) (run : RunTold) (waits : List Waits) → RunIsTold → WaitsAreTold → loaded_of k ≡ w
-    → IsLoaded w → HasSettled k before after → AreWatches k.config k.programs k.ticks watches → run ≡ run_told after.run
-    → AreTold after.own.items watches (length after.own.items) waits → IsRunTold w.config w.programs run × AreWaits w.config w.programs waits
-always-of w k watches before after run waits run-law waits-law of loaded settled seen run-is told =
+pub always-of : (w : Workload) (ticks : ℕ) (k : Running) (watches : List WaitWatch) (before after : Searches) (run : RunTold) (waits : List Waits) → RunIsTold → WaitsAreTold → loaded_of k ≡ w
+    → IsLoaded w → HasSettled k before after → (before.run.cycle ≡ None → k.ticks ≡ ticks) → AreWatches k.config k.programs k.ticks watches → run ≡ run_told after.run
+    → AreTold after.own.items watches (length after.own.items) waits → IsRunTold w.config w.programs ticks run × AreWaits w.config w.programs waits
+always-of w ticks k watches before after run waits run-law waits-law of loaded settled all seen run-is told =
     let checked : IsChecked k.config = subst (λ (v : Workload). IsChecked v.config) (sym of) loaded.checked in
     let accepted : IsAccepted k.config = subst (λ (v : Workload). IsAccepted v.config) (sym of) loaded.accepted in
-    let of-run : IsRunTold k.config k.programs run =
-    subst (IsRunTold k.config k.programs) (sym run-is) (run-law k.config k.programs k.ticks after.run checked accepted settled.is.run settled.first) in
+    let of-run : IsRunTold k.config k.programs ticks run =
+    subst (IsRunTold k.config k.programs ticks) (sym run-is)
+    (told-in k.config k.programs k.ticks ticks (run_told after.run) (run-law k.config k.programs k.ticks after.run checked accepted settled.is.run settled.first)
+    (λ none. all (settled.had none))) in
     let of-waits : AreWaits k.config k.programs waits =
     are-waits waits-law k.config k.programs k.ticks after.own.items watches waits checked accepted settled.is.own seen told in (
-      subst (λ (v : Workload). IsRunTold v.config v.programs run) of of-run,
+      subst (λ (v : Workload). IsRunTold v.config v.programs ticks run) of of-run,
       subst (λ (v : Workload). AreWaits v.config v.programs waits) of of-waits,
     )
 

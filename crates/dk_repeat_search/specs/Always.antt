@@ -36,7 +36,8 @@ pub record AreWaits (c : Configuration) (programs : List (List ℕ)) (waits : Li
   pub many : length waits ≡ length c.processes
   pub each : (p : ℕ) (x : Waits) → slice_get waits p ≡ Some x → IsWaits c programs p x
 
--- the cycle of the run, and of each process, in the order of the rows, whether its main waits in each of its windows
-pub record IsAlways (w : Workload) (a : Always) : Type 0 where
-  pub run : IsRunTold w.config w.programs a.run
+-- the cycle of the run, as was found in so many ticks, and of each process, in the order of the rows, whether its main waits in
+-- each of its windows
+pub record IsAlways (w : Workload) (ticks : ℕ) (a : Always) : Type 0 where
+  pub run : IsRunTold w.config w.programs ticks a.run
   pub waits : AreWaits w.config w.programs a.waits.items

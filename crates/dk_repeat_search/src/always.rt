@@ -1,13 +1,15 @@
 //! What is so for ever in a run: whether it repeats, and of each process whether its main waits in each of its windows.
-ghost use Rattle.std.specs.Prelude.{◌≡◌, ◌+◌, ◌<◌, ◌≤◌, length, IfOk, OnOk};
+ghost use Rattle.std.specs.Prelude.{◌≡◌, ◌+◌, ◌<◌, ◌≤◌, length, None, IfOk, OnOk};
 ghost use Rattle.dk_config.specs.declared.TheConstants.{MAX_RUN_TICKS, MAX_TICKS};
 ghost use Rattle.dk_kernel.specs.Booting.{IsLoaded};
 ghost use Rattle.dk_cycle_start.specs.Passes.{IsPass};
 ghost use Rattle.dk_repeat_search.specs.Always.{AreTold, AreWatches, IsAlways, IsWatching};
+ghost use Rattle.dk_repeat_search.specs.Repeats.{searched_ticks};
 ghost use Rattle.dk_repeat_search.specs.Searching.{begun, loaded_of};
 
+use crate::report::searched_ticks;
 use crate::search::Searches;
-use dk_config::{MAX_RUN_TICKS, MAX_TICKS, NoMemory};
+use dk_config::{MAX_TICKS, NoMemory};
 use dk_cycle::{OwnSearch, RunTold, WaitWatch, Waits, run_told, told_law, waits_law, waits_told};
 use dk_cycle_start::SecondPass;
 use dk_kernel::Kernel;
@@ -95,6 +97,7 @@ impl Watching {
         ensures is { OnOk result (IsWatching kernel.new self.new) }
         ensures same { kernel.new ≡ record kernel.old { ticks = kernel.new.ticks } }
         ensures ticks { kernel.new.ticks ≤ kernel.old.ticks + ticks }
+        ensures all { OnOk result (self.new.searches.run.cycle ≡ None → kernel.new.ticks ≡ kernel.old.ticks + ticks) }
     {
         self.look(alloc, kernel)?;
         for step in 0..ticks {
@@ -138,7 +141,7 @@ fn told_by<L: Ledger>(
     requires is { IsWatching kernel.old watching }
     requires pass { IsPass pass }
     requires of { pass.early ≡ loaded_of kernel.old }
-    ensures { IfOk result (IsAlways (loaded_of kernel.old)) }
+    ensures { IfOk result (IsAlways (loaded_of kernel.old) ticks) }
 {
     told_law();
     waits_law();
@@ -164,7 +167,7 @@ fn watched_by<L: Ledger>(
     requires name { blank.name ≡ L.name }
     requires parts { blank.parts ≡ L.parts }
     requires some { 0 < L.parts }
-    ensures { IfOk result (IsAlways loaded) }
+    ensures { IfOk result (IsAlways loaded ticks) }
 {
     let watching = Watching::of(alloc, &loaded)?;
     let pass = SecondPass::of(alloc, &loaded)?;
@@ -180,12 +183,7 @@ fn watched_by<L: Ledger>(
 /// memory.
 pub fn find_always(alloc: Global, loaded: Loaded, ticks: u32) -> Result<Always, NoMemory>
     requires { IsLoaded loaded }
-    ensures { IfOk result (IsAlways loaded) }
+    ensures { IfOk result (IsAlways loaded (searched_ticks ticks)) }
 {
-    let few = if ticks < MAX_RUN_TICKS {
-        ticks
-    } else {
-        MAX_RUN_TICKS
-    };
-    watched_by::<Brand>(alloc, loaded, few, Blank::new(1))
+    watched_by::<Brand>(alloc, loaded, searched_ticks(ticks), Blank::new(1))
 }

@@ -123,7 +123,7 @@ fn searched_by<L: Ledger>(
 }
 
 /// The ticks that a search takes.
-fn searched_ticks(ticks: u32) -> u32
+pub(crate) fn searched_ticks(ticks: u32) -> u32
     ensures is { result ≡ searched_ticks ticks }
     ensures few { result ≤ MAX_RUN_TICKS }
 {

@@ -8,4 +8,4 @@ pub told_by-requires-clause-of : goal.told_by-requires-clause-of
 told_by-requires-clause-of g c = c.in_ok-pass.ensures.same ∙ sym (ap loaded_of c.in-Ok.ensures.ok)
 
 pub returns-in-Ok : goal.returns-in-Ok
-returns-in-Ok g c = subst (λ (w : Workload). IfOk c.told_by.result (IsAlways w)) (ap loaded_of c.in-Ok.ensures.ok) c.told_by.ensures
+returns-in-Ok g c = subst (λ (w : Workload). IfOk c.told_by.result (IsAlways w c.args.ticks)) (ap loaded_of c.in-Ok.ensures.ok) c.told_by.ensures
