@@ -12,3 +12,4 @@ pub mod Told
 mod Premises
 mod GreaterPremises
 mod Witness
+mod GreaterWitness

@@ -2,7 +2,7 @@
 use Rattle.dk_impact.proofs.Names.{ℕ, zero, suc, ◌≡◌, ◌+◌, ◌*◌, ◌%◌, ◌≤◌, ◌<◌, ◌⊎◌, inl, inr, None, Bool, true, false, not, List, [], ◌∷◌, map, refl, ap, subst, arith, slice_index_or, list_any, Configuration, longest_hold, is_user, first_broken, checked, Jmp, Trap, Entry, stops, world, accepted, KeepsToItself, ReadsNoTick, ProcessStandsAgain, own_window, program, spinner, call_of, SeesTheSame, SeesTheSameButPeriod, MakesNoThread, IsSameAcross, renamed, ChangesOfOthersHaveNoImpact, ChangesOfPeriodHaveNoImpact, FirstWindowsTellAcross, FirstWindowsTellAtAnyPeriod, nat_tests}
 use Rattle.dk_config.specs.Rules.{all_tests, version_tests, count_tests, range_tests, period_tests, name_tests, again_tests, level_tests, budget_tests, user_tests, slowest_tests}
 
-abbrev old_at : ℕ → Configuration
+abbrev pub old_at : ℕ → Configuration
 old_at ticks = record {
   version = 1;
   costs = record { switch = 1; call = 2 };
@@ -23,7 +23,7 @@ new_at ticks = record {
   mutexes = record { name = 110 ∷ []; ceiling = 0; hold = 3; users = (98 ∷ []) ∷ (97 ∷ []) ∷ [] } ∷ [];
 }
 
-abbrev old : Configuration
+abbrev pub old : Configuration
 old = old_at 20
 
 abbrev new : Configuration
@@ -36,7 +36,7 @@ faster = old_at 12
 abbrev slower : Configuration
 slower = new_at 40
 
-old-passes : first_broken (all_tests old) ≡ None
+pub old-passes : first_broken (all_tests old) ≡ None
 unfolding all_tests version_tests count_tests range_tests period_tests name_tests again_tests level_tests budget_tests user_tests slowest_tests
 old-passes = refl
 
@@ -56,10 +56,10 @@ slower-passes = refl
 abbrev worker : List ℕ
 worker = program (Trap 5 ∷ Trap 6 ∷ Trap 8 ∷ Trap 10 ∷ Trap 1 ∷ Jmp 0 ∷ [])
 
-less-than : (k n : ℕ) → k < n → k ≡ n → ⊥
+pub less-than : (k n : ℕ) → k < n → k ≡ n → ⊥
 less-than k n less is = omega arith
 
-more-than : (k n : ℕ) → n < k → k ≡ n → ⊥
+pub more-than : (k n : ℕ) → n < k → k ≡ n → ⊥
 more-than k n more is = omega arith
 
 worker-clock : ReadsNoTick worker
@@ -115,11 +115,11 @@ again : ProcessStandsAgain old (worker ∷ []) 0 40 40
 again = record { later = omega arith; begins = refl; begins_later = refl; alike = record { memory = refl; context = refl; stopped = refl } }
 
 -- in a window its main isn't stopped
-abbrev goes-on : List Entry → Bool
+abbrev pub goes-on : List Entry → Bool
 goes-on window = not (list_any (stops (record { process = 1; serial = 0 })) window)
 
 -- a tick of the windows up to tick 80
-first-four : (tick : ℕ) → tick % 20 ≡ 0 → tick < 80 → ((tick ≡ 0) ⊎ (tick ≡ 20)) ⊎ ((tick ≡ 40) ⊎ (tick ≡ 60))
+pub first-four : (tick : ℕ) → tick % 20 ≡ 0 → tick < 80 → ((tick ≡ 0) ⊎ (tick ≡ 20)) ⊎ ((tick ≡ 40) ⊎ (tick ≡ 60))
 first-four tick begins early = grind (arith, nat_tests)
 
 goes-on-first : (tick : ℕ) → ((tick ≡ 0) ⊎ (tick ≡ 20)) ⊎ ((tick ≡ 40) ⊎ (tick ≡ 60)) → goes-on (map (renamed 1) (own_window old (worker ∷ []) 0 tick)) ≡ true
