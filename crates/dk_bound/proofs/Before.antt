@@ -30,7 +30,7 @@ request-none c x (suc k) (e ∷ past) right audited =
       | inr other ↦ rw other before
     ]
 
-want-none : (c : Configuration) (past : List Entry) (x : Thread) → may_ask c x.id.process ≡ false → Audited c past → want c (length past) past x ≡ 0
+pub want-none : (c : Configuration) (past : List Entry) (x : Thread) → may_ask c x.id.process ≡ false → Audited c past → want c (length past) past x ≡ 0
 want-none c past x right audited = grind (arith, nat_tests, request-none)
 
 pub main-among : (c : Configuration) (p : ℕ) (past : List Entry) → p < length c.processes → Has (threads c past) (main_row c p past)

@@ -49,7 +49,7 @@ blocking-after c e past j checked audited follows inv =
     (λ p known x new. free-blocking c (e ∷ past) j x (new-free c e past p x checked audited follows inv known new))
 
 -- an entry of the holder itself, on its budget: where a mutex counted, it has a tick less
-greatest-falls : (c : Configuration) (j high : ℕ) (held : List Hold) (event : Option Event) → Rising c 1 high held
+pub greatest-falls : (c : Configuration) (j high : ℕ) (held : List Hold) (event : Option Event) → Rising c 1 high held
     → (innermost_left c held ≡ 1 → ends_hold event held ≡ true) → EventFits c (high - 1) (map aged held) event
     → 0 < greatest_left c j held → greatest_left c j (held_after event (map aged held)) + 1 ≤ greatest_left c j held
 greatest-falls c j high held event r must fits some = grind (arith, nat_tests, not-last, greatest-low, greatest-aged, greatest-lock, Rising-tick, greatest-filter)
@@ -73,7 +73,7 @@ row-less : (c : Configuration) (e : Entry) (past : List Entry) (j : ℕ) (x : Th
     → thread_blocking c (e ∷ past) j (after_entry e (length past) x) ≤ thread_blocking c past j x
 row-less c e past j x le = elim (cases_Bool (ltb j x.level)) [ inl slow ↦ rw slow le | inr quick ↦ rw quick (omega arith) ]
 
-slow-row : (c : Configuration) (e : Entry) (past : List Entry) (j : ℕ) (x : Thread) → j < x.level
+pub slow-row : (c : Configuration) (e : Entry) (past : List Entry) (j : ℕ) (x : Thread) → j < x.level
     → greatest_left c j (held_by x.id (e ∷ past)) + 1 ≤ greatest_left c j (held_by x.id past)
     → thread_blocking c (e ∷ past) j (after_entry e (length past) x) + 1 ≤ thread_blocking c past j x
 slow-row c e past j x slow le = let a : ltb j x.level ≡ true = grind (arith, nat_tests) in rw a le
@@ -83,12 +83,12 @@ pub stopped-step : (c : Configuration) (e : Entry) (past : List Entry) (j : ℕ)
 stopped-step c e past j x over = grind (arith, nat_tests)
 
 -- a thread that is stopped by its own entry, slower than level j
-stopped-counts : (c : Configuration) (e : Entry) (past : List Entry) (j : ℕ) (x : Thread) → stops x.id e ≡ true → j < x.level → 0 < greatest_left c j (held_by x.id past)
+pub stopped-counts : (c : Configuration) (e : Entry) (past : List Entry) (j : ℕ) (x : Thread) → stops x.id e ≡ true → j < x.level → 0 < greatest_left c j (held_by x.id past)
     → thread_blocking c (e ∷ past) j (after_entry e (length past) x) + 1 ≤ thread_blocking c past j x
 stopped-counts c e past j x over slow some = grind (arith, nat_tests)
 
 -- whoever is chosen at a level up to j and is slower holds a mutex that counts
-chosen-counts : (c : Configuration) (past : List Entry) (j k high : ℕ) (x : Thread) → Turn c past k x → k ≤ j → j < x.level → Rising c 1 high (held_by x.id past)
+pub chosen-counts : (c : Configuration) (past : List Entry) (j k high : ℕ) (x : Thread) → Turn c past k x → k ≤ j → j < x.level → Rising c 1 high (held_by x.id past)
     → 0 < greatest_left c j (held_by x.id past)
 chosen-counts c past j k high x is le slow r = grind (arith, nat_tests, greatest-some)
 

@@ -27,7 +27,7 @@ known-before c m e past know =
 fair-at : (c : Configuration) (m : ℕ) (past : List Entry) → KnownAt c m past → AllFair c past
 fair-at c m past know = steady-fair c past (steady c past know.checked know.accepted know.audited)
 
-slowest-low : (c : Configuration) (m : ℕ) → ReachesTo m (slowest_up_to c m)
+pub slowest-low : (c : Configuration) (m : ℕ) → ReachesTo m (slowest_up_to c m)
 slowest-low c m q b is =
     elim (cases_Bool (ltb m (main_level c q))) [
       | inl slow ↦ let none : None ≡ Some b = rw slow at is in absurd (cc)
@@ -39,7 +39,7 @@ slowest-low c m q b is =
     ]
 
 -- each thread of a level up to m is told
-told : (c : Configuration) (m : ℕ) (y : Thread) → RowFits c y → y.level ≤ m → (b : ℕ) × (slowest_up_to c m y.id.process ≡ Some b) × (y.level ≤ b)
+pub told : (c : Configuration) (m : ℕ) (y : Thread) → RowFits c y → y.level ≤ m → (b : ℕ) × (slowest_up_to c m y.id.process ≡ Some b) × (y.level ≤ b)
 told c m y fits le =
     let q = y.id.process in
     let low = fits.low in

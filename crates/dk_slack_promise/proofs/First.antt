@@ -13,41 +13,13 @@ use Rattle.dk_trace.proofs.Chosen.{oldest-Has}
 use Rattle.dk_trace.proofs.Entered.{done-event}
 use Rattle.dk_trace.proofs.Events.{none-holds}
 use Rattle.dk_trace.proofs.Silent.{wish-wants}
+use Rattle.dk_bound.proofs.Before.{want-none}
 use Rattle.dk_bound.proofs.Laws.{granted}
 use Rattle.dk_bound.proofs.Received.{past_at-earlier, past_at-now}
 use Rattle.dk_slack_promise.specs.Rest.{IsAtRest}
 use Rattle.dk_slack_promise.specs.Lent.{is_lent}
 use Rattle.dk_slack_promise.specs.Long.{is_idle, is_idle_label, is_lent_to, IsOpen, NoneBefore}
 use Rattle.dk_slack_promise.proofs.Rest.{nobody-wishes, idle_at_rest}
-
-asks-none : (o : Option Event) → ((amount : ℕ) → o ≡ Some (Event.Slack amount) → ⊥) → asked o ≡ None
-asks-none o h = grind (arith, nat_tests)
-
--- a thread of a process that has no right to slack never asks
-refused : (c : Configuration) (past : List Entry) (e : Entry) (x : ThreadId) (amount : ℕ) → may_ask c x.process ≡ false → Follows c past e
-    → is_of x e ≡ true → e.event ≡ Some (Event.Slack amount) → ⊥
-refused c past e x amount right follows mine is =
-    let met = done-event c past e x (Event.Slack amount) follows mine is in
-    let row = met.row in
-    let reasons = none-holds ((not (may_ask c row.id.process), Refusal.NoRight) ∷ ((eqb amount 0) || ltb MAX_SPAN amount, Refusal.Amount) ∷ []) met.unrefused in
-    let first : not (may_ask c row.id.process) ≡ false = reasons.0 in
-    let same : may_ask c row.id.process ≡ false = ap (λ i. may_ask c i.process) met.same ∙ right in
-    let wrong : true ≡ false = rw same at first in
-    absurd (cc)
-
-request-none : (c : Configuration) (x : ThreadId) (k : ℕ) (past : List Entry) → may_ask c x.process ≡ false → Audited c past
-    → (last_request x (take k past)).amount ≡ 0
-request-none c x zero past right audited = refl
-request-none c x (suc k) [] right audited = refl
-request-none c x (suc k) (e ∷ past) right audited =
-    let before = request-none c x k past right audited.0 in
-    elim (cases_Bool (is_of x e)) [
-      | inl mine ↦ rw (mine, asks-none e.event (λ amount is. refused c past e x amount right audited.1 mine is)) before
-      | inr other ↦ rw other before
-    ]
-
-want-none : (c : Configuration) (past : List Entry) (x : Thread) → may_ask c x.id.process ≡ false → Audited c past → want c (length past) past x ≡ 0
-want-none c past x right audited = grind (arith, nat_tests, request-none)
 
 -- whoever asks has the right to
 pub has-right : (c : Configuration) (past : List Entry) (x : Thread) → Audited c past → 0 < want c (length past) past x → may_ask c x.id.process ≡ true

@@ -12,7 +12,7 @@ use Rattle.dk_trace.proofs.Members.{sum_by-le, sum_by-less}
 use Rattle.dk_bound.proofs.Nesting.{EventFits, Rising-tick, not-last, greatest-aged, greatest-filter, greatest-low, greatest-some, greatest-lock}
 use Rattle.dk_bound.proofs.Locks.{AreMet, met, event-fits}
 use Rattle.dk_bound.proofs.HoldersFit.{row-nested}
-use Rattle.dk_bound.proofs.Blocking.{blocking-after, blocking-unpaid, other-step}
+use Rattle.dk_bound.proofs.Blocking.{blocking-after, blocking-unpaid, chosen-counts, greatest-falls, other-step, slow-row, stopped-counts}
 use Rattle.dk_slack_promise.specs.Lent.{is_lent}
 
 -- the tick went to the work of a level up to j, or to slack
@@ -42,27 +42,6 @@ works-press c past label j known some (kernel k low passed left pays borrows lev
     ]
 works-press c past label j known some (idle passed pays borrows level) =
     let none = no-demand c past j (passed j known) in absurd (omega arith)
-
--- an entry of the holder itself, on its budget: where a mutex counted, it has a tick less
-greatest-falls : (c : Configuration) (j high : ℕ) (held : List Hold) (event : Option Event) → Rising c 1 high held
-    → (innermost_left c held ≡ 1 → ends_hold event held ≡ true) → EventFits c (high - 1) (map aged held) event
-    → 0 < greatest_left c j held → greatest_left c j (held_after event (map aged held)) + 1 ≤ greatest_left c j held
-greatest-falls c j high held event r must fits some = grind (arith, nat_tests, not-last, greatest-low, greatest-aged, greatest-lock, Rising-tick, greatest-filter)
-
--- whoever is chosen at a level up to j and is slower holds a mutex that counts
-chosen-counts : (c : Configuration) (past : List Entry) (j k high : ℕ) (x : Thread) → Turn c past k x → k ≤ j → j < x.level → Rising c 1 high (held_by x.id past)
-    → 0 < greatest_left c j (held_by x.id past)
-chosen-counts c past j k high x is le slow r = grind (arith, nat_tests, greatest-some)
-
--- a thread that is stopped by its own entry, slower than level j
-stopped-counts : (c : Configuration) (e : Entry) (past : List Entry) (j : ℕ) (x : Thread) → stops x.id e ≡ true → j < x.level → 0 < greatest_left c j (held_by x.id past)
-    → thread_blocking c (e ∷ past) j (after_entry e (length past) x) + 1 ≤ thread_blocking c past j x
-stopped-counts c e past j x over slow some = grind (arith, nat_tests)
-
-slow-row : (c : Configuration) (e : Entry) (past : List Entry) (j : ℕ) (x : Thread) → j < x.level
-    → greatest_left c j (held_by x.id (e ∷ past)) + 1 ≤ greatest_left c j (held_by x.id past)
-    → thread_blocking c (e ∷ past) j (after_entry e (length past) x) + 1 ≤ thread_blocking c past j x
-slow-row c e past j x slow le = let a : ltb j x.level ≡ true = grind (arith, nat_tests) in rw a le
 
 fast-row : (c : Configuration) (e : Entry) (past : List Entry) (j : ℕ) (x : Thread) → x.level ≤ j
     → thread_blocking c (e ∷ past) j (after_entry e (length past) x) ≤ thread_blocking c past j x

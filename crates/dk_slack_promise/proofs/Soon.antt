@@ -10,6 +10,7 @@ use Rattle.dk_bound.proofs.Ahead.{work_left, paid_to, ReachesTo, left-entry, lef
 use Rattle.dk_bound.proofs.Blocking.{blocking-unpaid}
 use Rattle.dk_bound.proofs.Bounded.{window-start}
 use Rattle.dk_bound.proofs.ByWhen.{goes-on, audited-drop}
+use Rattle.dk_bound.proofs.LevelByWhen.{slowest-low, told}
 use Rattle.dk_bound.proofs.Received.{past_at-earlier, past_at-now}
 use Rattle.dk_slack_promise.specs.Lent.{is_lent, ticks_lent}
 use Rattle.dk_slack_promise.specs.Long.{IsOpen, is_lent_to}
@@ -19,31 +20,6 @@ use Rattle.dk_slack_promise.proofs.Pressed.{IsPressed, lent_one, Pays, pays-fall
 use Rattle.dk_slack_promise.proofs.Ended.{past-twice}
 use Rattle.dk_slack_promise.proofs.First.{one_of, open-claims}
 use Rattle.dk_slack_promise.proofs.Allotted.{counted, Bursts, bursts, not-slower, lent-sum, sum_from-less, Asks, asks-before, open-presses, keeps-drop}
-
-slowest-low : (c : Configuration) (m : ℕ) → ReachesTo m (slowest_up_to c m)
-slowest-low c m q b is =
-    elim (cases_Bool (ltb m (main_level c q))) [
-      | inl slow ↦ let none : None ≡ Some b = rw slow at is in absurd (cc)
-      | inr reaches ↦
-          elim (cases_Bool (eqb (slots c q) 0)) [
-            | inl alone ↦ let some : Some (main_level c q) ≡ Some b = rw (reaches, alone) at is in let same : main_level c q ≡ b = cc in grind (arith, nat_tests)
-            | inr more ↦ let some : Some (min (max_level c q) m) ≡ Some b = rw (reaches, more) at is in let same : min (max_level c q) m ≡ b = cc in omega arith
-          ]
-    ]
-
--- each thread of a level up to m is told
-told : (c : Configuration) (m : ℕ) (y : Thread) → RowFits c y → y.level ≤ m → (b : ℕ) × (slowest_up_to c m y.id.process ≡ Some b) × (y.level ≤ b)
-told c m y fits le =
-    let q = y.id.process in
-    let low = fits.low in
-    let high = fits.high in
-    let reaches : ltb m (main_level c q) ≡ false = grind (arith, nat_tests) in
-    elim (cases_Bool (eqb (slots c q) 0)) [
-      | inl alone ↦
-          let none : slots c q ≡ 0 = grind (arith, nat_tests) in
-          (main_level c q, rw (reaches, alone) refl, elim fits.child [ inl main ↦ omega arith | inr child ↦ absurd (omega arith) ])
-      | inr more ↦ (min (max_level c q) m, rw (reaches, more) refl, omega arith)
-    ]
 
 -- what the levels up to m still need until a tick
 abbrev left_at : Configuration → ℕ → ℕ → ℕ → List Entry → ℕ
