@@ -1,0 +1,2 @@
+pub mod When
+pub use Rattle.show_rows.specs.Lines
