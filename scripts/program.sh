@@ -96,14 +96,28 @@ told() {
 
 # is_of_sums: the program, the sources and the toolchain, if it is there, have the sums of the stamp
 is_of_sums() {
-    [ "$(told program)" = "$(sha256sum <"$program" | cut -d ' ' -f 1)" ] || return
+    is_whole || return
     [ "$(told sources)" = "$(sum_of "$top" "$crates")" ] || return
     ! command -v rt >/dev/null 2>&1 || [ "$(told toolchain)" = "$(toolchain)" ]
+}
+
+# is_package: this is an installed package, which has the programs and no sources
+is_package() {
+    [ -f "$top/PROVED" ]
+}
+
+# is_whole: the program has the sum of its stamp
+is_whole() {
+    [ "$(told program)" = "$(sha256sum <"$program" | cut -d ' ' -f 1)" ]
 }
 
 # is_fresh: the program is there, and was made of the present sources by the present toolchain
 is_fresh() {
     [ -x "$program" ] && [ -f "$program.stamp" ] || return
+    if is_package; then
+        is_whole
+        return
+    fi
     [ -s "$program.seen" ] && listing | cmp -s - "$program.seen" && return
     # the listing comes before the sums, so that a file which is written from here on differs from it
     found=$(listing)
@@ -294,8 +308,12 @@ build() {
     say "built, $(took)"
 }
 
-# make_fresh: the program is that of the present sources
+# make_fresh: the program is that of the present sources, or that of the package
 make_fresh() {
+    if is_package; then
+        is_fresh || stop "$program isn't the program of this package"
+        return
+    fi
     for again in '' 'files changed during the build, so it is built anew' 'files changed once more' stop; do
         ! is_fresh || break
         [ "$again" != stop ] || stop "files change with each build"
@@ -313,6 +331,35 @@ free() {
     echo $number
 }
 
+# far WORDS: how far the program has come, by what it has written. A ledger that goes to a file tells its tick
+far() {
+    printf '%s: %s, ' "$me" "$1"
+    if [ "$1" = run ] && [ -f "/proc/$child/fd/1" ]; then
+        tick=$(tail -c 400 "/proc/$child/fd/1" | tail -n 2 | sed -n '1s/^\([0-9]*\) .*/\1/p')
+        [ -z "$tick" ] || printf 'tick %s of %s, ' "$tick" "${3-}"
+    fi
+    count=$(sed -n 's/^wchar: //p' "/proc/$child/io" 2>/dev/null)
+    if [ "${count:-0}" -ge 1000000 ]; then
+        printf '%s MB written, ' $((count / 1000000))
+    fi
+    took
+}
+
+# watch WORDS: once a second has gone by, a line on the terminal says each second how far the program has come, until
+# this is ended
+watch() {
+    begun=$(date +%s) shown=
+    trap 'kill $!; [ -z "$shown" ] || printf "\r\033[K"; exit' TERM
+    while
+        sleep 1 &
+        wait $!
+        kill -0 "$child"
+    do
+        shown=$(far "$@")
+        printf '\r\033[K%s' "$shown"
+    done
+}
+
 # run WORDS: runs the program and leaves its status in `status`. A signal that ends this script ends the program first
 run() {
     child=
@@ -327,15 +374,42 @@ run() {
     else
         $kill_too "$program" "$@" <&- &
     fi
-    child=$!
+    child=$! watcher=
+    # what goes to a terminal shows itself how far it is
+    if [ -t 2 ] && [ ! -t 1 ]; then
+        watch "$@" >&2 2>/dev/null </dev/null &
+        watcher=$!
+    fi
     wait "$child"
     status=$?
+    end_watch
     trap - INT TERM HUP
+}
+
+# end_watch: the line on the terminal goes
+end_watch() {
+    [ -z "$watcher" ] || { kill "$watcher" && wait "$watcher"; } 2>/dev/null
+    watcher=
+}
+
+# run_on_terminal WORDS: the same, where all output comes at the end: it is kept until the line on the terminal is gone
+run_on_terminal() {
+    case ${1-} in run | trace | vcd | csv | ledger | dis) held= ;; *) held=$(mktemp 2>/dev/null) ;; esac
+    if [ -z "$held" ]; then
+        run "$@"
+        return
+    fi
+    written=$held
+    run "$@" >"$held"
+    cat "$held"
+    rm -f "$held"
+    written=
 }
 
 # pass_on SIGNAL: ends the program and then this script
 pass_on() {
     trap '' INT TERM HUP
+    end_watch
     if [ -n "$child" ]; then
         kill -KILL "$child"
         wait "$child"
@@ -460,7 +534,7 @@ explain() {
 # straight WORDS: runs the program on this script's own output, and ends with its status
 straight() {
     make_fresh
-    run "$@"
+    if [ -t 1 ] && [ -t 2 ]; then run_on_terminal "$@"; else run "$@"; fi
     explain "$@"
     exit $status
 }
@@ -529,6 +603,7 @@ version() {
     if [ -x "$program" ] && [ -f "$program.stamp" ]; then
         echo "$me of commit $(told commit), proved with $(told toolchain)"
         is_fresh || echo 'It is not of the present sources and toolchain, so the next call builds it anew.'
+        ! is_package || echo "What was proved of it stands in $top/PROVED."
     else
         echo "$me of commit $(commit), not built yet"
     fi
@@ -556,9 +631,15 @@ answer() {
 
 # the file beside the one that -o writes
 written=
+# what shows on the terminal how far the program has come
+watcher=
 # words in front of a command that has it end with this script, however that ends
 kill_too='setpriv --pdeathsig KILL --' term_too='setpriv --pdeathsig TERM --'
 $kill_too true 2>/dev/null || kill_too='' term_too=''
 
-crates=$(libraries)
-[ -n "$crates" ] || stop "crates.txt has no crate $crate"
+if is_package; then
+    crates=
+else
+    crates=$(libraries)
+    [ -n "$crates" ] || stop "crates.txt has no crate $crate"
+fi
