@@ -8,6 +8,7 @@
 #
 # In the folder out/ at the top, which no other command writes, stand for each crate
 #   CRATE         the program. It stays until the next one is there
+#   CRATE.o       the code that it was linked of, for a package
 #   CRATE.stamp   what it was made of: the sum of its sources, the toolchain's line, its own sum, and the commit
 #   CRATE.seen    names, numbers, sizes and times of all files when they were last found to have these sums. Where
 #                 none of it differs no sum is taken: a file that was written since has another time of change,
@@ -129,6 +130,7 @@ is_fresh() {
 
 # install FILE SOURCES TOOLCHAIN COMMIT: a program that was proved takes the old one's place
 install() {
+    cp "$1.o" "$program.o" 2>/dev/null || rm -f "$program.o"
     cp "$1" "$program.new" && chmod 755 "$program.new" &&
         printf 'sources %s\ntoolchain %s\nprogram %s\ncommit %s\n' "$2" "$3" \
             "$(sha256sum <"$program.new" | cut -d ' ' -f 1)" "$4" >"$program.stamp.new" &&
