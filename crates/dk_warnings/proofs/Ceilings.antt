@@ -1,5 +1,5 @@
 -- A ceiling that is faster than all users can be at the level of the fastest.
-use Rattle.dk_warnings.proofs.Names.{ℕ, zero, suc, ◌≡◌, ◌≤◌, ◌⊎◌, inl, inr, Bool, true, false, cond, ltb, List, [], ◌∷◌, length, max, refl, arith, Option, Some, None, map, filter, slice_get, option_map, option_map_or, nat_tests, Configuration, Mutex, ProcessRow, greatest, IsAccepted, IsChecked, ceiling, longest_hold, main_level, can_block, is_user, uses, fastest_of, fastest_user}
+use Rattle.dk_warnings.proofs.Names.{ℕ, zero, suc, ◌≡◌, ◌<◌, ◌≤◌, ◌⊎◌, inl, inr, Bool, true, false, cond, ltb, List, [], ◌∷◌, length, max, refl, ap, ◌∙◌, arith, Option, Some, None, map, filter, slice_get, option_map, option_map_or, nat_tests, Configuration, Mutex, ProcessRow, greatest, IsAccepted, IsChecked, ceiling, longest_hold, main_level, can_block, is_user, uses, fastest_of, fastest_user}
 use Rattle.std.proofs.Common.{◌&&◌}
 use Rattle.dk_warnings.specs.Ceilings.{CertifiesToo, rows_with_ceiling, with_ceiling}
 
@@ -21,6 +21,26 @@ user-level mutex none rows p user = at (slice_get rows p) refl user
 users-of : (c : Configuration) (p : ℕ) (o : Option Mutex) → option_map_or (λ mutex. option_map_or (uses mutex) (slice_get c.processes p) false) o false ≡ true
     → option_map_or (λ mutex. fastest_of mutex (length c.levels) c.processes) o 0 ≤ main_level c p
 users-of c p o user = grind (arith, nat_tests, user-level)
+
+-- and no slower level is as fast as each
+fastest-greatest : (mutex : Mutex) (none l : ℕ) (rows : List ProcessRow) → l ≤ none
+    → ((p : ℕ) (row : ProcessRow) → slice_get rows p ≡ Some row → uses mutex row ≡ true → l ≤ row.level) → l ≤ fastest_of mutex none rows
+fastest-greatest mutex none l [] some every = some
+fastest-greatest mutex none l (first ∷ rows) some every =
+    let later = fastest-greatest mutex none l rows some (λ p. every (suc p)) in
+    let own = every 0 first refl in
+    grind (arith, nat_tests)
+
+slowest-of : (c : Configuration) (l : ℕ) (o : Option Mutex) → l ≤ length c.levels
+    → ((p : ℕ) → option_map_or (λ mutex. option_map_or (uses mutex) (slice_get c.processes p) false) o false ≡ true → l ≤ main_level c p)
+    → 0 < option_map_or (λ mutex. fastest_of mutex (length c.levels) c.processes) o 0
+    → l ≤ option_map_or (λ mutex. fastest_of mutex (length c.levels) c.processes) o 0
+slowest-of c l None few every some = absurd (omega arith)
+slowest-of c l (Some mutex) few every some =
+    fastest-greatest mutex (length c.levels) l c.processes few (λ p row there user.
+    let le = every p (ap (λ o. option_map_or (uses mutex) o false) there ∙ user) in
+    let level = ap (λ o. option_map_or (λ row. row.level) o 0) there in
+    omega (arith, le, level))
 
 -- the greatest hold of the rows that a test passes
 abbrev longest : (Mutex → Bool) → List Mutex → ℕ
@@ -82,4 +102,4 @@ module _ (c : Configuration) (m level : ℕ) where
   checked-too checked users = grind (arith, nat_tests, ceiling-fits, hold-stays, user-stays)
 
   pub certifies-too : IsChecked c → IsAccepted c → ltb (ceiling c m) (fastest_user c m) ≡ true → fastest_user c m ≡ level → CertifiesToo c m level
-  certifies-too checked accepted fast is = grind (arith, nat_tests, users-of, shorter, checked-too)
+  certifies-too checked accepted fast is = grind (arith, nat_tests, users-of, slowest-of, shorter, checked-too)

@@ -34,8 +34,8 @@ pub use Rattle.dk_trace.specs.declared.ThreadId.{ThreadId}
 pub use Rattle.dk_trace.specs.declared.Work.{Work}
 pub use Rattle.dk_warnings.specs.Fitting.{IsLocked}
 pub use Rattle.dk_warnings.specs.Found.{body, fastest_of, fastest_user, full_level, has_no_child, is_long_hold, is_own_mutex, long_hold, no_child, no_spare, of_mutex, of_process, of_user, own_mutex, room, short_body, user_count, warnings}
-pub use Rattle.dk_warnings.specs.Told.{CreatesRefused, LocksAsMain, MakesNoChild, OfEachEntry, Says, TakesNoSpare, main_named}
-pub use Rattle.dk_warnings.specs.Warnings.{IsRefused, LocksRefused, NeverFits, NeverLocked, greatest_child_share, greatest_share}
+pub use Rattle.dk_warnings.specs.Told.{CreatesRefused, IsFirstFull, LocksAsMain, LocksNever, MakesNoChild, OfEachEntry, Says, TakesNoSpare, main_named}
+pub use Rattle.dk_warnings.specs.Warnings.{IsRefused, IsRoom, LocksRefused, NeverFits, NeverLocked, greatest_child_share, greatest_share}
 pub use Rattle.std.proofs.Common.{Bool, List, [], ap, append-nil, append_assoc, arith, cond, drop, eqb, false, flat_map, inl, inr, leb, length, ltb, max, refl, rules, subst, suc, sym, take, true, zero, ℕ, ◌%◌, ◌*◌, ◌++◌, ◌+◌, ◌-◌, ◌/◌, ◌<◌, ◌||◌, ◌∙◌, ◌∷◌, ◌≡◌, ◌≤◌, ◌⊎◌}
 pub use Rattle.std.proofs.Math.Nat.{add-mod, div-mul-le_self, le_of_dvd, mod-eq_of_lt, mul-le-mul, zero-mod}
 pub use Rattle.std.proofs.lemmas.Bool.{and_parts, cases_Bool, cases_lt, eq-eqb, le-ltb, lt-leb, not-false, or_from}

@@ -24,10 +24,19 @@ greatest_child_share c p =
 abbrev pub greatest_share : Configuration → ℕ → ℕ
 greatest_share c p = max (budget c p) (greatest_child_share c p)
 
--- The hold is longer than what the greatest share leaves after the switch to the thread, the last tick of the call and
--- the switch away. The earlier ticks of the call don't count, since they may lie in the window before.
+-- A hold of so many ticks is longer than what the greatest share leaves after the switch to the thread, the last tick of
+-- the call and the switch away. The earlier ticks of the call don't count, since they may lie in the window before.
+abbrev pub IsTooLong : Configuration → ℕ → ℕ → Type 0
+IsTooLong c p hold = greatest_share c p < hold + least_share c
+
+-- the hold of the mutex is too long for the process
 abbrev pub NeverFits : Configuration → ℕ → ℕ → Type 0
-NeverFits c p m = greatest_share c p < longest_hold c m + least_share c
+NeverFits c p m = IsTooLong c p (longest_hold c m)
+
+-- the longest hold that isn't
+pub record IsRoom (c : Configuration) (p room : ℕ) : Type 0 where
+  pub fits : ¬ IsTooLong c p room
+  pub no_more : IsTooLong c p (room + 1)
 
 -- the lock of the mutex by the thread is refused, by 8, 9 or 10
 abbrev pub IsRefused : Configuration → List Entry → Entry → Thread → ℕ → Type 0
