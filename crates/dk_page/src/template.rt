@@ -171,7 +171,7 @@ pub(crate) const FAULTS_TILE: &str =
 pub(crate) const INPUTS: &str = "</ul>
 <section id=\"inputs\" aria-labelledby=\"inputs-title\">
 <div class=\"head\"><h2 id=\"inputs-title\">Inputs</h2><span class=\"scope given\">input</span></div>
-<p class=\"why\">What this page was made of. The same files and the same program give it again, byte for byte.</p>
+<p class=\"why\">What this page was made of. The same words, files and program give it again, byte for byte.</p>
 <div class=\"scroll\"><table><caption class=\"hidden\">Files with their lengths and checksums</caption>
 <thead><tr><th scope=\"col\">What</th><th scope=\"col\">File</th><th scope=\"col\" class=\"number\">Bytes</th><th scope=\"col\">SHA-256</th></tr></thead>
 <tbody>
