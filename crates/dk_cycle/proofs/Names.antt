@@ -16,7 +16,7 @@ pub use Rattle.dk_cycle.specs.Seeking.{FollowsOn, IsOld, IsOldRun, IsWholeState,
 pub use Rattle.dk_cycle.specs.Start.{IsLoud, IsStartSearch, Opens, Shuts, StartsFirst, with_start}
 pub use Rattle.dk_cycle.specs.Stretching.{SearchesStay, StartsStay}
 pub use Rattle.dk_cycle.specs.Told.{HasCycle, IsRunCycle, OwnIsTold, RunIsTold, made_by, reader_by}
-pub use Rattle.dk_cycle.specs.Waiting.{HasProgram, IsWaitWatch, IsWaits, WaitsAreTold, first_missed, main_waits, waits_by, waits_in, waits_of}
+pub use Rattle.dk_cycle.specs.Waiting.{HasProgram, IsFirstMissed, IsWaitWatch, IsWaits, WaitedBefore, WaitsAreTold, WaitsBefore, first_missed, main_waits, waits_by, waits_in, waits_of}
 pub use Rattle.dk_cycle.specs.declared.Cycle.{Cycle}
 pub use Rattle.dk_cycle.specs.declared.keeping.Keeping.{Keeping}
 pub use Rattle.dk_cycle.specs.declared.made.Made.{Made}

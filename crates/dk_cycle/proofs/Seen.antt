@@ -1,5 +1,5 @@
 -- What is seen of a main's windows up to a tick, and what it says of every run.
-use Rattle.dk_cycle.proofs.Names.{ℕ, suc, ◌≡◌, ◌+◌, ◌*◌, ◌/◌, ◌%◌, ◌<◌, ◌≤◌, ◌∙◌, ◌||◌, inl, inr, Bool, true, false, List, [], ◌∷◌, take, Option, Some, None, refl, sym, ap, subst, arith, IfSome, slice_index_or, list_any, div-add-mod, mod_self, mul-le-mul_right, zero-mod, cases_Bool, cases_lt, Configuration, IsChecked, IsAccepted, period, main_level, Entry, trace, KeepsToItself, alone, entries_of, is_of_process, ProcessStandsAgain, WindowBegins, own_window, window_from, FirstWindowsTell, WindowsAsAlone, filter-in, filter-out, other-main, begins-sum, Cycle, Keeping, WaitWatch, IsKeeping, HasProgram, IsWaitWatch, IsWaits, WaitsAreTold, first_missed, main_waits, waits_by, waits_in, waits_of}
+use Rattle.dk_cycle.proofs.Names.{ℕ, suc, ◌≡◌, ◌+◌, ◌*◌, ◌/◌, ◌%◌, ◌<◌, ◌≤◌, ◌∙◌, ◌||◌, inl, inr, Bool, true, false, List, [], ◌∷◌, take, Option, Some, None, refl, sym, ap, subst, arith, IfSome, slice_index_or, list_any, div-add-mod, mod_self, mul-le-mul_right, zero-mod, cases_Bool, cases_lt, Configuration, IsChecked, IsAccepted, period, main_level, Entry, trace, KeepsToItself, alone, entries_of, is_of_process, ProcessStandsAgain, WindowBegins, own_window, window_from, FirstWindowsTell, WindowsAsAlone, filter-in, filter-out, other-main, begins-sum, Cycle, Keeping, WaitWatch, IsKeeping, HasProgram, IsFirstMissed, IsWaitWatch, IsWaits, WaitedBefore, WaitsAreTold, WaitsBefore, first_missed, main_waits, waits_by, waits_in, waits_of}
 use Rattle.dk_cycle.specs.declared.keeping.Keeping.TheVariants as kind
 
 -- of two multiples of a number the greater is greater by it at least
@@ -25,9 +25,10 @@ cases-missed None true tick none = (refl, refl)
 cases-missed None false tick none = absurd (cc)
 cases-missed (Some t) waited tick none = absurd (cc)
 
-with-missed : (missed : Option ℕ) (waited : Bool) (tick : ℕ) (P : ℕ → Type 0) → IfSome missed P → (waited ≡ false → P tick) → IfSome (first_missed missed waited tick) P
+with-missed : (missed : Option ℕ) (waited : Bool) (tick : ℕ) (P : ℕ → Type 0) → IfSome missed P → (missed ≡ None → waited ≡ false → P tick)
+    → IfSome (first_missed missed waited tick) P
 with-missed None true tick P old new = tt
-with-missed None false tick P old new = new refl
+with-missed None false tick P old new = new refl refl
 with-missed (Some t) waited tick P old new = old
 
 pub started : (c : Configuration) (programs : List (List ℕ)) (p P : ℕ) → P ≡ period c (main_level c p) → 0 < P
@@ -38,7 +39,7 @@ started c programs p P period some = record {
   now = refl;
   within = some;
   waited = refl;
-  seen = λ none t at low. absurd (omega (arith, low, some));
+  seen = λ none t at low. absurd (omega (arith, low, some, period));
   missed = tt;
 }
 
@@ -81,13 +82,13 @@ window-over c programs n w e waited passed is next waits more high = record {
       elim (cases_lt t w.begins) [
         | inl early ↦
             let room = apart (period c (main_level c w.process)) t w.begins at is.begins early in
-            is.seen both.0 t at (omega (arith, room, long))
+            is.seen both.0 t at room
         | inr late ↦
-            let same : w.begins ≡ t = omega (arith, late, before, whole, long) in
+            let same : w.begins ≡ t = omega (arith, late, before, whole) in
             subst (λ k. waits_in c programs w.process k ≡ true) same (sym here ∙ both.1)
       ];
-  missed = with-missed w.missed waited w.begins (λ t. WindowBegins c w.process t × (waits_in c programs w.process t ≡ false)) is.missed
-      (λ none. (is.begins, sym here ∙ none));
+  missed = with-missed w.missed waited w.begins (IsFirstMissed c programs w.process) is.missed
+      (λ none off. record { begins = is.begins; missed = sym here ∙ off; first = is.seen none });
 }
   where
     low : w.passed < w.period
@@ -166,27 +167,49 @@ module _ (windows : WindowsAsAlone) (tells : FirstWindowsTell) (c : Configuratio
       seen : (t : ℕ) → WindowBegins c p t → t < s + k → waits_in c programs p t ≡ true
       seen t at early =
           let room = apart P t (s + k) at again.begins_later early in
-          subst (λ q. waits_in c programs q t ≡ true) own
-          (is.seen none t (subst (λ q. WindowBegins c q t) (sym own) at) (omega (arith, room, reached, long)))
+          subst (λ q. WaitedBefore c programs q w.begins) own (is.seen none) t at (omega (arith, room, reached))
+
+  -- what one run shows of the windows before a tick is so in all
+  before-others : (tick : ℕ) → WaitedBefore c programs p tick → WaitsBefore c programs p tick
+  before-others tick waited others agree t begins over = beside-others others t agree begins ∙ waited t begins over
+
+  -- the windows that are over by the present tick
+  so-far : (n : ℕ) (w : WaitWatch) → w.process ≡ p → w.missed ≡ None → IsWaitWatch c programs n w → WaitedBefore c programs p n
+  so-far n w own none is t at over = subst (λ q. WaitedBefore c programs q w.begins) own (is.seen none) t at reached
+    where
+      begins : WindowBegins c p w.begins
+      begins = subst (λ q. WindowBegins c q w.begins) own is.begins
+
+      reached : t + P ≤ w.begins
+      reached =
+          elim (cases_lt w.begins (t + P)) [
+            | inl early ↦
+                let room = apart P w.begins (t + P) begins (begins-sum c p t P at (mod_self P)) early in
+                let now = is.now in
+                let low = is.within in
+                let long : w.period ≡ P = is.period ∙ ap (λ q. period c (main_level c q)) own in
+                absurd (omega (arith, room, now, low, over, long))
+            | inr late ↦ late
+          ]
 
   by-missed : (n : ℕ) (w : WaitWatch) (missed : Option ℕ) (cycle : Option Cycle) → w.process ≡ p → w.missed ≡ missed → IsWaitWatch c programs n w
-      → IfSome cycle (λ y. ProcessStandsAgain c programs p y.start y.length) → IfSome cycle (λ y. y.start + y.length ≤ n) → IsWaits c programs p (waits_of missed cycle)
-  by-missed n w (Some t) cycle own none is again within =
-      let m : IfSome (Some t) (λ t. WindowBegins c w.process t × (waits_in c programs w.process t ≡ false)) =
-      subst (λ (o : Option ℕ). IfSome o (λ t. WindowBegins c w.process t × (waits_in c programs w.process t ≡ false))) none is.missed in
-      let begins = subst (λ q. WindowBegins c q t) own m.0 in
-      (begins, λ others agree. beside-others others t agree begins ∙ subst (λ q. waits_in c programs q t ≡ false) own m.1)
+      → IfSome cycle (λ y. ProcessStandsAgain c programs p y.start y.length) → IfSome cycle (λ y. y.start + y.length ≤ n) → IsWaits c programs p n (waits_of missed cycle)
+  by-missed n w (Some t) cycle own some is again within =
+      let m : IsFirstMissed c programs p t =
+      subst (λ q. IsFirstMissed c programs q t) own (subst (λ (o : Option ℕ). IfSome o (IsFirstMissed c programs w.process)) some is.missed) in
+      record { begins = m.begins; missed = λ others agree. beside-others others t agree m.begins ∙ m.missed; first = before-others t m.first }
   by-missed n w None (Some y) own none is again within = always y.start y.length n w own none is within again
-  by-missed n w None None own none is again within = keeps
+  by-missed n w None None own none is again within = record { keeps = keeps; waits = before-others n (so-far n w own none is) }
 
-by-keeping : (c : Configuration) (programs : List (List ℕ)) (p : ℕ) (keeping : Keeping) (missed : Option ℕ) (cycle : Option Cycle) → IsKeeping c p (slice_index_or programs p []) keeping
-    → (KeepsToItself c p (slice_index_or programs p []) → IsWaits c programs p (waits_of missed cycle)) → IsWaits c programs p (waits_by keeping missed cycle)
-by-keeping c programs p kind.Keeps missed cycle is told = told is
-by-keeping c programs p kind.ReadsTick missed cycle is told = (λ same. absurd (cc), is)
-by-keeping c programs p kind.HasThreads missed cycle is told = (λ same. absurd (cc), is)
-by-keeping c programs p kind.HasSlack missed cycle is told = (λ same. absurd (cc), is)
+by-keeping : (c : Configuration) (programs : List (List ℕ)) (p n : ℕ) (keeping : Keeping) (missed : Option ℕ) (cycle : Option Cycle)
+    → IsKeeping c p (slice_index_or programs p []) keeping → (KeepsToItself c p (slice_index_or programs p []) → IsWaits c programs p n (waits_of missed cycle))
+    → IsWaits c programs p n (waits_by keeping missed cycle)
+by-keeping c programs p n kind.Keeps missed cycle is told = told is
+by-keeping c programs p n kind.ReadsTick missed cycle is told = (λ same. absurd (cc), is)
+by-keeping c programs p n kind.HasThreads missed cycle is told = (λ same. absurd (cc), is)
+by-keeping c programs p n kind.HasSlack missed cycle is told = (λ same. absurd (cc), is)
 
 pub waits-are-told : WindowsAsAlone → FirstWindowsTell → WaitsAreTold
 waits-are-told windows tells c programs tick search watch checked accepted is seen own =
-    by-keeping c programs search.process search.keeping watch.missed search.cycle is.keeping (λ keeps.
+    by-keeping c programs search.process tick search.keeping watch.missed search.cycle is.keeping (λ keeps.
     by-missed windows tells c programs search.process checked accepted keeps tick watch watch.missed search.cycle own refl seen is.cycle is.within)

@@ -10,9 +10,9 @@ use Rattle.dk_cycle.specs.declared.keeping.Keeping.TheVariants as kind
 abbrev pub ReadsTick : List ℕ → Type 0
 ReadsTick program = ReadsNoTick program → ⊥
 
--- the process with this program keeps to itself, or this is a reason why it doesn't
+-- the process with this program keeps to itself, or this is the first reason why it doesn't
 abbrev pub IsKeeping : Configuration → ℕ → List ℕ → Keeping → Type 0
 IsKeeping c p program kind.Keeps = KeepsToItself c p program
 IsKeeping c p program kind.ReadsTick = ReadsTick program
-IsKeeping c p program kind.HasThreads = 0 < slots c p
-IsKeeping c p program kind.HasSlack = may_ask c p ≡ true
+IsKeeping c p program kind.HasThreads = ReadsNoTick program × (0 < slots c p)
+IsKeeping c p program kind.HasSlack = ReadsNoTick program × (slots c p ≡ 0) × (may_ask c p ≡ true)

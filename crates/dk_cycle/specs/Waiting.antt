@@ -32,14 +32,41 @@ waits_in c programs p tick = list_any (main_waits p) (window_from c programs p t
 abbrev pub HasProgram : List (List ℕ) → List (List ℕ) → ℕ → Type 0
 HasProgram programs others p = slice_index_or programs p [] ≡ slice_index_or others p []
 
--- what is told of the process holds in every run in which it has this program, whatever programs the others have
-abbrev pub IsWaits : Configuration → List (List ℕ) → ℕ → Waits → Type 0
-IsWaits c programs p waits.Always =
+-- it waits in each of its windows that are over by the tick
+abbrev pub WaitedBefore : Configuration → List (List ℕ) → ℕ → ℕ → Type 0
+WaitedBefore c programs p tick =
+    (t : ℕ) → WindowBegins c p t → t + period c (main_level c p) ≤ tick → waits_in c programs p t ≡ true
+
+-- and so it does in every run in which it has this program, whatever programs the others have
+abbrev pub WaitsBefore : Configuration → List (List ℕ) → ℕ → ℕ → Type 0
+WaitsBefore c programs p tick = (others : List (List ℕ)) → HasProgram programs others p → WaitedBefore c others p tick
+
+-- of a run: the window that begins at the tick is the first in which it doesn't wait
+pub record IsFirstMissed (c : Configuration) (programs : List (List ℕ)) (p tick : ℕ) : Type 0 where
+  pub begins : WindowBegins c p tick
+  pub missed : waits_in c programs p tick ≡ false
+  pub first : WaitedBefore c programs p tick
+
+-- the same of every run in which it has this program
+pub record WaitsFirstNot (c : Configuration) (programs : List (List ℕ)) (p tick : ℕ) : Type 0 where
+  pub begins : WindowBegins c p tick
+  pub missed : (others : List (List ℕ)) → HasProgram programs others p → waits_in c others p tick ≡ false
+  pub first : WaitsBefore c programs p tick
+
+-- it keeps to itself, and waited so far
+pub record WaitsSoFar (c : Configuration) (programs : List (List ℕ)) (p ticks : ℕ) : Type 0 where
+  pub keeps : KeepsToItself c p (slice_index_or programs p [])
+  pub waits : WaitsBefore c programs p ticks
+
+-- what is told of the process after so many ticks holds in every run in which it has this program, whatever programs the others
+-- have
+abbrev pub IsWaits : Configuration → List (List ℕ) → ℕ → ℕ → Waits → Type 0
+IsWaits c programs p ticks waits.Always =
     (others : List (List ℕ)) (tick : ℕ) → HasProgram programs others p → WindowBegins c p tick → waits_in c others p tick ≡ true
-IsWaits c programs p (waits.NotFrom tick) =
-    WindowBegins c p tick × ((others : List (List ℕ)) → HasProgram programs others p → waits_in c others p tick ≡ false)
-IsWaits c programs p waits.NotWithin = KeepsToItself c p (slice_index_or programs p [])
-IsWaits c programs p (waits.Unknown keeping) = (keeping ≡ kind.Keeps → ⊥) × IsKeeping c p (slice_index_or programs p []) keeping
+IsWaits c programs p ticks (waits.NotFrom tick) = WaitsFirstNot c programs p tick
+IsWaits c programs p ticks waits.NotWithin = WaitsSoFar c programs p ticks
+IsWaits c programs p ticks (waits.Unknown keeping) =
+    (keeping ≡ kind.Keeps → ⊥) × IsKeeping c p (slice_index_or programs p []) keeping
 
 -- What a watch has seen of the run up to the tick: whether the main waited in the present window so far, and which of those
 -- that are over is the first without a wait.
@@ -49,9 +76,8 @@ pub record IsWaitWatch (c : Configuration) (programs : List (List ℕ)) (tick : 
   pub now : watch.begins + watch.passed ≡ tick
   pub within : watch.passed < watch.period
   pub waited : watch.waited ≡ list_any (main_waits watch.process) (take watch.passed (trace c programs tick))
-  pub seen : watch.missed ≡ None → (t : ℕ) → WindowBegins c watch.process t → t + watch.period ≤ watch.begins
-      → waits_in c programs watch.process t ≡ true
-  pub missed : IfSome watch.missed (λ t. WindowBegins c watch.process t × (waits_in c programs watch.process t ≡ false))
+  pub seen : watch.missed ≡ None → WaitedBefore c programs watch.process watch.begins
+  pub missed : IfSome watch.missed (IsFirstMissed c programs watch.process)
 
 -- the first window without a wait, with one more that is over
 abbrev pub first_missed : Option ℕ → Bool → ℕ → Option ℕ
@@ -86,4 +112,4 @@ abbrev pub WaitsAreTold : Type 0
 WaitsAreTold =
     (c : Configuration) (programs : List (List ℕ)) (tick : ℕ) (search : OwnSearch) (watch : WaitWatch) → IsChecked c → IsAccepted c
     → IsOwnSearch c programs tick search → IsWaitWatch c programs tick watch → watch.process ≡ search.process
-    → IsWaits c programs search.process (waits_told search watch)
+    → IsWaits c programs search.process tick (waits_told search watch)

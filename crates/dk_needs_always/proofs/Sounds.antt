@@ -67,32 +67,32 @@ unless-missed kind.ReadsTick met = let bad : Verdict.Open ≡ Verdict.Missed = m
 unless-missed kind.HasThreads met = let bad : Verdict.Open ≡ Verdict.Missed = met in cc
 unless-missed kind.HasSlack met = let bad : Verdict.Open ≡ Verdict.Missed = met in cc
 
-one-met : (w : Workload) (p : ℕ) (x : Waits) → IsWaits w.config w.programs p x → waiting_verdict (waiting_of x) ≡ Verdict.Met → WaitsInEach w p
-one-met w p waits.Always is met = is
-one-met w p (waits.NotFrom tick) is met = absurd (let bad : Verdict.Missed ≡ Verdict.Met = met in cc)
-one-met w p waits.NotWithin is met = absurd (let bad : Verdict.Open ≡ Verdict.Met = met in cc)
-one-met w p (waits.Unknown k) is met = absurd (unless-met k met)
+one-met : (w : Workload) (n p : ℕ) (x : Waits) → IsWaits w.config w.programs p n x → waiting_verdict (waiting_of x) ≡ Verdict.Met → WaitsInEach w p
+one-met w n p waits.Always is met = is
+one-met w n p (waits.NotFrom tick) is met = absurd (let bad : Verdict.Missed ≡ Verdict.Met = met in cc)
+one-met w n p waits.NotWithin is met = absurd (let bad : Verdict.Open ≡ Verdict.Met = met in cc)
+one-met w n p (waits.Unknown k) is met = absurd (unless-met k met)
 
-one-missed : (w : Workload) (p : ℕ) (x : Waits) (t : Answer) → IsWaits w.config w.programs p x → t ≡ Answer.Waits (waiting_of x)
+one-missed : (w : Workload) (n p : ℕ) (x : Waits) (t : Answer) → IsWaits w.config w.programs p n x → t ≡ Answer.Waits (waiting_of x)
     → waiting_verdict (waiting_of x) ≡ Verdict.Missed → (tick : ℕ) × (t ≡ Answer.Waits (Waiting.NotFrom tick)) × WaitsNotFrom w p tick
-one-missed w p waits.Always t is same met = absurd (let bad : Verdict.Met ≡ Verdict.Missed = met in cc)
-one-missed w p (waits.NotFrom tick) t is same met = (tick, same, is)
-one-missed w p waits.NotWithin t is same met = absurd (let bad : Verdict.Open ≡ Verdict.Missed = met in cc)
-one-missed w p (waits.Unknown k) t is same met = absurd (unless-missed k met)
+one-missed w n p waits.Always t is same met = absurd (let bad : Verdict.Met ≡ Verdict.Missed = met in cc)
+one-missed w n p (waits.NotFrom tick) t is same met = (tick, same, is)
+one-missed w n p waits.NotWithin t is same met = absurd (let bad : Verdict.Open ≡ Verdict.Missed = met in cc)
+one-missed w n p (waits.Unknown k) t is same met = absurd (unless-missed k met)
 
 abbrev answer_at : Option Waits → Answer
 answer_at o = option_map_or (λ w. Answer.Waits (waiting_of w)) o (Answer.Open Reason.NotTested)
 
-waits-met : (w : Workload) (ws : List Waits) (p : ℕ) (o : Option Waits) → AreWaits w.config w.programs ws → slice_get ws p ≡ o
+waits-met : (w : Workload) (n : ℕ) (ws : List Waits) (p : ℕ) (o : Option Waits) → AreWaits w.config w.programs n ws → slice_get ws p ≡ o
     → verdict_of (answer_at o) ≡ Verdict.Met → WaitsInEach w p
-waits-met w ws p None are is met = absurd (let bad : Verdict.Open ≡ Verdict.Met = met in cc)
-waits-met w ws p (Some x) are is met = one-met w p x (are.each p x is) met
+waits-met w n ws p None are is met = absurd (let bad : Verdict.Open ≡ Verdict.Met = met in cc)
+waits-met w n ws p (Some x) are is met = one-met w n p x (are.each p x is) met
 
-waits-missed : (w : Workload) (ws : List Waits) (p : ℕ) (o : Option Waits) (t : Answer) → AreWaits w.config w.programs ws → slice_get ws p ≡ o
+waits-missed : (w : Workload) (n : ℕ) (ws : List Waits) (p : ℕ) (o : Option Waits) (t : Answer) → AreWaits w.config w.programs n ws → slice_get ws p ≡ o
     → t ≡ answer_at o → verdict_of (answer_at o) ≡ Verdict.Missed
     → (tick : ℕ) × (t ≡ Answer.Waits (Waiting.NotFrom tick)) × WaitsNotFrom w p tick
-waits-missed w ws p None t are is same met = absurd (let bad : Verdict.Open ≡ Verdict.Missed = met in cc)
-waits-missed w ws p (Some x) t are is same met = one-missed w p x t (are.each p x is) same met
+waits-missed w n ws p None t are is same met = absurd (let bad : Verdict.Open ≡ Verdict.Missed = met in cc)
+waits-missed w n ws p (Some x) t are is same met = one-missed w n p x t (are.each p x is) same met
 
 -- ---- what is told of the run
 
@@ -113,11 +113,11 @@ pub sound : (w : Workload) (ticks : ℕ) (a : Always) → IsAlways w ticks a →
 sound w ticks a is =
     record {
       waits = λ needs row p asks met.
-          waits-met w a.waits.items p (slice_get a.waits.items p) is.waits refl
+          waits-met w ticks a.waits.items p (slice_get a.waits.items p) is.waits refl
           (ap verdict_of (sym (told-waits w needs a row p asks)) ∙ met);
       misses = λ needs row p asks missed.
           let same = told-waits w needs a row p asks in
-          waits-missed w a.waits.items p (slice_get a.waits.items p) (told w needs a row) is.waits refl same (ap verdict_of (sym same) ∙ missed);
+          waits-missed w ticks a.waits.items p (slice_get a.waits.items p) (told w needs a row) is.waits refl same (ap verdict_of (sym same) ∙ missed);
       repeats = λ needs row asks met.
           let same = told-repeats w needs a row asks in
           repeats-met w a.run.reader a.run.cycle (told w needs a row) is.run.cycle same (ap verdict_of (sym same) ∙ met);

@@ -1,11 +1,11 @@
 -- What rows that ask of all ticks are told met and missed for.
-use Rattle.std.specs.Prelude.{ℕ, ◌≡◌, ◌<◌, true, false, List, Option, Some, slice_get}
+use Rattle.std.specs.Prelude.{ℕ, ◌≡◌, ◌<◌, true, List, Option, Some, slice_get}
 use Rattle.dk_config.specs.Configuration.{Configuration}
 use Rattle.dk_loader.specs.Workload.{Workload}
 use Rattle.dk_alone.specs.Again.{WindowBegins}
 use Rattle.dk_chain_report.specs.Finding.{process_named}
 use Rattle.dk_cycle.specs.Repeating.{RepeatsForEver}
-use Rattle.dk_cycle.specs.Waiting.{HasProgram, waits_in}
+use Rattle.dk_cycle.specs.Waiting.{HasProgram, WaitsFirstNot, waits_in}
 use Rattle.dk_needs.specs.declared.needs.Need.{Need}
 use Rattle.dk_needs.specs.declared.needs.What.{What}
 use Rattle.dk_needs_check.specs.declared.row.Answer.{Answer}
@@ -24,10 +24,9 @@ WaitsInEach w p =
     (others : List (List ℕ)) (tick : ℕ) → HasProgram w.programs others p → WindowBegins w.config p tick
     → waits_in w.config others p tick ≡ true
 
--- a window of it begins at the tick, and in none of these runs it waits in that
+-- a window of it begins at the tick, the first in which it doesn't wait, in each of these runs
 abbrev pub WaitsNotFrom : Workload → ℕ → ℕ → Type 0
-WaitsNotFrom w p tick =
-    WindowBegins w.config p tick × ((others : List (List ℕ)) → HasProgram w.programs others p → waits_in w.config others p tick ≡ false)
+WaitsNotFrom w p tick = WaitsFirstNot w.config w.programs p tick
 
 -- the row asks whether the process of this number waits in each of its windows, and isn't decided
 pub record AsksWaits (c : Configuration) (needs : List Need) (row : Row) (p : ℕ) : Type 0 where
@@ -52,7 +51,7 @@ abbrev pub told : Workload → List Need → Always → Row → Answer
 told w needs a row = (decided_by w.config needs a row).answer
 
 -- A row of waits is told met only where the process waits in each of its windows, and missed only where it doesn't in the
--- window that is told. A row of what repeats is told met only where the run repeats as is told.
+-- window that is told, and in none before. A row of what repeats is told met only where the run repeats as is told.
 pub record IsSound (w : Workload) (a : Always) : Type 0 where
   pub waits : (needs : List Need) (row : Row) (p : ℕ) → AsksWaits w.config needs row p → verdict_of (told w needs a row) ≡ Verdict.Met
       → WaitsInEach w p

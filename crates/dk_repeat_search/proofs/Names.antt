@@ -8,10 +8,11 @@ pub use Rattle.dk_cpu.specs.declared.Context.{Context}
 pub use Rattle.dk_cycle.specs.Made.{IsLastMade}
 pub use Rattle.dk_cycle.specs.Own.{IsMainState, IsOwnSearch}
 pub use Rattle.dk_cycle.specs.Run.{AreProcessStates, Follows, IsLastReader, IsProcessState, IsReader, IsRunSearch, IsRunState}
+pub use Rattle.dk_cycle.specs.Seeking.{IsDone}
 pub use Rattle.dk_cycle.specs.Start.{with_start}
 pub use Rattle.dk_cycle.specs.Stretching.{GoQuietly, SearchesStay}
 pub use Rattle.dk_cycle.specs.Told.{IsRunTold, OwnIsTold, RunIsTold, made_by, own_told, reader_by, run_told}
-pub use Rattle.dk_cycle.specs.Waiting.{IsWaitWatch, IsWaits, WaitsAreTold, waits_told}
+pub use Rattle.dk_cycle.specs.Waiting.{IsWaitWatch, IsWaits, WaitsAreTold, WaitsSoFar, waits_by, waits_told}
 pub use Rattle.dk_cycle.specs.declared.Cycle.{Cycle}
 pub use Rattle.dk_cycle.specs.declared.keeping.Keeping.{Keeping}
 pub use Rattle.dk_cycle.specs.declared.made.Made.{Made}
@@ -48,7 +49,7 @@ pub use Rattle.dk_repeat_report.specs.declared.own.OwnFound.{OwnFound}
 pub use Rattle.dk_repeat_search.specs.Always.{AreTold, AreWaits, AreWatches, IsAlways, IsWatching, watched_process}
 pub use Rattle.dk_repeat_search.specs.Counting.{AreOwnFound, CountsSome, IsFound, StartsCycle}
 pub use Rattle.dk_repeat_search.specs.Repeats.{AreLast, IsRepeatsOf, KnowsLast, repeats, searched_ticks}
-pub use Rattle.dk_repeat_search.specs.Searching.{AreOwn, HasSettled, IsSearching, loaded_of, process_of}
+pub use Rattle.dk_repeat_search.specs.Searching.{AreOwn, HasSettled, HaveEnded, IsSearching, loaded_of, process_of}
 pub use Rattle.dk_repeat_search.specs.States.{AreThreads, HasContext, IsThreadAt, listed}
 pub use Rattle.dk_repeat_search.specs.declared.count.Found.{Found}
 pub use Rattle.dk_repeat_search.specs.declared.search.Searches.{Searches}
@@ -64,7 +65,7 @@ pub use Rattle.dk_trace.specs.declared.Event.{Event}
 pub use Rattle.dk_trace.specs.declared.Label.{Label}
 pub use Rattle.dk_trace.specs.declared.ThreadId.{ThreadId}
 pub use Rattle.dk_world.specs.Run.{trace, world}
-pub use Rattle.std.proofs.Common.{Bool, List, None, Option, Some, [], ap, arith, false, get_or, inl, inr, length, map, refl, rules, set, subst, suc, sym, take, true, zero, ℕ, ◌%◌, ◌*◌, ◌++◌, ◌+◌, ◌-◌, ◌/◌, ◌<◌, ◌==◌, ◌∙◌, ◌∷◌, ◌≡◌, ◌≢◌, ◌≤◌}
+pub use Rattle.std.proofs.Common.{Bool, List, None, Option, Some, [], ap, arith, false, get_or, inl, inr, length, map, refl, rules, set, subst, suc, sym, take, true, zero, ℕ, ◌%◌, ◌*◌, ◌++◌, ◌+◌, ◌-◌, ◌/◌, ◌<◌, ◌==◌, ◌∙◌, ◌∷◌, ◌≡◌, ◌≢◌, ◌≤◌, ◌⊎◌}
 pub use Rattle.std.proofs.Math.Bool.{or-true}
 pub use Rattle.std.proofs.Math.Nat.{div-add-mod}
 pub use Rattle.std.proofs.Math.Seq.{get_or-append_seam, take-append-add}

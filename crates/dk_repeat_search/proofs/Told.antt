@@ -21,6 +21,7 @@ has-settled k v s run tick of now is settled =
       is = record { run = there.is; own = is.own; programs = is.programs };
       first = there.first;
       had = λ none. had s.run.cycle there.start (sym there.cycle ∙ none);
+      own = refl;
     }
 
 -- what was found by the searches up to a tick of a kernel, with what is counted of cycles up to a later one

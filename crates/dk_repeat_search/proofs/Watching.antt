@@ -1,6 +1,7 @@
 -- What is told of each process's windows.
-use Rattle.dk_repeat_search.proofs.Names.{ℕ, zero, suc, ◌≡◌, ◌+◌, ◌<◌, ◌≤◌, ◌≢◌, ◌∙◌, ◌∷◌, ◌++◌, inl, inr, List, [], length, get_or, set, map, false, None, refl, sym, ap, subst, arith, slice_index_or, range_with_len, cases_eq, get_or-set_other, get_or-set_same, get_or_append_left, length-map, length-set, length_push, get_or-range_with_len, length-range_with_len, get_or_from_slice_get, slice_get_within, get_or-append_seam, Configuration, IsChecked, IsAccepted, Workload, IsLoaded, Running, OwnSearch, RunTold, IsLastMade, IsLastReader, IsRunTold, RunIsTold, run_told, Waits, WaitWatch, IsWaits, WaitsAreTold, waits_told, Searches, AreOwn, HasSettled, loaded_of, process_of, AreTold, AreWaits, AreWatches, watched_process}
+use Rattle.dk_repeat_search.proofs.Names.{ℕ, zero, suc, ◌≡◌, ◌+◌, ◌<◌, ◌≤◌, ◌≢◌, ◌∙◌, ◌∷◌, ◌++◌, ◌⊎◌, inl, inr, List, [], length, get_or, set, map, false, None, refl, sym, ap, subst, arith, slice_index_or, range_with_len, cases_eq, get_or-set_other, get_or-set_same, get_or_append_left, length-map, length-set, length_push, get_or-range_with_len, length-range_with_len, get_or_from_slice_get, slice_get_within, get_or-append_seam, Configuration, IsChecked, IsAccepted, Workload, IsLoaded, Running, OwnSearch, RunTold, IsLastMade, IsLastReader, IsRunTold, RunIsTold, run_told, Cycle, Keeping, IsDone, Waits, WaitWatch, IsWaits, WaitsAreTold, WaitsSoFar, waits_by, waits_told, Searches, All, AreOwn, HasSettled, HaveEnded, Option, Some, loaded_of, process_of, AreTold, AreWaits, AreWatches, watched_process}
 use Rattle.dk_cycle.specs.declared.keeping.Keeping.TheVariants as kind
+use Rattle.dk_cycle.specs.declared.waiting.Waits.TheVariants as what
 use Rattle.dk_repeat_search.proofs.Places.{many-own}
 
 abbrev pub no_search : OwnSearch
@@ -39,11 +40,29 @@ at-place f xs n i d are less =
     get-mapped f (x ∷ xs) zero d = refl
     get-mapped f (x ∷ xs) (suc i) d = get-mapped f xs i d
 
+-- where it isn't known of a process that keeps to itself, its search isn't done
+open-by : (keeping : Keeping) (missed : Option ℕ) (cycle : Option Cycle) → waits_by keeping missed cycle ≡ what.NotWithin
+    → (keeping ≡ kind.Keeps) × (cycle ≡ None)
+open-by kind.Keeps (Some t) cycle is = absurd (cc)
+open-by kind.Keeps None (Some y) is = absurd (cc)
+open-by kind.Keeps None None is = (refl, refl)
+open-by kind.ReadsTick missed cycle is = absurd (cc)
+open-by kind.HasThreads missed cycle is = absurd (cc)
+open-by kind.HasSlack missed cycle is = absurd (cc)
+
+-- what is told after some ticks is told after all that were to be searched
+waits-in : (c : Configuration) (programs : List (List ℕ)) (p n ticks : ℕ) (x : Waits) → IsWaits c programs p n x → (x ≡ what.NotWithin → n ≡ ticks)
+    → IsWaits c programs p ticks x
+waits-in c programs p n ticks what.Always is all = is
+waits-in c programs p n ticks (what.NotFrom tick) is all = is
+waits-in c programs p n ticks what.NotWithin is all = subst (λ m. WaitsSoFar c programs p m) (all refl) is
+waits-in c programs p n ticks (what.Unknown keeping) is all = is
+
 -- what is told of each process holds
-pub are-waits : WaitsAreTold → (c : Configuration) (programs : List (List ℕ)) (tick : ℕ) (own : List OwnSearch) (watches : List WaitWatch) (waits : List Waits) → IsChecked c
+pub are-waits : WaitsAreTold → (c : Configuration) (programs : List (List ℕ)) (tick ticks : ℕ) (own : List OwnSearch) (watches : List WaitWatch) (waits : List Waits) → IsChecked c
     → IsAccepted c → AreOwn c programs tick own → AreWatches c programs tick watches → AreTold own watches (length own) waits
-    → AreWaits c programs waits
-are-waits law c programs tick own watches waits checked accepted are seen told = record {
+    → (All IsDone own ⊎ (tick ≡ ticks)) → AreWaits c programs ticks waits
+are-waits law c programs tick ticks own watches waits checked accepted are seen told ended = record {
   many = told.all ∙ long;
   each = λ p x there.
       let low = slice_get_within waits p x there in
@@ -54,9 +73,18 @@ are-waits law c programs tick own watches waits checked accepted are seen told =
       let mine : process_of (slice_index_or own p no_search) ≡ p = at-place process_of own (length c.processes) p no_search are.processes few in
       let its : watched_process (slice_index_or watches p no_watch) ≡ p = at-place watched_process watches (length c.processes) p no_watch seen.processes few in
       let is : x ≡ waits_told (slice_index_or own p no_search) (slice_index_or watches p no_watch) = sym (get_or_from_slice_get waits p x x there) ∙ told.each p no_search no_watch x here in
-      subst (λ q. IsWaits c programs q x) mine
-      (subst (IsWaits c programs (process_of (slice_index_or own p no_search))) (sym is)
-      (law c programs tick (slice_index_or own p no_search) (slice_index_or watches p no_watch) checked accepted (are.all p no_search here) (seen.all p no_watch known) (its ∙ sym mine)));
+      waits-in c programs p tick ticks x
+      (subst (λ q. IsWaits c programs q tick x) mine
+      (subst (IsWaits c programs (process_of (slice_index_or own p no_search)) tick) (sym is)
+      (law c programs tick (slice_index_or own p no_search) (slice_index_or watches p no_watch) checked accepted (are.all p no_search here) (seen.all p no_watch known) (its ∙ sym mine))))
+      (λ hidden.
+      elim ended [
+        | inl done ↦
+            let s = slice_index_or own p no_search in
+            let both = open-by s.keeping (slice_index_or watches p no_watch).missed s.cycle (sym is ∙ hidden) in
+            absurd (done p no_search here both.0 both.1)
+        | inr same ↦ same
+      ]);
 }
   where
     long : length own ≡ length c.processes
@@ -78,19 +106,21 @@ told-in c programs n ticks told is all = record {
 
 -- what a kernel's searches and watches tell of its run
 pub always-of : (w : Workload) (ticks : ℕ) (k : Running) (watches : List WaitWatch) (before after : Searches) (run : RunTold) (waits : List Waits) → RunIsTold → WaitsAreTold → loaded_of k ≡ w
-    → IsLoaded w → HasSettled k before after → (before.run.cycle ≡ None → k.ticks ≡ ticks) → AreWatches k.config k.programs k.ticks watches → run ≡ run_told after.run
-    → AreTold after.own.items watches (length after.own.items) waits → IsRunTold w.config w.programs ticks run × AreWaits w.config w.programs waits
-always-of w ticks k watches before after run waits run-law waits-law of loaded settled all seen run-is told =
+    → IsLoaded w → HasSettled k before after → (before.run.cycle ≡ None → k.ticks ≡ ticks) → HaveEnded before k.ticks ticks → AreWatches k.config k.programs k.ticks watches
+    → run ≡ run_told after.run → AreTold after.own.items watches (length after.own.items) waits
+    → IsRunTold w.config w.programs ticks run × AreWaits w.config w.programs ticks waits
+always-of w ticks k watches before after run waits run-law waits-law of loaded settled all ended seen run-is told =
     let checked : IsChecked k.config = subst (λ (v : Workload). IsChecked v.config) (sym of) loaded.checked in
     let accepted : IsAccepted k.config = subst (λ (v : Workload). IsAccepted v.config) (sym of) loaded.accepted in
     let of-run : IsRunTold k.config k.programs ticks run =
     subst (IsRunTold k.config k.programs ticks) (sym run-is)
     (told-in k.config k.programs k.ticks ticks (run_told after.run) (run-law k.config k.programs k.ticks after.run checked accepted settled.is.run settled.first)
     (λ none. all (settled.had none))) in
-    let of-waits : AreWaits k.config k.programs waits =
-    are-waits waits-law k.config k.programs k.ticks after.own.items watches waits checked accepted settled.is.own seen told in (
+    let of-waits : AreWaits k.config k.programs ticks waits =
+    are-waits waits-law k.config k.programs k.ticks ticks after.own.items watches waits checked accepted settled.is.own seen told
+    (subst (λ (own : List OwnSearch). All IsDone own ⊎ (k.ticks ≡ ticks)) (sym settled.own) ended) in (
       subst (λ (v : Workload). IsRunTold v.config v.programs ticks run) of of-run,
-      subst (λ (v : Workload). AreWaits v.config v.programs waits) of of-waits,
+      subst (λ (v : Workload). AreWaits v.config v.programs ticks waits) of of-waits,
     )
 
 -- ---- a watch after the other sees an entry

@@ -31,13 +31,13 @@ pub record AreTold (own : List OwnSearch) (watches : List WaitWatch) (many : ℕ
   pub each : (p : ℕ) (s : OwnSearch) (w : WaitWatch) (x : Waits) → p < many
       → slice_index_or waits p x ≡ waits_told (slice_index_or own p s) (slice_index_or watches p w)
 
--- of each process, in the order of the rows, what is told of its windows holds
-pub record AreWaits (c : Configuration) (programs : List (List ℕ)) (waits : List Waits) : Type 0 where
+-- of each process, in the order of the rows, what is told of its windows after so many ticks holds
+pub record AreWaits (c : Configuration) (programs : List (List ℕ)) (ticks : ℕ) (waits : List Waits) : Type 0 where
   pub many : length waits ≡ length c.processes
-  pub each : (p : ℕ) (x : Waits) → slice_get waits p ≡ Some x → IsWaits c programs p x
+  pub each : (p : ℕ) (x : Waits) → slice_get waits p ≡ Some x → IsWaits c programs p ticks x
 
--- the cycle of the run, as was found in so many ticks, and of each process, in the order of the rows, whether its main waits in
+-- what was found in so many ticks: the cycle of the run, and of each process, in the order of the rows, whether its main waits in
 -- each of its windows
 pub record IsAlways (w : Workload) (ticks : ℕ) (a : Always) : Type 0 where
   pub run : IsRunTold w.config w.programs ticks a.run
-  pub waits : AreWaits w.config w.programs a.waits.items
+  pub waits : AreWaits w.config w.programs ticks a.waits.items

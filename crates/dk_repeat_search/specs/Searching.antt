@@ -1,5 +1,5 @@
 -- The searches of a run and of each of its processes.
-use Rattle.std.specs.Prelude.{ℕ, ◌≡◌, List, None, length, map, All, IfSome}
+use Rattle.std.specs.Prelude.{ℕ, ◌≡◌, ◌⊎◌, List, None, length, map, All, IfSome}
 use Rattle.std.specs.List.{range_with_len}
 use Rattle.dk_config.specs.Configuration.{Configuration}
 use Rattle.dk_loader.specs.Workload.{Workload}
@@ -7,6 +7,7 @@ use Rattle.dk_kernel.specs.Running.{Running}
 use Rattle.dk_cycle.specs.declared.own.OwnSearch.{OwnSearch}
 use Rattle.dk_cycle.specs.Own.{IsOwnSearch}
 use Rattle.dk_cycle.specs.Run.{IsRunSearch}
+use Rattle.dk_cycle.specs.Seeking.{IsDone}
 use Rattle.dk_cycle.specs.Start.{StartsFirst}
 use Rattle.dk_repeat_search.specs.declared.search.Searches.{Searches}
 
@@ -27,6 +28,10 @@ pub record IsSearching (k : Running) (s : Searches) : Type 0 where
   pub own : AreOwn k.config k.programs k.ticks s.own.items
   pub programs : s.programs.items ≡ k.programs
 
+-- no search of a process looks for anything any more, or all of so many ticks have come
+abbrev pub HaveEnded : Searches → ℕ → ℕ → Type 0
+HaveEnded s ticks all = All IsDone s.own.items ⊎ (ticks ≡ all)
+
 -- the configuration of a kernel with its programs
 abbrev pub loaded_of : Running → Workload
 loaded_of k = record { config = k.config; programs = k.programs }
@@ -36,3 +41,4 @@ pub record HasSettled (k : Running) (before after : Searches) : Type 0 where
   pub is : IsSearching k after
   pub first : IfSome after.run.cycle (StartsFirst k.config k.programs)
   pub had : after.run.cycle ≡ None → before.run.cycle ≡ None
+  pub own : after.own.items ≡ before.own.items

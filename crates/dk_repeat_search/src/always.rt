@@ -50,6 +50,7 @@ fn new_watches(alloc: Global, loaded: &Loaded) -> Result<Vec<WaitWatch>, NoMemor
 impl Watching {
     ghost use Rattle.std.specs.Prelude.{◌+◌};
     ghost use Rattle.dk_repeat_search.specs.Always.{IsWatching};
+    ghost use Rattle.dk_repeat_search.specs.Searching.{HaveEnded};
 
     /// Before the first tick.
     fn of(alloc: Global, loaded: &Loaded) -> Result<Watching, NoMemory>
@@ -98,6 +99,7 @@ impl Watching {
         ensures same { kernel.new ≡ record kernel.old { ticks = kernel.new.ticks } }
         ensures ticks { kernel.new.ticks ≤ kernel.old.ticks + ticks }
         ensures all { OnOk result (self.new.searches.run.cycle ≡ None → kernel.new.ticks ≡ kernel.old.ticks + ticks) }
+        ensures ended { OnOk result (HaveEnded self.new.searches kernel.new.ticks (kernel.old.ticks + ticks)) }
     {
         self.look(alloc, kernel)?;
         for step in 0..ticks {

@@ -2,6 +2,7 @@
 ghost use Rattle.std.specs.Prelude.{[], ◌∷◌, ◌≡◌, ◌+◌, ◌%◌, ◌≤◌, ◌<◌, All, map, slice_index_or, true, None, is_some, IfOk, OnOk};
 ghost use Rattle.dk_config.specs.declared.TheConstants.{MAX_TICKS};
 ghost use Rattle.dk_cycle.specs.Own.{IsOwnSearch};
+ghost use Rattle.dk_cycle.specs.Seeking.{IsDone};
 ghost use Rattle.dk_kernel.specs.Booting.{IsLoaded};
 ghost use Rattle.dk_repeat_search.specs.Searching.{AreOwn, process_of};
 
@@ -47,6 +48,18 @@ fn own_searches(alloc: Global, loaded: &Loaded) -> Result<Vec<OwnSearch>, NoMemo
         own.push(search)?;
     }
     Ok(own)
+}
+
+/// Whether no search looks for anything any more.
+fn are_done(own: &[OwnSearch]) -> bool
+    ensures { result ≡ true → All IsDone own.now }
+{
+    for search in own {
+        if !search.is_done() {
+            return false;
+        }
+    }
+    true
 }
 
 fn lesser(one: u32, other: u32) -> u32
@@ -164,7 +177,7 @@ fn all_may_be(states: &[ProcessState], kernel: &Kernel, processes: u8) -> bool {
 
 impl Searches {
     ghost use Rattle.dk_kernel.specs.Running.{trace_of};
-    ghost use Rattle.dk_repeat_search.specs.Searching.{HasSettled, IsSearching, begun, loaded_of};
+    ghost use Rattle.dk_repeat_search.specs.Searching.{HasSettled, HaveEnded, IsSearching, begun, loaded_of};
     ghost use Rattle.dk_cycle_start.specs.Passes.{IsPass};
 
     /// The searches before the first tick.
@@ -242,9 +255,10 @@ impl Searches {
 
     /// Whether nothing is looked for any more.
     pub(crate) fn is_done(&self) -> bool
-        ensures { result ≡ true → is_some self.now.run.cycle ≡ true }
+        ensures run { result ≡ true → is_some self.now.run.cycle ≡ true }
+        ensures own { result ≡ true → All IsDone self.now.own.items }
     {
-        self.run.is_done() && self.own.iter().all(|search| search.is_done())
+        self.run.is_done() && are_done(self.own.as_slice())
     }
 
     /// Does one tick, and hands its entry back.
@@ -311,6 +325,7 @@ impl Searches {
         ensures same { kernel.new ≡ record kernel.old { ticks = kernel.new.ticks } }
         ensures ticks { kernel.new.ticks ≤ kernel.old.ticks + ticks }
         ensures all { OnOk result (self.new.run.cycle ≡ None → kernel.new.ticks ≡ kernel.old.ticks + ticks) }
+        ensures ended { OnOk result (HaveEnded self.new kernel.new.ticks (kernel.old.ticks + ticks)) }
     {
         let mut wait = self.look(alloc, kernel)?;
         let mut left = ticks;
