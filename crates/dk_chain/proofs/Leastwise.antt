@@ -1,5 +1,5 @@
 -- A job that has not begun at a tick has had no more ticks by a later one than lie between them.
-use Rattle.dk_chain.proofs.Names.{ℕ, zero, suc, ◌≡◌, ◌+◌, ◌-◌, ◌%◌, ◌<◌, ◌≤◌, inl, inr, List, [], ◌∷◌, length, drop, refl, sym, ap, ◌∙◌, subst, arith, cases_lt, length-drop, Configuration, IsChecked, IsAccepted, period, main_level, budget, Entry, main_thread, is_budget_of, Audited, past_at, job_from, spent, main_id, Always}
+use Rattle.dk_chain.proofs.Names.{ℕ, suc, ◌≡◌, ◌+◌, ◌-◌, ◌%◌, ◌≤◌, inl, inr, List, [], ◌∷◌, length, drop, ap, ◌∙◌, arith, cases_lt, length-drop, Configuration, period, main_level, budget, Entry, is_budget_of, past_at, main_id, Always}
 use Rattle.std.specs.Prelude.{sum_by}
 use Rattle.std.proofs.lemmas.List.Sums.{sum_by-cons}
 use Rattle.dk_trace.proofs.Starts.{one_or_none}

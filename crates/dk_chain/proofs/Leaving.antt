@@ -1,22 +1,20 @@
 -- Lists of entries in which every thread but one main exits in its first tick of work: soon that main has its level and the faster ones to itself.
-use Rattle.dk_chain.proofs.Names.{ℕ, zero, suc, ◌≡◌, ◌+◌, ◌-◌, ◌*◌, ◌/◌, ◌%◌, ◌<◌, ◌≤◌, ◌⊎◌, inl, inr, Bool, true, false, cond, ◌&&◌, eqb, ltb, List, [], ◌∷◌, length, take, drop, refl, sym, ap, ◌∙◌, subst, arith, Option, Some, None, MatchOption, count_by, cases_Bool, cases_lt, nat_tests, length-drop, Configuration, IsChecked, IsAccepted, period, main_level, budget, window_start, ThreadId, Phase, Label, Choice, Entry, Has, is_budget_of, is_of, payer, Thread, threads, main_thread, share, Job, job, rem, phase, held_by, is_holding, chosen, Audited, HasChosenLabel, HadShare, past_at, job_from, count_by-cons, count-charged, spent, window, main_id, main_row, now_rem, Always, main-among, received}
+use Rattle.dk_chain.proofs.Names.{ℕ, zero, suc, ◌≡◌, ◌-◌, ◌⊎◌, inl, inr, false, cond, eqb, List, [], ◌∷◌, length, take, refl, sym, ap, ◌∙◌, subst, arith, Option, Some, None, MatchOption, cases_Bool, nat_tests, Configuration, IsChecked, IsAccepted, main_level, budget, window_start, ThreadId, Phase, Label, Choice, Entry, is_of, Thread, share, job, held_by, chosen, Audited, window, main_id, main_row}
 use Rattle.std.specs.Prelude.{map}
 use Rattle.std.specs.List.{list_any}
-use Rattle.std.proofs.Math.Nat.{zero-mod}
 use Rattle.dk_trace.specs.declared.Work.{Work}
 use Rattle.dk_trace.specs.declared.Event.{Event}
-use Rattle.dk_trace.specs.Audit.{label_of, work_of, MayHave, ThreadFollows, row_of, without_event, done_refusal, HasNextSerial}
-use Rattle.dk_trace.specs.Entries.{thread_of, does, is_wait, is_end, stops, is_same}
+use Rattle.dk_trace.specs.Audit.{label_of, work_of, MayHave, ThreadFollows, row_of}
+use Rattle.dk_trace.specs.Entries.{thread_of, does, is_wait, stops}
 use Rattle.dk_trace.specs.Holds.{aged, held_after, innermost_left}
 use Rattle.dk_trace.specs.Jobs.{is_closed, thread_rem}
-use Rattle.dk_trace.specs.Slack.{Request, last_request, request, want}
+use Rattle.dk_trace.specs.Slack.{last_request, want}
 use Rattle.dk_trace.specs.Threads.{family}
 use Rattle.dk_trace.proofs.Families.{children, family-children, lent, lent_of}
 use Rattle.dk_trace.proofs.Holds.{held-mine, held-other}
 use Rattle.dk_trace.proofs.Mains.{main_stop}
 use Rattle.dk_trace.proofs.Shares.{share-main}
-use Rattle.dk_bound.proofs.Laws.{choice_known, with_cause}
-use Rattle.dk_chain.proofs.InOrder.{Rules, rules-before, used-from, now-from}
+use Rattle.dk_bound.proofs.Laws.{choice_known}
 
 -- a tick of work of another process than p is an exit
 abbrev pub leave : ℕ → Label → Option Event

@@ -12,3 +12,4 @@ pub mod Soonest
 pub mod Leaving
 pub mod SoonestMet
 pub mod Leastwise
+pub mod Exactly

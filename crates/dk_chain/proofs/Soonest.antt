@@ -1,18 +1,16 @@
 -- A main has its k-th tick only when the kernel's own work that always comes before it is done: by counting the entries of its window.
-use Rattle.dk_chain.proofs.Names.{ℕ, zero, suc, ◌≡◌, ◌+◌, ◌-◌, ◌*◌, ◌/◌, ◌%◌, ◌<◌, ◌≤◌, ◌⊎◌, inl, inr, Bool, true, false, cond, ◌&&◌, eqb, ltb, List, [], ◌∷◌, length, take, drop, refl, sym, ap, ◌∙◌, subst, arith, Option, Some, None, count_by, ◌∣◌, cases_Bool, cases_lt, nat_tests, length-drop, div-add-mod', dvd_of_mod-eq-zero, mod-eq-zero_of_dvd, dvd_trans, mod-lt, mul-le-mul_left, Configuration, IsChecked, IsAccepted, sum_from, period, main_level, release, window_start, ThreadId, Phase, Label, Choice, Entry, Has, is_kernel_at, is_budget_of, is_of, kernel_level, payer, Thread, threads, main_thread, kernel_rem, held_by, is_holding, chosen, ready_at, Audited, past_at, job_from, count_by-cons, count-charged, spent, take-newest, main_id, main_row, same-row, threads-fit, of-payer, Passed, Turn, by_hold, by_share, kind, Always, main-among, begins_free}
-use Rattle.std.specs.Prelude.{min, max, slice_get}
-use Rattle.std.specs.List.{list_any}
+use Rattle.dk_chain.proofs.Names.{ℕ, zero, suc, ◌≡◌, ◌+◌, ◌-◌, ◌*◌, ◌/◌, ◌%◌, ◌<◌, ◌≤◌, ◌⊎◌, inl, inr, true, false, ◌&&◌, ltb, List, [], ◌∷◌, length, take, drop, refl, sym, ap, ◌∙◌, subst, arith, Option, Some, None, count_by, cases_Bool, cases_lt, nat_tests, length-drop, div-add-mod', dvd_of_mod-eq-zero, mod-eq-zero_of_dvd, dvd_trans, mod-lt, mul-le-mul_left, Configuration, IsChecked, sum_from, period, main_level, release, window_start, Entry, Has, is_kernel_at, is_budget_of, is_of, kernel_level, payer, threads, main_thread, kernel_rem, held_by, chosen, past_at, job_from, count_by-cons, count-charged, spent, take-newest, main_id, main_row, same-row, threads-fit, Turn, by_hold, by_share, kind, Always, main-among, begins_free}
+use Rattle.std.specs.Prelude.{max, slice_get}
 use Rattle.std.specs.Option.{option_map_or}
 use Rattle.std.proofs.lemmas.Bool.{and_from}
 use Rattle.std.proofs.lemmas.Nat.{mod-mul-add}
 use Rattle.std.proofs.lemmas.Map.Keys.{any_passes_from_place}
-use Rattle.dk_config.specs.Mutex.{Mutex}
 use Rattle.dk_config.specs.Windows.{ceiling}
 use Rattle.dk_config.specs.Certification.{uses, is_user}
 use Rattle.dk_config.specs.Ahead.{windows_begun}
 use Rattle.dk_config.proofs.CheckedConfig.{use_of}
 use Rattle.dk_config.proofs.Sums.{sum_from-le, sum_from-add, sum_from-eq, sum_from-zero}
-use Rattle.dk_trace.specs.Holds.{Hold, least_ceiling, level_holding, effective_level}
+use Rattle.dk_trace.specs.Holds.{Hold, least_ceiling, level_holding}
 use Rattle.dk_trace.specs.Entries.{window}
 use Rattle.dk_trace.proofs.Windows.{mod-next, count-begins}
 use Rattle.dk_trace.proofs.Starts.{kernel_paid, one_or_none}
@@ -22,10 +20,10 @@ use Rattle.dk_bound.proofs.Bounded.{past_at-later}
 use Rattle.dk_bound.proofs.ClockMoves.{windows_are_done, mod-begins}
 use Rattle.dk_bound.proofs.Demands.{kernel_rem-moves}
 use Rattle.dk_bound.proofs.Standing.{holders_known}
-use Rattle.dk_when.specs.Earliest.{may_hold_off, windows_over, always_ahead, HasRoom}
+use Rattle.dk_when.specs.Earliest.{may_hold_off, windows_over, HasRoom}
 use Rattle.dk_chain.specs.NotBefore.{HasRoomBy, NotBefore}
 use Rattle.dk_chain.proofs.InOrder.{Rules, Waits, rules-before, unbegun-start, used-from, waits-on}
-use Rattle.dk_chain.proofs.KernelFirst.{Picked, picked-of, budget-chosen, one-kernel, count-longer, take-short, all-done}
+use Rattle.dk_chain.proofs.KernelFirst.{Picked, picked-of, budget-chosen, one-kernel, take-short, all-done}
 
 -- the entries from tick s on
 abbrev pub since : ℕ → List Entry → List Entry

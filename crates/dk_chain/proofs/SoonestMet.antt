@@ -1,5 +1,5 @@
 -- The bound on how soon is met: where all others have left, a main has each tick that the kernel doesn't need.
-use Rattle.dk_chain.proofs.Names.{ℕ, zero, suc, ◌≡◌, ◌+◌, ◌-◌, ◌*◌, ◌/◌, ◌%◌, ◌<◌, ◌≤◌, ◌⊎◌, inl, inr, Bool, true, false, cond, ◌&&◌, eqb, ltb, List, [], ◌∷◌, length, take, drop, refl, sym, ap, ◌∙◌, subst, arith, Option, Some, None, count_by, ◌∣◌, cases_Bool, cases_lt, nat_tests, div-add-mod', dvd_of_mod-eq-zero, dvd_trans, le_of_dvd, Configuration, IsChecked, IsAccepted, sum_from, period, main_level, budget, release, window_start, ThreadId, Phase, Label, Choice, Entry, Has, is_kernel_at, is_budget_of, is_of, kernel_level, payer, Thread, threads, main_thread, kernel_rem, held_by, is_holding, chosen, ready_at, Audited, HadShare, past_at, job_from, count_by-cons, count-charged, spent, window, main_id, main_row, same-row, threads-fit, Passed, Turn, by_hold, by_share, now_rem, Kind, paid, lent, kernel, idle, kind, Always, main-among, passed-faster, received, job, Job, phase, share}
+use Rattle.dk_chain.proofs.Names.{ℕ, suc, ◌≡◌, ◌+◌, ◌-◌, ◌*◌, ◌/◌, ◌%◌, ◌<◌, ◌≤◌, inl, inr, true, false, eqb, ltb, List, [], ◌∷◌, length, take, drop, refl, sym, ap, ◌∙◌, subst, arith, Option, Some, None, count_by, cases_lt, nat_tests, div-add-mod', dvd_of_mod-eq-zero, dvd_trans, le_of_dvd, Configuration, IsChecked, IsAccepted, sum_from, period, main_level, budget, release, window_start, ThreadId, Phase, Label, Choice, Entry, Has, is_kernel_at, is_budget_of, payer, Thread, threads, main_thread, kernel_rem, is_holding, chosen, HadShare, past_at, job_from, count-charged, spent, main_id, main_row, threads-fit, Turn, by_hold, by_share, now_rem, Kind, paid, lent, kernel, idle, kind, main-among, passed-faster, received, job, Job, phase, share}
 use Rattle.std.specs.Prelude.{if◌then◌else◌, ◌==◌}
 use Rattle.std.proofs.lemmas.Bool.{cases_eq}
 use Rattle.std.proofs.lemmas.Nat.{mod-mul-add}
@@ -8,30 +8,25 @@ use Rattle.std.proofs.Math.Nat.{zero-mod}
 use Rattle.dk_config.specs.Ahead.{windows_begun}
 use Rattle.dk_config.proofs.Sums.{sum_from-le, sum_from-add, sum_from-eq, sum_from-term}
 use Rattle.dk_trace.specs.declared.Work.{Work}
-use Rattle.dk_trace.specs.declared.Event.{Event}
 use Rattle.dk_trace.specs.Audit.{HasChosenLabel, label_of, row_of}
 use Rattle.dk_trace.specs.Entries.{borrower}
-use Rattle.dk_trace.specs.Entries.{stops, is_same}
+use Rattle.dk_trace.specs.Entries.{stops}
 use Rattle.dk_trace.specs.Jobs.{is_closed, thread_rem}
-use Rattle.dk_trace.specs.Slack.{want}
-use Rattle.dk_trace.specs.Threads.{family, is_stopped_before}
+use Rattle.dk_trace.specs.Threads.{is_stopped_before}
 use Rattle.dk_trace.proofs.Mains.{main_stop}
-use Rattle.dk_trace.proofs.Shares.{share-main}
 use Rattle.dk_trace.proofs.Labels.{spent-payer, kernel_paid-level, kernel-says, budget-says, idle-says}
-use Rattle.dk_trace.proofs.Windows.{mod-next, count-begins}
+use Rattle.dk_trace.proofs.Windows.{mod-next}
 use Rattle.dk_trace.proofs.Starts.{kernel_paid, one_or_none}
-use Rattle.dk_trace.proofs.Same.{same-id}
-use Rattle.dk_trace.proofs.Members.{flat-has}
-use Rattle.dk_bound.specs.Statements.{Works, Borrows, HasCause}
+use Rattle.dk_bound.specs.Statements.{HasCause}
 use Rattle.dk_bound.proofs.Ahead.{windows_later, later-within, later-begins, later-start, kernel_left}
-use Rattle.dk_bound.proofs.Bounded.{past_at-later, window-start}
+use Rattle.dk_bound.proofs.Bounded.{past_at-later}
 use Rattle.dk_bound.proofs.Demands.{kernel_rem-moves}
 use Rattle.dk_bound.proofs.Laws.{with_cause, bounded}
-use Rattle.dk_when.specs.Earliest.{may_hold_off, windows_over, always_ahead, HasRoom}
-use Rattle.dk_chain.specs.NotBefore.{NeverHoldsOff, CanHave, SoonestIsMet}
+use Rattle.dk_when.specs.Earliest.{may_hold_off, windows_over, always_ahead}
+use Rattle.dk_chain.specs.NotBefore.{NeverHoldsOff, SoonestIsMet}
 use Rattle.dk_chain.proofs.InOrder.{Rules, rules-before, used-from, now-from, unbegun-start}
 use Rattle.dk_chain.proofs.KernelFirst.{budget-chosen, start-from}
-use Rattle.dk_chain.proofs.Soonest.{since, kernels, kernels-next, left-now, begins-too}
+use Rattle.dk_chain.proofs.Soonest.{since, kernels, kernels-next, begins-too}
 use Rattle.dk_chain.proofs.Leaving.{AllLeave, leave, leaving, leaving-leaves, leaving-length, leaving-audited, leave-free, leave-alone, leave-wants, own-runs, leave-share, leave-open, leave-rem}
 
 -- all that is known along such a list

@@ -6,7 +6,7 @@ use Rattle.dk_trace.specs.declared.Entry.{Entry}
 use Rattle.dk_trace.specs.Threads.{main_thread}
 use Rattle.dk_trace.specs.Audit.{Audited}
 use Rattle.dk_trace.specs.Guarantees.{past_at, job_from}
-use Rattle.dk_when.specs.Earliest.{HasRoom, may_hold_off}
+use Rattle.dk_when.specs.Earliest.{HasRoom, MayHave, may_hold_off}
 use Rattle.dk_chain.specs.Chain.{window_length}
 
 -- some number of ticks up to f, and up to a whole window of p, has room for k ticks of its main
@@ -39,3 +39,14 @@ pub record CanHave (c : Configuration) (p k f : ℕ) : Type 0 where
 abbrev pub SoonestIsMet : Configuration → Type 0
 SoonestIsMet c =
     (p k f : ℕ) → p < length c.processes → NeverHoldsOff c p → k ≤ budget c p → f ≤ window_length c p → HasRoom c p k f → CanHave c p k f
+
+-- No run has k ticks of a main sooner than after the least number of ticks that have room for them.
+abbrev pub NoSooner : Configuration → List Entry → Type 0
+NoSooner c past =
+    (p s f k from : ℕ) → p < length c.processes → s % window_length c p ≡ 0 → s + f ≤ length past → 0 < k
+    → k ≤ (job_from c (past_at past (s + f)) (main_thread c p) s).used → ((g : ℕ) → MayHave c p k g → from ≤ g) → from ≤ f
+
+-- And that number is met, where no thread of p may hold off the kernel's own work: then a run has them.
+abbrev pub SoonestIsHad : Configuration → Type 0
+SoonestIsHad c =
+    (p k from : ℕ) → p < length c.processes → NeverHoldsOff c p → k ≤ budget c p → MayHave c p k from → CanHave c p k from

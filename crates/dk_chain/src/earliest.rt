@@ -1,7 +1,7 @@
 //! How soon in its window a main can have its ticks.
 ghost use Rattle.dk_bound.specs.Laws.{Always};
-ghost use Rattle.dk_chain.specs.Least.{TakesAtLeast};
-ghost use Rattle.dk_chain.specs.NotBefore.{NotBefore, SoonestIsMet};
+ghost use Rattle.dk_chain.specs.Least.{ReactsNoSooner, TakesAtLeast};
+ghost use Rattle.dk_chain.specs.NotBefore.{NoSooner, NotBefore, SoonestIsHad, SoonestIsMet};
 ghost use Rattle.dk_config.specs.Checked.{IsAccepted, IsChecked};
 ghost use Rattle.dk_config.specs.Configuration.{Configuration};
 
@@ -21,4 +21,17 @@ pub fn not_before_met_law()
 /// their budgets.
 pub fn chain_takes_law()
     ensures { Always TakesAtLeast }
+{}
+
+/// The least number of ticks of its window with which a main may have k ticks, as `begins_from` and `done_from` of dk_when
+/// tell it, is the greatest that can be promised: no run has them sooner, and where no thread of the process may hold a
+/// mutex of a faster level than its main, a run has them then.
+pub fn no_sooner_law()
+    ensures never { Always NoSooner }
+    ensures met { (c : Configuration) → IsChecked c → IsAccepted c → SoonestIsHad c }
+{}
+
+/// A chain whose jobs each have their whole budget answers no event in a shorter time than its shortest reaction time.
+pub fn no_shorter_law()
+    ensures { Always ReactsNoSooner }
 {}

@@ -10,11 +10,15 @@ ghost use Rattle.dk_chain.specs.Chain.{ReactsInTime};
 mod earliest;
 mod in_order;
 mod reacting;
+mod shortest;
 mod sooner;
 
-pub use earliest::{chain_takes_law, not_before_law, not_before_met_law};
+pub use earliest::{
+    chain_takes_law, no_shorter_law, no_sooner_law, not_before_law, not_before_met_law,
+};
 pub use in_order::{begin_in_order_law, over_in_time_law};
 pub use reacting::{data_age, free_from, next_window, reaction, worst_event};
+pub use shortest::{reaction_jitter, shortest_reaction};
 pub use sooner::{releases_before, sooner_law};
 
 /// Whatever the programs do, a chain of processes answers each event within its reaction time: there is a window of the
