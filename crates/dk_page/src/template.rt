@@ -69,12 +69,12 @@ td.fill{width:24%;min-width:9rem}
 #levels .bar i:nth-child(1){background:var(--blue);width:calc(var(--c7)/var(--whole)*100%)}
 #levels .bar i:nth-child(2){background:repeating-linear-gradient(45deg,var(--amber) 0 5px,var(--warn-soft) 5px 9px);left:calc(var(--c7)/var(--whole)*100%);width:calc(var(--c8)/var(--whole)*100%)}
 #levels .bar i:nth-child(3){width:3px;background:var(--alert);left:calc(var(--c6)/var(--whole)*100% - 3px)}
-#by-when .bar i:nth-child(1){background:repeating-linear-gradient(135deg,var(--blue-soft) 0 4px,transparent 4px 8px);width:calc(var(--c5)/var(--c3)*100%)}
-#by-when .bar i:nth-child(2){background:var(--blue);left:calc((var(--c5) - 1)/var(--c3)*100%);width:calc((var(--c6) - var(--c5) + 1)/var(--c3)*100%)}
+#by-when .bar i:nth-child(1){background:repeating-linear-gradient(135deg,var(--blue) 0 2px,var(--blue-soft) 2px 5px);bottom:50%;left:min((var(--c5) - 1)/var(--c3)*100%,100% - 2px);width:calc((var(--c6) - var(--c5) + 1)/var(--c3)*100%);min-width:2px}
+#by-when .bar i:nth-child(2){background:var(--blue);top:50%;left:min((var(--c7) - 1)/var(--c3)*100%,100% - 2px);width:calc((var(--c8) - var(--c7) + 1)/var(--c3)*100%);min-width:2px}
 #room .bar i:nth-child(1){background:var(--blue);width:calc(var(--c5)/var(--c7)*100%)}
 #windows .bar i:nth-child(1){background:var(--blue-soft);width:calc(var(--c10)/var(--c13)*100%)}
 #windows .bar i:nth-child(2){background:var(--blue);width:calc(var(--c9)/var(--c13)*100%)}
-#levels :is(td,th):nth-child(n+4):nth-child(-n+11),#by-when :is(td,th):nth-child(n+3):nth-child(-n+8),#room :is(td,th):nth-child(n+5):nth-child(-n+10),#windows :is(td,th):nth-child(n+3):nth-child(-n+20),#inputs :is(td,th):nth-child(3){text-align:right}
+#levels :is(td,th):nth-child(n+4):nth-child(-n+11),#by-when :is(td,th):nth-child(n+3):nth-child(-n+12),#room :is(td,th):nth-child(n+5):nth-child(-n+10),#windows :is(td,th):nth-child(n+3):nth-child(-n+20),#inputs :is(td,th):nth-child(3){text-align:right}
 #windows :is(td,th):is(:nth-child(8),:nth-child(9),:nth-child(16),:nth-child(18),:nth-child(20)){display:none}
 #windows :is(td,th){padding-left:.35rem;padding-right:.35rem}
 #needs tr[data-kind=missed] td:first-child{color:var(--alert);font-weight:700}#needs tr[data-kind=open] td:first-child{color:var(--amber-ink);font-weight:700}#needs tr[data-kind=met] td:first-child{color:var(--good);font-weight:600}
@@ -103,8 +103,8 @@ td.fill{width:24%;min-width:9rem}
 h3{font-size:1rem;margin:1.2rem 0 .2rem;overflow-wrap:anywhere}
 #chains table{font-size:.84rem}#chains td{padding-left:.25rem;padding-right:.25rem}#chains td.fill{min-width:8rem}
 #chains td:is(:nth-child(1),:nth-child(3),:nth-child(5),:nth-child(7)){color:var(--soft)}
-#chains tr[data-kind=process] td:is(:nth-child(9),:nth-child(11),:nth-child(12),:nth-child(14),:nth-child(15)){color:var(--soft)}
-#chains tr[data-kind=process] td:is(:nth-child(4),:nth-child(6),:nth-child(10),:nth-child(13),:nth-child(16)){text-align:right}
+#chains tr[data-kind=process] td:is(:nth-child(9),:nth-child(11),:nth-child(12),:nth-child(14),:nth-child(15),:nth-child(17),:nth-child(19)){color:var(--soft)}
+#chains tr[data-kind=process] td:is(:nth-child(4),:nth-child(6),:nth-child(10),:nth-child(13),:nth-child(16),:nth-child(18),:nth-child(20)){text-align:right}
 #chains tr[data-kind=process] td:nth-child(2),#chains tr[data-kind=reaction] td{font-weight:600}
 #chains tr:not([data-kind=process],[data-kind=end]){display:block;width:0;white-space:nowrap;padding:.28rem 0}#chains tr:not([data-kind=process]) td{border:0}
 #chains tr:not([data-kind=process],[data-kind=end]) td:not(.fill){display:inline}
@@ -117,6 +117,7 @@ h3{font-size:1rem;margin:1.2rem 0 .2rem;overflow-wrap:anywhere}
 .legend .switching{background:var(--amber)}
 .legend .most{background:var(--blue-soft)}
 .legend .blocking{background:repeating-linear-gradient(45deg,var(--amber) 0 5px,var(--warn-soft) 5px 9px)}
+.legend .first{background:repeating-linear-gradient(135deg,var(--blue) 0 2px,var(--blue-soft) 2px 5px)}
 .legend .wait{background:repeating-linear-gradient(135deg,var(--blue-soft) 0 4px,transparent 4px 8px)}
 .legend .limit{background:var(--alert);width:3px;box-shadow:none}
 .note{border-left:4px solid var(--alert);background:var(--alert-soft);padding:.5rem .8rem;margin:.4rem 0;border-radius:2px}
@@ -138,7 +139,7 @@ header{padding-top:0}h1{font-size:19pt}h3{font-size:9.5pt}
 section{margin-bottom:1.5rem}.head,.why,h3,caption{break-after:avoid}
 tr,.tile,.note,.sign{break-inside:avoid}thead{display:table-header-group}
 table{font-size:8.6pt}th,td{padding:.18rem .45rem}
-#chains table,#totals table,#matrix{font-size:7.4pt}#matrix :is(th,td){padding-left:.2rem;padding-right:.2rem}#chains td{padding-left:.15rem;padding-right:.15rem}#chains td.fill{min-width:5rem}
+#chains table,#totals table,#by-when table,#matrix{font-size:7.4pt}#matrix :is(th,td){padding-left:.2rem;padding-right:.2rem}#chains td{padding-left:.15rem;padding-right:.15rem}#chains td.fill{min-width:5rem}
 .tiles{grid-template-columns:repeat(3,1fr);gap:.4rem}
 details{border:0;background:none}details>pre{border:1px solid var(--line)}pre{white-space:pre-wrap;font-size:7.2pt}
 details::details-content{content-visibility:visible;display:block;height:auto;block-size:auto}
@@ -225,15 +226,15 @@ pub(crate) const COLUMNS_END: &str = "</thead>
 /// What stands before the rows of by when.
 pub(crate) const BY_WHEN: &str = "<section id=\"by-when\" aria-labelledby=\"by-when-title\">
 <div class=\"head\"><h2 id=\"by-when-title\">By when</h2><span class=\"scope every\">holds for every run</span></div>
-<p class=\"why\">After so many ticks of each of its windows a process’s main thread has had its first tick, and its whole budget, in every run, whatever the programs do, unless it waited or was stopped before. The margin is what is left of the period behind that. All numbers are ticks.</p>
+<p class=\"why\">After so many ticks of each of its windows a process’s main thread has had its first tick, and its whole budget, in every run, whatever the programs do: not before the first number, and by the second, unless it waited or was stopped before. Each jitter is the second less the first: so much may the tick vary from window to window. The margin is what is left of the period. All numbers are ticks.</p>
 <div class=\"scroll\"><table><caption class=\"hidden\">By when each main thread has its ticks</caption>
-<thead><tr><th scope=\"col\">Of</th><th scope=\"col\">Name</th><th scope=\"col\">Level</th><th scope=\"col\">Period</th><th scope=\"col\">Budget</th><th scope=\"col\">Begins by</th><th scope=\"col\">Done by</th><th scope=\"col\">Margin</th><th class=\"fill\" aria-hidden=\"true\"></th></tr></thead>
+<thead><tr><th scope=\"col\">Of</th><th scope=\"col\">Name</th><th scope=\"col\">Level</th><th scope=\"col\">Period</th><th scope=\"col\">Budget</th><th scope=\"col\">Begins from</th><th scope=\"col\">By</th><th scope=\"col\">Done from</th><th scope=\"col\">By</th><th scope=\"col\">Jitter, begins</th><th scope=\"col\">Jitter, done</th><th scope=\"col\">Margin</th><th class=\"fill\" aria-hidden=\"true\"></th></tr></thead>
 <tbody>
 ";
 
 /// What stands behind the rows of by when: what their bars show.
 pub(crate) const BY_WHEN_END: &str = "</tbody></table></div>
-<ul class=\"legend\" aria-hidden=\"true\"><li><i class=\"wait\"></i>its first tick comes in here</li><li><i class=\"work\"></i>its whole budget has come by the end of this</li><li><i></i>margin</li></ul>
+<ul class=\"legend\" aria-hidden=\"true\"><li><i class=\"first\"></i>its first tick comes in here</li><li><i class=\"work\"></i>the last of its whole budget comes in here</li></ul>
 </section>
 ";
 
@@ -312,7 +313,7 @@ pub(crate) const NEEDS_REFUSED: &str = "<section id=\"needs\" aria-labelledby=\"
 /// What stands before the chains.
 pub(crate) const CHAINS: &str = "<section id=\"chains\" aria-labelledby=\"chains-title\">
 <div class=\"head\"><h2 id=\"chains-title\">Chains</h2><span class=\"scope every\">holds for every run</span></div>
-<p class=\"why\">How long each process of a chain takes to answer what the one before found, the last within the reaction time, in every run, whatever the programs do. All ticks are counted from an event that has to wait longest. A bar begins where the window starts in which the process answers; the whole length is the reaction time.</p>
+<p class=\"why\">How long each process of a chain takes to answer what the one before found, the last within the reaction time, in every run, whatever the programs do. All ticks are counted from an event that has to wait longest. A bar begins where the window starts in which the process answers; the whole length is the reaction time. What the processes wait for their windows, and take from then on, is that time together. In fewer ticks than the shortest no chain of whole budgets has answered.</p>
 ";
 
 /// What stands before the names of a chain.

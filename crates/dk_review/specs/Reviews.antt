@@ -13,7 +13,8 @@ use Rattle.dk_margin_report.specs.Margins.{AreMargins}
 use Rattle.dk_table.specs.declared.form.Form.{Form}
 use Rattle.dk_warnings.specs.Found.{warnings}
 use Rattle.dk_warning_report.specs.WarningLines.{warnings_text}
-use Rattle.dk_when_report.specs.When.{IsWhen}
+use Rattle.show_layout.specs.When.{IsWhen}
+use Rattle.show_rows.specs.declared.row.Form.TheVariants as row_form
 use Rattle.dk_audit.specs.Lines.{IsFoundIn}
 use Rattle.dk_audit.specs.declared.finding.Finding.{Finding}
 use Rattle.dk_page.specs.Needs.{IsBoth}
@@ -35,7 +36,7 @@ use Rattle.dk_review.specs.Runs.{IsRunOf}
 
 -- by when each main has its ticks, as a text and as a table
 abbrev pub IsCertified : Configuration → Certification → Type 0
-IsCertified c (Certified when table) = IsWhen Form.Line c when.items × IsWhen Form.Record c table.items
+IsCertified c (Certified when table) = IsWhen row_form.Line c when.items × IsWhen row_form.Record c table.items
 IsCertified c (Failing level needs window) = ⊥
 
 -- that, or the first level that may miss its window

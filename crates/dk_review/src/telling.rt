@@ -8,7 +8,8 @@ ghost use Rattle.dk_margin_report.specs.Margins.{AreMargins};
 ghost use Rattle.dk_table.specs.declared.form.Form.{Form};
 ghost use Rattle.dk_warnings.specs.Found.{warnings};
 ghost use Rattle.dk_warning_report.specs.WarningLines.{warnings_text};
-ghost use Rattle.dk_when_report.specs.When.{IsWhen};
+ghost use Rattle.show_layout.specs.When.{IsWhen};
+ghost use Rattle.show_rows.specs.declared.row.Form.{Form as RowForm};
 ghost use Rattle.dk_review.specs.Reviews.{IsCertification, IsCertified, IsTold};
 
 use dk_certify::{Verdict, certify};
@@ -20,7 +21,7 @@ use dk_margin_report::{margins, margins_csv};
 use dk_page::{Certification, Told};
 use dk_warning_report::warnings as warnings_page;
 use dk_warnings::warnings;
-use dk_when_report::{when, when_csv};
+use show_layout::when_of;
 use std::alloc::Global;
 
 fn count_warnings(alloc: Global, config: &Config) -> Result<usize, NoMemory>
@@ -40,21 +41,17 @@ pub(crate) fn bytes_of(alloc: Global, page: &Page) -> Result<Vec<u8>, NoMemory>
 fn when_text(alloc: Global, config: &Config) -> Result<Vec<u8>, NoMemory>
     requires checked { IsChecked config.now }
     requires limits { IsWithinLimits config.now }
-    ensures { IfOk result (λ v. IsWhen Form.Line config.now v.items) }
+    ensures { IfOk result (λ v. IsWhen RowForm.Line config.now v.items) }
 {
-    let page = when(alloc, config)?;
-    let bytes = bytes_of(alloc, &page)?;
-    Ok(bytes)
+    when_of(alloc, show_rows::Form::Line, config)
 }
 
 fn when_table(alloc: Global, config: &Config) -> Result<Vec<u8>, NoMemory>
     requires checked { IsChecked config.now }
     requires limits { IsWithinLimits config.now }
-    ensures { IfOk result (λ v. IsWhen Form.Record config.now v.items) }
+    ensures { IfOk result (λ v. IsWhen RowForm.Record config.now v.items) }
 {
-    let page = when_csv(alloc, config)?;
-    let bytes = bytes_of(alloc, &page)?;
-    Ok(bytes)
+    when_of(alloc, show_rows::Form::Record, config)
 }
 
 fn certificate_bytes(alloc: Global, config: &Config) -> Result<Vec<u8>, NoMemory>

@@ -8,3 +8,4 @@ whole_ready (Ok (work.Draw w)) is = absurd is
 whole_ready (Ok (work.Windows report strictness ended)) is = is
 whole_ready (Ok (work.AllWindows windows)) is = tt
 whole_ready (Ok (work.Page page ended)) is = is
+whole_ready (Ok (work.Bytes bytes ended)) is = is

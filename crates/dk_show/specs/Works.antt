@@ -23,12 +23,14 @@ IsWhole (work.Draw w) = ⊥
 IsWhole (work.Windows report strictness ended) = IsPrintable report.heading × IsEnd ended
 IsWhole (work.AllWindows windows) = Unit {0}
 IsWhole (work.Page page ended) = IsEnd ended
+IsWhole (work.Bytes bytes ended) = IsEnd ended
 
 abbrev pub IsReady : Work → Type 0
 IsReady (work.Draw w) = IsRangeReady w
 IsReady (work.Windows report strictness ended) = IsPrintable report.heading × IsEnd ended
 IsReady (work.AllWindows windows) = Unit {0}
 IsReady (work.Page page ended) = IsEnd ended
+IsReady (work.Bytes bytes ended) = IsEnd ended
 
 -- the text that it writes
 abbrev pub HasText : Work → List ℕ → Type 0
@@ -37,6 +39,7 @@ HasText (work.Draw w) text =
 HasText (work.Windows report strictness ended) text = text ≡ kept_lines strictness report.heading report.kept
 HasText (work.AllWindows windows) text = text ≡ windows
 HasText (work.Page page ended) text = text ≡ page
+HasText (work.Bytes bytes ended) text = text ≡ bytes.items
 
 -- how it ends once that is written
 abbrev pub ended_of : Work → Status
@@ -44,6 +47,7 @@ ended_of (work.Draw w) = status.Done
 ended_of (work.Windows report strictness ended) = ended
 ended_of (work.AllWindows windows) = status.Done
 ended_of (work.Page page ended) = ended
+ended_of (work.Bytes bytes ended) = ended
 
 -- The work writes a text that stands, and so does a refusal that isn't silent.
 abbrev pub ComesTo : (List ℕ → Status → Type 0) → Result Work Refusal → Type 0

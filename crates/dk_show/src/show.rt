@@ -84,6 +84,19 @@ fn put_page<S: Sink>(page: &Page, ended: Status, sink: &mut S) -> Status
     }
 }
 
+/// Writes the bytes of a text.
+fn put_bytes<S: Sink>(bytes: &[u8], ended: Status, sink: &mut S) -> Status
+    requires { IsEnd ended }
+    ensures left { Leaves S.seen (λ text s. (text ≡ bytes.now) × (s ≡ ended))
+        sink.old sink.new result }
+    ensures only { (result ≡ ended) ⊎ (result ≡ Status.SinkFault) }
+{
+    match write_all_to(sink, bytes) {
+        Ok(()) => ended,
+        Err(_) => Status::SinkFault,
+    }
+}
+
 /// Writes what threads did in their windows.
 fn put_windows<S: Sink>(
     report: &WindowReport,
@@ -128,6 +141,7 @@ fn put<S: Sink>(alloc: Global, work: &Work, sink: &mut S) -> Status
         Work::Windows(report, strictness, ended) => put_windows(report, *strictness, *ended, sink),
         Work::AllWindows(windows) => put_all(windows, sink),
         Work::Page(page, ended) => put_page(page, *ended, sink),
+        Work::Bytes(bytes, ended) => put_bytes(bytes.as_slice(), *ended, sink),
     }
 }
 

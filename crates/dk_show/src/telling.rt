@@ -8,8 +8,8 @@ ghost use Rattle.dk_show.specs.Leaves.{Reads};
 ghost use Rattle.dk_certify_report.specs.Certificate.{certificate_of};
 ghost use Rattle.dk_margin_report.specs.Margins.{AreMargins};
 ghost use Rattle.dk_warning_report.specs.WarningLines.{warnings_of};
-ghost use Rattle.dk_when_report.specs.When.{IsWhen};
-ghost use Rattle.dk_show.specs.Output.{IsOfDocument, IsOfNamed, IsToldOf, certified_end, form_of};
+ghost use Rattle.show_layout.specs.When.{IsWhen};
+ghost use Rattle.dk_show.specs.Output.{IsOfDocument, IsOfNamed, IsToldOf, certified_end, form_of, row_form_of};
 ghost use Rattle.dk_show.specs.Works.{ComesTo, IsMade, IsWhole};
 
 use crate::files::file_at;
@@ -24,18 +24,19 @@ use dk_margin_report::{margins, margins_csv};
 use dk_outside::Depot;
 use dk_show_request::{TellRequest, Telling};
 use dk_warning_report::{warnings, warnings_csv};
-use dk_when_report::{when, when_csv};
+use show_layout::when_of;
+use show_rows::Form;
 use std::alloc::Global;
 
-fn when_page(alloc: Global, as_csv: bool, config: &Config) -> Result<Page, NoMemory>
+fn when_bytes(alloc: Global, as_csv: bool, config: &Config) -> Result<Vec<u8>, NoMemory>
     requires checked { IsChecked config.now }
     requires limits { IsWithinLimits config.now }
-    ensures { IfOk result (λ page. IsWhen (form_of as_csv) config.now page) }
+    ensures { IfOk result (λ v. IsWhen (row_form_of as_csv) config.now v.items) }
 {
     if as_csv {
-        when_csv(alloc, config)
+        when_of(alloc, Form::Record, config)
     } else {
-        when(alloc, config)
+        when_of(alloc, Form::Line, config)
     }
 }
 
@@ -78,7 +79,7 @@ fn warnings_page(alloc: Global, as_csv: bool, config: &Config) -> Result<Page, N
     }
 }
 
-/// By when each main has its ticks, where the configuration is certified.
+/// From when and by when each main has its ticks, where the configuration is certified.
 fn when_work(alloc: Global, as_csv: bool, config: &Config) -> Result<Work, Refusal>
     requires checked { IsChecked config.now }
     requires limits { IsWithinLimits config.now }
@@ -86,7 +87,7 @@ fn when_work(alloc: Global, as_csv: bool, config: &Config) -> Result<Work, Refus
     ensures made { IsMade IsWhole result }
 {
     match certify(config) {
-        Verdict::Accepted(_) => Ok(Work::Page(when_page(alloc, as_csv, config)?, Status::Done)),
+        Verdict::Accepted(_) => Ok(Work::Bytes(when_bytes(alloc, as_csv, config)?, Status::Done)),
         Verdict::Fails {
             level,
             needs,

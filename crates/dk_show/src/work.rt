@@ -38,6 +38,8 @@ pub(crate) enum Work {
     AllWindows(AllWindows),
     /// A whole page, and the status of the call once it is written.
     Page(Page, Status),
+    /// The bytes of a whole text, and the same.
+    Bytes(Vec<u8>, Status),
 }
 
 /// Writes the drawing.

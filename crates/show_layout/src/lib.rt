@@ -5,4 +5,4 @@
 
 mod timings;
 
-pub use timings::when;
+pub use timings::{when, when_of};

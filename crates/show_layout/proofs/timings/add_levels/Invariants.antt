@@ -4,4 +4,4 @@ use Rattle.show_layout.proofs.timings.add_levels.Given as goal
 
 -- the lines so far are added
 abbrev pub invariant-loop-level : goal.invariant-loop-level
-invariant-loop-level l = AddsLines (IsLevelLine l.form l.layout) l.level l.initial.out.items l.out.items
+invariant-loop-level l = AddsLines (IsLevelLine l.form l.config) l.level l.initial.out.items l.out.items

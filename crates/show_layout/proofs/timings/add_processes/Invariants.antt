@@ -4,4 +4,4 @@ use Rattle.show_layout.proofs.timings.add_processes.Given as goal
 
 -- the lines so far are added
 abbrev pub invariant-loop-process : goal.invariant-loop-process
-invariant-loop-process l = AddsLines (IsProcessLine l.form l.layout) l.process l.initial.out.items l.out.items
+invariant-loop-process l = AddsLines (IsProcessLine l.form l.config) l.process l.initial.out.items l.out.items
