@@ -7,7 +7,10 @@ use Rattle.dk_config.specs.declared.TheConstants.{MAX_SPAN}
 use Rattle.dk_config.specs.Configuration.{Configuration}
 use Rattle.dk_chain.specs.Chain.{AreDone, free_from, next_start}
 use Rattle.dk_chain_report.specs.declared.steps.Turn.TheVariants as turn
-use Rattle.dk_chain_report.specs.Steps.{process_at, turn_at, window_at}
+use Rattle.dk_config.specs.Ahead.{IsEnough}
+use Rattle.dk_config.specs.Windows.{budget}
+use Rattle.dk_config_report.specs.Pages.{IsLeast}
+use Rattle.dk_chain_report.specs.Steps.{IsOverBy, process_at, turn_at, window_at}
 
 -- the process at this place answers in the window from this start
 pub record IsWindow (c : Configuration) (first : ℕ) (rest : List ℕ) (event place start : ℕ) : Type 0 where
@@ -61,3 +64,18 @@ turn-later c done first rest event place before here some was is other =
       | inl same ↦ absurd (other (grind (arith, nat_tests)))
       | inr apart ↦ turn-of c done first rest event place before here some was is ∙ rw apart refl
     ]
+
+-- by when the process before this place is done
+pub over-by : (c : Configuration) (first : ℕ) (rest : List ℕ) (event place p ticks start : ℕ) → 0 < place → p ≡ process_at first rest (place - 1)
+    → IsLeast (IsEnough c p (budget c p)) ticks → ((done : ℕ → ℕ) → AreDone c done → window_at c done first rest event (place - 1) ≡ start) → event ≤ start
+    → IsOverBy c first rest event place (start - event + ticks)
+over-by c first rest event zero p ticks start some one least at after = absurd (omega (arith, some))
+over-by c first rest event (suc place) p ticks start some one least at after =
+    let step : suc place - 1 ≡ place = omega arith in
+    let same : p ≡ process_at first rest place = one ∙ ap (process_at first rest) step in (
+      ticks,
+      subst (λ q. IsLeast (IsEnough c q (budget c q)) ticks) same least,
+      λ done are. (
+          let is : window_at c done first rest event place ≡ start = ap (window_at c done first rest event) (sym step) ∙ at done are in
+          omega (arith, is, after)),
+    )

@@ -1,5 +1,5 @@
 -- What is said of each process of a chain, in ticks after an event.
-use Rattle.std.specs.Prelude.{ℕ, zero, suc, ◌≡◌, ◌+◌, ◌==◌, if◌then◌else◌, List, ◌∷◌, ◌++◌, codes, decimal, slice_index_or}
+use Rattle.std.specs.Prelude.{ℕ, zero, suc, ◌≡◌, ◌+◌, ◌-◌, max, ◌==◌, if◌then◌else◌, List, ◌∷◌, ◌++◌, codes, decimal, slice_index_or}
 use Rattle.dk_config.specs.Configuration.{Configuration}
 use Rattle.dk_config.specs.Windows.{budget, main_level, period, process_name}
 use Rattle.dk_config.specs.Ahead.{IsEnough}
@@ -27,6 +27,13 @@ turn_at c done first rest event zero = turn.First
 turn_at c done first rest event (suc place) =
     if window_at c done first rest event place == window_at c done first rest event (suc place) then turn.Same else turn.Later
 
+-- by when the process before this place is done, counted from the event; the event itself for the first one
+abbrev pub IsOverBy : Configuration → ℕ → List ℕ → ℕ → ℕ → ℕ → Type 0
+IsOverBy c first rest event zero before = before ≡ 0
+IsOverBy c first rest event (suc place) before =
+    (ticks : ℕ) × IsLeast (IsEnough c (process_at first rest place) (budget c (process_at first rest place))) ticks
+    × ((done : ℕ → ℕ) → AreDone c done → window_at c done first rest event place + ticks ≡ event + before)
+
 -- the numbers of the line of the process at this place
 pub record IsStep (c : Configuration) (first : ℕ) (rest : List ℕ) (event place : ℕ) (s : Step) : Type 0 where
   pub level : s.level ≡ main_level c (process_at first rest place)
@@ -38,6 +45,9 @@ pub record IsStep (c : Configuration) (first : ℕ) (rest : List ℕ) (event pla
   -- so many are enough for its whole budget
   pub done : (ticks : ℕ) × IsLeast (IsEnough c (process_at first rest place) (budget c (process_at first rest place))) ticks
       × (s.done ≡ s.starts + ticks)
+  -- what is behind the process before it: the wait for the window, and the rest
+  pub split : (before : ℕ) × IsOverBy c first rest event place before × (s.waits ≡ s.starts - before)
+      × (s.takes ≡ s.done - max s.starts before)
 
 abbrev pub turn_word : Turn → List ℕ
 turn_word turn.First = codes "first"
@@ -53,10 +63,13 @@ times_part s = codes " window "
     ++ (turn_word s.turn
     ++ (codes " starts "
     ++ (decimal s.starts
-    ++ (codes " begins by " ++ (decimal s.begins ++ (codes " done by " ++ (decimal s.done ++ codes "\n")))))))
+    ++ (codes " begins by " ++ (decimal s.begins ++ (codes " done by " ++ decimal s.done))))))
+
+abbrev pub split_part : Step → List ℕ
+split_part s = codes " waits " ++ (decimal s.waits ++ (codes " takes " ++ (decimal s.takes ++ codes "\n")))
 
 abbrev pub step_line : List ℕ → Step → List ℕ
-step_line name s = place_part name s ++ times_part s
+step_line name s = place_part name s ++ (times_part s ++ split_part s)
 
 abbrev pub IsStepLine : Configuration → ℕ → List ℕ → ℕ → ℕ → List ℕ → Type 0
 IsStepLine c first rest event place line =

@@ -11,6 +11,6 @@ mod steps;
 mod trials;
 
 pub use finding::{Chain, find_chain};
-pub use latency::Latency;
+pub use latency::{Latency, Span};
 pub use report::chain_report;
 pub use steps::{Step, Turn};

@@ -5,7 +5,7 @@ ghost use Rattle.dk_config.specs.Windows.{process_name};
 ghost use Rattle.dk_config_report.specs.Pages.{AddsLines};
 ghost use Rattle.dk_chain.specs.Chain.{AreDone, AreThere};
 ghost use Rattle.dk_chain.specs.Pace.{most_wait};
-ghost use Rattle.dk_chain_report.specs.Steps.{IsStep, IsStepLine, place_part, process_at, step_line, times_part, turn_at, turn_word, window_at};
+ghost use Rattle.dk_chain_report.specs.Steps.{IsOverBy, IsStep, IsStepLine, place_part, process_at, split_part, step_line, times_part, turn_at, turn_word, window_at};
 
 use dk_certify::level_row;
 use dk_chain::{free_from, next_window};
@@ -39,6 +39,10 @@ pub struct Step {
     pub begins: u64,
     /// By when it has had its whole budget.
     pub done: u64,
+    /// How long the chain waits for that window, once the process before it is done.
+    pub waits: u64,
+    /// How long it takes from then on until this process is done.
+    pub takes: u64,
 }
 
 /// The process at this place of the chain.
@@ -90,6 +94,23 @@ fn turn_at(config: &Config, first: u32, rest: &[u32], event: u64, place: usize) 
     }
 }
 
+/// By when the process before this place is done, counted from the event, and the event itself for the first one.
+fn over_by(config: &Config, first: u32, rest: &[u32], event: u64, place: usize) -> u64
+    requires checked { IsChecked config.now }
+    requires limits { IsWithinLimits config.now }
+    requires there { AreThere config.now (first ∷ rest.now) }
+    requires few { length rest.now < MAX_PROCESSES }
+    requires soon { event ≤ most_wait + MAX_SPAN }
+    requires place { place ≤ length rest.now }
+    ensures { IsOverBy config.now first rest.now event place result }
+{
+    if place == 0 {
+        return 0;
+    }
+    let starts = window_at(config, first, rest, event, place - 1) - event;
+    starts + done_by(config, process_at(first, rest, place - 1)) as u64
+}
+
 fn step_at(config: &Config, first: u32, rest: &[u32], event: u64, place: usize) -> Step
     requires checked { IsChecked config.now }
     requires limits { IsWithinLimits config.now }
@@ -102,13 +123,17 @@ fn step_at(config: &Config, first: u32, rest: &[u32], event: u64, place: usize) 
     let process = process_at(first, rest, place);
     let level = config.processes.as_slice()[process as usize].level;
     let starts = window_at(config, first, rest, event, place) - event;
+    let done = starts + done_by(config, process) as u64;
+    let before = over_by(config, first, rest, event, place);
     Step {
         level,
         period: level_row(config, level as usize).period,
         turn: turn_at(config, first, rest, event, place),
         starts,
         begins: starts + begins_by(config, process) as u64,
-        done: starts + done_by(config, process) as u64,
+        done,
+        waits: starts.saturating_sub(before),
+        takes: done.saturating_sub(starts.max(before)),
     }
 }
 
@@ -137,7 +162,15 @@ fn times_part(alloc: Global, step: Step) -> Result<String, AllocError>
     let starts = step.starts;
     let begins = step.begins;
     let done = step.done;
-    format!(in alloc; " window {turn} starts {starts} begins by {begins} done by {done}\n")
+    format!(in alloc; " window {turn} starts {starts} begins by {begins} done by {done}")
+}
+
+fn split_part(alloc: Global, step: Step) -> Result<String, AllocError>
+    ensures { IfOk result (λ s. string_bytes s ≡ split_part step) }
+{
+    let waits = step.waits;
+    let takes = step.takes;
+    format!(in alloc; " waits {waits} takes {takes}\n")
 }
 
 fn step_line(alloc: Global, name: &str, step: Step) -> Result<String, AllocError>
@@ -145,6 +178,7 @@ fn step_line(alloc: Global, name: &str, step: Step) -> Result<String, AllocError
 {
     let mut line = place_part(alloc, name, step)?;
     push_line(&mut line, times_part(alloc, step)?)?;
+    push_line(&mut line, split_part(alloc, step)?)?;
     Ok(line)
 }
 
