@@ -1,10 +1,11 @@
 -- What is told of a change from one configuration to another.
-use Rattle.std.specs.Prelude.{ℕ, ◌≡◌, ◌⊎◌, Bool, true, false, List, length, if◌then◌else◌}
+use Rattle.std.specs.Prelude.{ℕ, ◌≡◌, ◌⊎◌, Bool, true, false, List, length}
 use Rattle.dk_config.specs.Configuration.{Configuration}
 use Rattle.dk_loader.specs.Workload.{Workload}
-use Rattle.dk_impact_report.specs.declared.impact.Row.{Row}
-use Rattle.dk_impact_report.specs.Impacts.{AreRows, TouchesOnly}
-use Rattle.dk_impact_report.specs.ImpactText.{impact_csv, impact_page}
+use Rattle.show_impact.specs.declared.row.Row.{Row}
+use Rattle.show_impact.specs.Impacts.{AreRows, TouchesOnly}
+use Rattle.show_impact.specs.ImpactText.{IsImpactText}
+use Rattle.show_rows.specs.declared.row.Form.TheVariants as row_form
 use Rattle.dk_show.specs.declared.status.Status.{Status}
 use Rattle.dk_show.specs.declared.status.Status.TheVariants as status
 use Rattle.dk_show.specs.Answers.{Files}
@@ -17,8 +18,9 @@ impact_end true = status.Done
 impact_end false = status.Refused
 
 -- the rows as text, or as a table
-abbrev pub impact_told : Bool → Configuration → Configuration → List Row → List ℕ
-impact_told as_csv old new rows = if as_csv then impact_csv old new rows else impact_page old new rows
+abbrev pub IsTold : Bool → Configuration → Configuration → List Row → List ℕ → Type 0
+IsTold true old new rows text = IsImpactText row_form.Record old new rows text
+IsTold false old new rows text = IsImpactText row_form.Line old new rows text
 
 -- the status tells whether the change touches none but the processes of these names
 abbrev pub EndsBy : Type 0 → Status → Type 0
@@ -28,7 +30,7 @@ EndsBy Only ended = (Only × (ended ≡ status.Done)) ⊎ ((Only → ⊥) × (en
 pub record IsOfChange (r : ChangeAsk) (old new : Workload) (text : List ℕ) (ended : Status) : Type 0 where
   pub rows : List Row
   pub found : AreRows old new (length new.config.processes) rows
-  pub told : text ≡ impact_told r.as_csv old.config new.config rows
+  pub told : IsTold r.as_csv old.config new.config rows text
   pub ends : EndsBy (TouchesOnly r.names old new) ended
 
 -- the old configuration with its programs is read first, and then the new

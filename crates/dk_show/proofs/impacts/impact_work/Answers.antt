@@ -21,10 +21,10 @@ returns-clause-asks g c =
     let name = c.as_str.ensures ∙ ap (λ (a : ChangeAsk). a.old) c.request.view_is in
     let found = subst (λ (name : List ℕ). IfSome files (λ at. loaded at name ≡ Ok c.in_ok-old.old)) name c.in_ok-old.ensures.loads in
     let first = subst (λ (name : List ℕ). Asks files (λ at. handed_load at name) (λ at. loaded at name ≡ Err why.Depot)
-    (g.D.Depot.seen c.args.depot.now) (g.D.Depot.seen c.loaded_at.new.depot) (Ok c.in_ok-old.old)) name c.in_ok-old.ensures.asks in
+    (g.D.Depot.seen c.args.depot.now) (g.D.Depot.seen c.load_at.new.depot) (Ok c.in_ok-old.old)) name c.in_ok-old.ensures.asks in
     asks_after (λ at. loaded at r.old) (λ at. handed_load at r.old) (λ at. loaded at r.old ≡ Err why.Depot) (λ at _. handed_load at r.new)
-    (λ at _. loaded at r.new ≡ Err why.Depot) (g.D.Depot.seen c.args.depot.now) (g.D.Depot.seen c.loaded_at.new.depot) (g.D.Depot.seen c.change_to.new.depot)
+    (λ at _. loaded at r.new ≡ Err why.Depot) (g.D.Depot.seen c.args.depot.now) (g.D.Depot.seen c.load_at.new.depot) (g.D.Depot.seen c.change_to.new.depot)
     c.change_to.result files _ c.in_ok-old.old first found (λ at missing. missing)
     (subst (λ (fs : Option Files). Asks fs (λ at. handed_load at r.new) (λ at. loaded at r.new ≡ Err why.Depot)
-    (g.D.Depot.seen c.loaded_at.new.depot) (g.D.Depot.seen c.change_to.new.depot) c.change_to.result)
+    (g.D.Depot.seen c.load_at.new.depot) (g.D.Depot.seen c.change_to.new.depot) c.change_to.result)
     c.in_ok-old.ensures.reads.same c.change_to.ensures.asks)

@@ -1,4 +1,0 @@
-pub mod Seen
-pub mod Rows
-pub mod Others
-pub mod Plain

@@ -1,0 +1,82 @@
+-- What is told of a process.
+use Rattle.std.specs.Prelude.{ℕ, List, [], ◌++◌, Option, Some, None, option_map, slice_get, codes}
+use Rattle.std.specs.Option.{option_map_or}
+use Rattle.dk_config.specs.Configuration.{Configuration}
+use Rattle.dk_config.specs.Windows.{budget, longest_hold, main_level, memory, period, process_name}
+use Rattle.dk_impact.specs.declared.change.Change.{Change}
+use Rattle.show_impact.specs.declared.row.Cause.{Cause}
+use Rattle.show_impact.specs.declared.row.Impact.{Impact}
+use Rattle.show_impact.specs.declared.row.Row.{Row}
+use Rattle.show_impact.specs.declared.told.Told.{Told}
+use Rattle.show_impact.specs.Impacts.{place_of}
+
+-- the number that changes, of process p, where the change is one of a number
+abbrev pub value_of : Change → Configuration → ℕ → Option ℕ
+value_of Change.Switch c p = Some c.costs.switch
+value_of Change.Call c p = Some c.costs.call
+value_of Change.Period c p = Some (period c (main_level c p))
+value_of Change.Budget c p = Some (budget c p)
+value_of Change.Memory c p = Some (memory c p)
+value_of (Change.User m) c p = None
+value_of (Change.Hold m) c p = Some (longest_hold c m)
+value_of Change.Levels c p = None
+
+-- of a process that may not be there
+abbrev pub told_value : Impact → Configuration → Option ℕ → Option ℕ
+told_value (Impact.Changed change) c (Some p) = value_of change c p
+told_value _ c p = None
+
+-- what is told of process q of the new configuration
+abbrev pub told_of : Configuration → Configuration → Row → ℕ → Told
+told_of old new row q =
+    let place = place_of old (process_name new q) in
+    record {
+      impact = Some row.impact;
+      before = told_value row.impact old place;
+      now = told_value row.impact new (Some q);
+      done_before = option_map (λ p. row.before) place;
+      done_now = Some row.after;
+    }
+
+-- and of a process that is gone
+abbrev pub told_gone : Told
+told_gone = record { impact = None; before = None; now = None; done_before = None; done_now = None }
+
+abbrev pub cause_word : Cause → List ℕ
+cause_word Cause.Threads = codes "threads"
+cause_word Cause.Slack = codes "slack"
+cause_word Cause.Clock = codes "clock"
+
+abbrev pub mutex_name : Configuration → ℕ → List ℕ
+mutex_name c m = option_map_or (λ row. row.name) (slice_get c.mutexes m) []
+
+-- A mutex is told by its name in the new configuration, and where that hasn't got it in the old. Which one it is goes by its
+-- number, by which programs name it.
+abbrev pub mutex_told : Configuration → Configuration → ℕ → List ℕ
+mutex_told old new m = option_map_or (λ row. row.name) (slice_get new.mutexes m) (mutex_name old m)
+
+abbrev pub change_text : Configuration → Configuration → Change → List ℕ
+change_text old new Change.Switch = codes "switch"
+change_text old new Change.Call = codes "call"
+change_text old new Change.Period = codes "period"
+change_text old new Change.Budget = codes "budget"
+change_text old new Change.Memory = codes "memory"
+change_text old new (Change.User m) = codes "user " ++ mutex_told old new m
+change_text old new (Change.Hold m) = codes "hold " ++ mutex_told old new m
+change_text old new Change.Levels = codes "level"
+
+-- what becomes of the process, in a word
+abbrev pub impact_word : Option Impact → List ℕ
+impact_word None = codes "gone"
+impact_word (Some Impact.Same) = codes "same"
+impact_word (Some Impact.Program) = codes "changed"
+impact_word (Some (Impact.Changed change)) = codes "changed"
+impact_word (Some (Impact.Open cause)) = codes "open"
+impact_word (Some Impact.New) = codes "new"
+
+-- and by what, if by anything
+abbrev pub key_text : Configuration → Configuration → Impact → List ℕ
+key_text old new Impact.Program = codes "program"
+key_text old new (Impact.Changed change) = change_text old new change
+key_text old new (Impact.Open cause) = cause_word cause
+key_text old new _ = []

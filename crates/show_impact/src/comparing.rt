@@ -1,0 +1,180 @@
+//! What a change does to each process.
+ghost use Rattle.std.specs.Prelude.{ℕ, ◌≡◌, ◌<◌, IfOk, IfSome, length, position};
+ghost use Rattle.std.specs.Str.{bytes_eq};
+ghost use Rattle.dk_config.specs.declared.rows.ProcessRow.{ProcessRow as Process};
+ghost use Rattle.dk_config.specs.Windows.{process_name};
+ghost use Rattle.dk_impact.specs.Changes.{IsFirst, Tells};
+ghost use Rattle.show_impact.specs.Impacts.{AreRows, EvidenceStands, IsCause, IsDone, IsFound, IsRow, IsSame, Keeps, place_of, program_of};
+
+use crate::{Cause, CertifiedLoad, Impact, Row};
+use dk_config::{NoMemory, ProcessRow};
+use dk_impact::{Change, first_change, first_windows_across_law, impact_law};
+use dk_isa::holds_call;
+use dk_when::done_by;
+use std::alloc::Global;
+
+/// The number of the call that reads the tick.
+const TIME: u8 = 9;
+
+/// The first cause for which nothing is promised of the process.
+fn cause_of(load: &CertifiedLoad, process: u32) -> Option<Cause>
+    requires { process < length load.now.config.processes }
+    ensures { IsCause load.now process result }
+{
+    let row = &load.config().processes.as_slice()[process as usize];
+    if row.threads > 0 {
+        return Some(Cause::Threads);
+    }
+    if row.slack {
+        return Some(Cause::Slack);
+    }
+    if holds_call(load.program(process), TIME) {
+        return Some(Cause::Clock);
+    }
+    None
+}
+
+/// The first thing that the process sees change, where it has the same program in both.
+fn change_of(old: &CertifiedLoad, process: u32, new: &CertifiedLoad, same: u32) -> Option<Change>
+    ensures first { IsFirst old.now.config process new.now.config same (program_of old.now process) result }
+    ensures tells { Tells old.now.config process new.now.config same (program_of old.now process) result }
+{
+    first_change(
+        old.config(),
+        process,
+        new.config(),
+        same,
+        old.program(process),
+    )
+}
+
+/// What a process with one program sees change, which keeps to itself before and now.
+fn seen_change(old: &CertifiedLoad, process: u32, new: &CertifiedLoad, same: u32) -> Impact
+    requires before { Keeps old.now process }
+    requires now { Keeps new.now same }
+    requires program { program_of old.now process ≡ program_of new.now same }
+    ensures { IsFound old.now process new.now same result }
+{
+    match change_of(old, process, new, same) {
+        None => Impact::Same,
+        Some(change) => Impact::Changed(change),
+    }
+}
+
+/// What becomes of the process of the old configuration, which is the process `same` of the new.
+fn found(old: &CertifiedLoad, process: u32, new: &CertifiedLoad, same: u32) -> Impact
+    requires old_known { process < length old.now.config.processes }
+    requires new_known { same < length new.now.config.processes }
+    ensures { IsFound old.now process new.now same result }
+{
+    if let Some(cause) = cause_of(old, process) {
+        return Impact::Open(cause);
+    }
+    if let Some(cause) = cause_of(new, same) {
+        return Impact::Open(cause);
+    }
+    if old.program(process) != new.program(same) {
+        return Impact::Program;
+    }
+    seen_change(old, process, new, same)
+}
+
+fn row_named(rows: &[ProcessRow], name: &str) -> Option<usize>
+    ensures found { result ≡ position (λ (row : Process). bytes_eq row.name name.now) rows.now }
+    ensures exists { IfSome result (λ p. p < length rows.now) }
+{
+    rows.iter().position(|row| row.name.as_str() == name)
+}
+
+/// The process of this name.
+pub(crate) fn place_of(load: &CertifiedLoad, name: &str) -> Option<u32>
+    ensures found { result ≡ place_of load.now.config name.now }
+    ensures exists { IfSome result (λ p. p < length load.now.config.processes) }
+{
+    match row_named(load.config().processes.as_slice(), name) {
+        Some(process) => Some(process as u32),
+        None => None,
+    }
+}
+
+/// After how many ticks of its window the main of the process has its budget.
+fn done_in(load: &CertifiedLoad, process: u32) -> u32
+    requires { process < length load.now.config.processes }
+    ensures { IsDone load.now.config process result }
+{
+    done_by(load.config(), process)
+}
+
+/// The name of the process.
+pub(crate) fn name_of(load: &CertifiedLoad, process: u32) -> &str
+    ensures { result.now ≡ process_name load.now.config process }
+{
+    match load.config().processes.get(process as usize) {
+        Some(row) => row.name.as_str(),
+        None => "",
+    }
+}
+
+/// What is found of a process of the new configuration.
+fn row_of(old: &CertifiedLoad, new: &CertifiedLoad, process: u32) -> Row
+    requires { process < length new.now.config.processes }
+    ensures { IsRow old.now new.now process result }
+{
+    let now = done_in(new, process);
+    match place_of(old, name_of(new, process)) {
+        Some(place) => Row {
+            impact: found(old, place, new, process),
+            before: done_in(old, place),
+            after: now,
+        },
+        None => Row {
+            impact: Impact::New,
+            before: now,
+            after: now,
+        },
+    }
+}
+
+/// How many processes the configuration has.
+pub(crate) fn how_many(load: &CertifiedLoad) -> u32
+    ensures { result ≡ length load.now.config.processes }
+{
+    load.config().processes.len() as u32
+}
+
+/// The rows of all processes, one by one.
+#[tactic(auto, using(crate::proofs::Rows::one_row))]
+fn rows_of(alloc: Global, old: &CertifiedLoad, new: &CertifiedLoad) -> Result<Vec<Row>, NoMemory>
+    ensures { IfOk result (λ rows. AreRows old.now new.now (length new.now.config.processes) rows.items) }
+{
+    let mut rows = Vec::new(alloc);
+    for process in 0..how_many(new) {
+        rows.push(row_of(old, new, process))?;
+    }
+    Ok(rows)
+}
+
+/// What is told to be the same is: its evidence stands.
+fn evidence(old: &CertifiedLoad, new: &CertifiedLoad)
+    ensures { (p q : ℕ) → IsSame old.now p new.now q → EvidenceStands old.now p new.now q }
+{
+    let _before = old.config();
+    let _after = new.config();
+    impact_law();
+    first_windows_across_law();
+}
+
+/// What a change of the configuration, and of programs, does to each process of the new configuration, in the order of its
+/// rows. `Err` is want of memory.
+pub fn impacts(
+    alloc: Global,
+    old: &CertifiedLoad,
+    new: &CertifiedLoad,
+) -> Result<Vec<Row>, NoMemory>
+    ensures rows { IfOk result (λ rows. AreRows old.now new.now (length new.now.config.processes) rows.items) }
+    // What is told to be the same is: its evidence stands.
+    ensures stands { (p q : ℕ) → IsSame old.now p new.now q → EvidenceStands old.now p new.now q }
+{
+    evidence(old, new);
+    rows_of(alloc, old, new)
+}

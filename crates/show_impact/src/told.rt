@@ -1,0 +1,216 @@
+//! What is told of a process.
+ghost use Rattle.std.specs.Prelude.{◌≡◌, ◌++◌, IfOk, option_map, string_bytes};
+ghost use Rattle.dk_config.specs.Windows.{budget, longest_hold, main_level, memory, period};
+ghost use Rattle.show_impact.specs.Told.{cause_word, change_text, impact_word, key_text, mutex_name, mutex_told, told_gone, told_of, told_value, value_of};
+
+use crate::comparing::{name_of, place_of};
+use crate::{Cause, CertifiedLoad, Impact, Row};
+use dk_config::Config;
+use dk_impact::Change;
+use std::alloc::{AllocError, Global};
+
+/// What is told of a process of either configuration.
+#[derive(Clone, Copy)]
+pub(crate) struct Told {
+    /// None: it is gone.
+    pub(crate) impact: Option<Impact>,
+    /// The number that changed, before and now.
+    pub(crate) before: Option<u32>,
+    pub(crate) now: Option<u32>,
+    /// After how many ticks of each window its main had its whole budget, and has it now.
+    pub(crate) done_before: Option<u32>,
+    pub(crate) done_now: Option<u32>,
+}
+
+fn level_of(config: &Config, process: u32) -> u32
+    ensures { result ≡ main_level config.now process }
+{
+    match config.processes.get(process as usize) {
+        Some(row) => row.level,
+        None => 0,
+    }
+}
+
+fn budget_of(config: &Config, process: u32) -> u32
+    ensures { result ≡ budget config.now process }
+{
+    match config.processes.get(process as usize) {
+        Some(row) => row.budget,
+        None => 0,
+    }
+}
+
+fn memory_of(config: &Config, process: u32) -> u32
+    ensures { result ≡ memory config.now process }
+{
+    match config.processes.get(process as usize) {
+        Some(row) => row.memory,
+        None => 0,
+    }
+}
+
+fn period_at(config: &Config, level: u32) -> u32
+    ensures { result ≡ period config.now level }
+{
+    match config.levels.get(level as usize) {
+        Some(row) => row.period,
+        None => 0,
+    }
+}
+
+fn hold_of(config: &Config, mutex: u32) -> u32
+    ensures { result ≡ longest_hold config.now mutex }
+{
+    match config.mutexes.get(mutex as usize) {
+        Some(row) => row.hold,
+        None => 0,
+    }
+}
+
+/// The number that changes, where the change is one of a number.
+fn value_of(change: Change, config: &Config, process: u32) -> Option<u32>
+    ensures { result ≡ value_of change config.now process }
+{
+    match change {
+        Change::Switch => Some(config.costs.switch),
+        Change::Call => Some(config.costs.call),
+        Change::Period => Some(period_at(config, level_of(config, process))),
+        Change::Budget => Some(budget_of(config, process)),
+        Change::Memory => Some(memory_of(config, process)),
+        Change::User(_) => None,
+        Change::Hold(mutex) => Some(hold_of(config, mutex)),
+        Change::Levels => None,
+    }
+}
+
+/// Of a process that may not be there.
+fn told_value(impact: Impact, config: &Config, process: Option<u32>) -> Option<u32>
+    ensures { result ≡ told_value impact config.now process }
+{
+    match (impact, process) {
+        (Impact::Changed(change), Some(process)) => value_of(change, config, process),
+        _ => None,
+    }
+}
+
+fn done_where(place: Option<u32>, done: u32) -> Option<u32>
+    ensures { result ≡ option_map (λ p. done) place }
+{
+    match place {
+        Some(_) => Some(done),
+        None => None,
+    }
+}
+
+/// What is told of a process of the new configuration.
+pub(crate) fn told_of(old: &CertifiedLoad, new: &CertifiedLoad, row: &Row, process: u32) -> Told
+    ensures { result ≡ told_of old.now.config new.now.config row.now process }
+{
+    let place = place_of(old, name_of(new, process));
+    Told {
+        impact: Some(row.impact),
+        before: told_value(row.impact, old.config(), place),
+        now: told_value(row.impact, new.config(), Some(process)),
+        done_before: done_where(place, row.before),
+        done_now: Some(row.after),
+    }
+}
+
+/// And of a process that is gone.
+pub(crate) fn told_gone() -> Told
+    ensures { result ≡ told_gone }
+{
+    Told {
+        impact: None,
+        before: None,
+        now: None,
+        done_before: None,
+        done_now: None,
+    }
+}
+
+fn cause_word(cause: Cause) -> &'static str
+    ensures { result.now ≡ cause_word cause }
+{
+    match cause {
+        Cause::Threads => "threads",
+        Cause::Slack => "slack",
+        Cause::Clock => "clock",
+    }
+}
+
+fn mutex_name(config: &Config, mutex: u32) -> &str
+    ensures { result.now ≡ mutex_name config.now mutex }
+{
+    match config.mutexes.get(mutex as usize) {
+        Some(row) => row.name.as_str(),
+        None => "",
+    }
+}
+
+/// The name of the mutex in the new configuration, and where that hasn't got it in the old.
+fn mutex_told<'a>(old: &'a Config, new: &'a Config, mutex: u32) -> &'a str
+    ensures { result.now ≡ mutex_told old.now new.now mutex }
+{
+    match new.mutexes.get(mutex as usize) {
+        Some(row) => row.name.as_str(),
+        None => mutex_name(old, mutex),
+    }
+}
+
+fn with_mutex(alloc: Global, word: &str, name: &str) -> Result<String, AllocError>
+    ensures { IfOk result (λ s. string_bytes s ≡ word.now ++ name.now) }
+{
+    format!(in alloc; "{word}{name}")
+}
+
+fn change_text(
+    alloc: Global,
+    old: &Config,
+    new: &Config,
+    change: Change,
+) -> Result<String, AllocError>
+    ensures { IfOk result (λ s. string_bytes s ≡ change_text old.now new.now change) }
+{
+    match change {
+        Change::Switch => String::from_str(alloc, "switch"),
+        Change::Call => String::from_str(alloc, "call"),
+        Change::Period => String::from_str(alloc, "period"),
+        Change::Budget => String::from_str(alloc, "budget"),
+        Change::Memory => String::from_str(alloc, "memory"),
+        Change::User(mutex) => with_mutex(alloc, "user ", mutex_told(old, new, mutex)),
+        Change::Hold(mutex) => with_mutex(alloc, "hold ", mutex_told(old, new, mutex)),
+        Change::Levels => String::from_str(alloc, "level"),
+    }
+}
+
+/// What becomes of the process, in a word.
+pub(crate) fn impact_word(impact: Option<Impact>) -> &'static str
+    ensures { result.now ≡ impact_word impact }
+{
+    match impact {
+        None => "gone",
+        Some(Impact::Same) => "same",
+        Some(Impact::Program) => "changed",
+        Some(Impact::Changed(_)) => "changed",
+        Some(Impact::Open(_)) => "open",
+        Some(Impact::New) => "new",
+    }
+}
+
+/// And by what, if by anything.
+pub(crate) fn key_text(
+    alloc: Global,
+    old: &Config,
+    new: &Config,
+    impact: Impact,
+) -> Result<String, AllocError>
+    ensures { IfOk result (λ s. string_bytes s ≡ key_text old.now new.now impact) }
+{
+    match impact {
+        Impact::Program => String::from_str(alloc, "program"),
+        Impact::Changed(change) => change_text(alloc, old, new, change),
+        Impact::Open(cause) => String::from_str(alloc, cause_word(cause)),
+        _ => String::from_str(alloc, ""),
+    }
+}
