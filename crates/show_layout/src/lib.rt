@@ -3,6 +3,9 @@
 //! All times are ticks of the simulated processor.
 #![tactic(auto)]
 
+mod numbers;
+mod reaches;
 mod timings;
 
+pub use numbers::margins;
 pub use timings::{when, when_of};
