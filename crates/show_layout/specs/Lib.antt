@@ -1,3 +1,6 @@
 pub mod When
 pub mod Margins
+pub mod Takes
+pub mod Certificate
+pub mod Matrix
 pub use Rattle.show_rows.specs.Lines

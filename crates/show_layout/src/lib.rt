@@ -3,9 +3,15 @@
 //! All times are ticks of the simulated processor.
 #![tactic(auto)]
 
+mod blocking;
+mod levels;
 mod numbers;
+mod parts;
 mod reaches;
+mod takes;
 mod timings;
 
+pub use levels::{certificate, uncertified};
 pub use numbers::margins;
+pub use parts::matrix;
 pub use timings::{when, when_of};

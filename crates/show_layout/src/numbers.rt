@@ -90,7 +90,8 @@ fn add_ticks(
     reach: Reach,
 ) -> Result<(), AllocError>
     ensures { OnOk result (out.new.items
-        ≡ out.old.items ++ reach_told form start.now reach (ticks_row of.kind.now of.name.now of.level of.ticks of.body reach)) }
+        ≡ out.old.items ++ reach_told form start.now reach
+        (ticks_row of.entry.kind.now of.entry.name.now of.entry.level of.entry.ticks of.entry.body reach)) }
 {
     let cells = [
         Word(of.kind),
