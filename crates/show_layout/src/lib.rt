@@ -3,6 +3,7 @@
 //! All times are ticks of the simulated processor.
 #![tactic(auto)]
 
+mod allowed;
 mod blocking;
 mod levels;
 mod numbers;
@@ -11,6 +12,7 @@ mod reaches;
 mod takes;
 mod timings;
 
+pub use allowed::warnings;
 pub use levels::{certificate, uncertified};
 pub use numbers::margins;
 pub use parts::matrix;
