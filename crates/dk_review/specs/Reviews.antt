@@ -4,15 +4,14 @@ use Rattle.dk_config.specs.Configuration.{Configuration}
 use Rattle.dk_certify.specs.declared.certifying.Verdict.{Verdict}
 use Rattle.dk_certify.specs.declared.certifying.Verdict.TheVariants as verdict
 use Rattle.dk_certify.specs.Verdicts.{verdict_of}
-use Rattle.dk_certify_matrix.specs.Matrix.{matrix_csv}
-use Rattle.dk_certify_report.specs.Certificate.{certificate_csv, certificate_text}
 use Rattle.dk_document_report.specs.Telling.{Tells}
 use Rattle.dk_loader.specs.declared.fault.LoadFault.{LoadFault}
 use Rattle.dk_loader.specs.Reading.{reading}
-use Rattle.dk_margin_report.specs.Margins.{AreMargins}
-use Rattle.dk_table.specs.declared.form.Form.{Form}
 use Rattle.dk_warnings.specs.Found.{warnings}
-use Rattle.dk_warning_report.specs.WarningLines.{warnings_text}
+use Rattle.show_layout.specs.Certificate.{IsCertificate}
+use Rattle.show_layout.specs.Margins.{AreMargins}
+use Rattle.show_layout.specs.Matrix.{IsMatrix}
+use Rattle.show_layout.specs.Warnings.{warnings_of}
 use Rattle.show_layout.specs.When.{IsWhen}
 use Rattle.show_rows.specs.declared.row.Form.TheVariants as row_form
 use Rattle.dk_audit.specs.Lines.{IsFoundIn}
@@ -46,14 +45,14 @@ IsCertification c (verdict.Fails level needs window) k = k ≡ Failing level nee
 
 -- what the commands tell of the configuration, as texts and as tables
 pub record IsTold (c : Configuration) (t : Told) : Type 0 where
-  pub certificate : t.certificate.items ≡ certificate_text c
-  pub certificate_table : t.certificate_table.items ≡ certificate_csv c
-  pub matrix : t.matrix.items ≡ matrix_csv c
+  pub certificate : IsCertificate row_form.Line c t.certificate.items
+  pub certificate_table : IsCertificate row_form.Record c t.certificate_table.items
+  pub matrix : IsMatrix c t.matrix.items
   pub certification : IsCertification c (verdict_of c) t.certification
-  pub margins : AreMargins Form.Line c t.margins.items
-  pub margins_table : AreMargins Form.Record c t.margins_table.items
+  pub margins : AreMargins row_form.Line c t.margins.items
+  pub margins_table : AreMargins row_form.Record c t.margins_table.items
   pub count : t.count ≡ length (warnings c)
-  pub warnings : t.warnings.items ≡ warnings_text c
+  pub warnings : t.warnings.items ≡ warnings_of row_form.Line c
 
 -- of a configuration that isn't certified nothing more is told
 pub record IsUncertified (file : File) (c : Configuration) (r : Review) : Type 0 where

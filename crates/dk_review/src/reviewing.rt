@@ -1,9 +1,10 @@
 //! The page of a document, of what is needed of it, and of a ledger.
-ghost use Rattle.std.specs.Prelude.{◌≡◌, ◌≤◌, IfErr, IfOk, IfSome, length, option_map};
+ghost use Rattle.std.specs.Prelude.{◌≡◌, ◌≤◌, IfErr, IfOk, IfSome, Ok, length, option_map};
 ghost use Rattle.dk_audit.specs.Lines.{IsFoundIn};
 ghost use Rattle.dk_audit.specs.declared.finding.Finding.{Finding as Found};
 ghost use Rattle.dk_config.specs.declared.TheConstants.{MAX_CONFIG_BYTES};
 ghost use Rattle.dk_config.specs.Checked.{BreaksNoRule, IsAccepted, IsChecked, IsWithinLimits};
+ghost use Rattle.dk_loader.specs.Reading.{reading};
 ghost use Rattle.dk_review.specs.declared.fault.RunFault.{RunFault as Why};
 ghost use Rattle.dk_review.specs.Files.{file_of};
 ghost use Rattle.dk_review.specs.Reviews.{IsOfOther, IsRefused, IsReview, IsReviewWith, IsReviewed, IsReviewedAlone, IsReviewedLedger, IsReviewedRun, IsReviewedWith, IsUncertified, needs_ending, run_ending};
@@ -67,9 +68,11 @@ fn of_uncertified(alloc: Global, file: NamedFile, config: &Config) -> Result<Rev
     requires unbroken { BreaksNoRule config.now }
     requires checked { IsChecked config.now }
     requires limits { IsWithinLimits config.now }
+    requires short { length file.bytes.now ≤ MAX_CONFIG_BYTES }
+    requires read { reading file.bytes.now ≡ Ok config.now }
     ensures { IfOk result (IsUncertified (file_of file.entry) config.now) }
 {
-    let told = told_of(alloc, config)?;
+    let told = told_of(alloc, config, file.bytes)?;
     let none = Additions::none(alloc);
     let bytes = page(alloc, file.name, file.bytes, &told, &none)?;
     let ending = Ending::Uncertified;
@@ -87,9 +90,11 @@ fn of_certified(
     requires checked { IsChecked config.old }
     requires limits { IsWithinLimits config.old }
     requires few { IfSome needs (λ n. length n.bytes.now ≤ MAX_CONFIG_BYTES) }
+    requires short { length file.bytes.now ≤ MAX_CONFIG_BYTES }
+    requires read { reading file.bytes.now ≡ Ok config.old }
     ensures { IfOk result (IsReviewed (file_of file.entry) (option_map file_of needs.entry) more.now config.old) }
 {
-    let told = told_of(alloc, config)?;
+    let told = told_of(alloc, config, file.bytes)?;
     let needed = needed_of(alloc, config, file.name, needs)?;
     let ending = needs_ending(needed.standing);
     let added = needed.added.with(more)?;
@@ -108,6 +113,8 @@ fn of_config(
     requires checked { IsChecked config.old }
     requires limits { IsWithinLimits config.old }
     requires few { IfSome needs (λ n. length n.bytes.now ≤ MAX_CONFIG_BYTES) }
+    requires short { length file.bytes.now ≤ MAX_CONFIG_BYTES }
+    requires read { reading file.bytes.now ≡ Ok config.old }
     ensures { IfOk result (IsReviewedAlone (file_of file.entry) (option_map file_of needs.entry) more.now config.old) }
 {
     match certify(config) {
@@ -161,10 +168,12 @@ fn page_of(
     requires checked { IsChecked config.old }
     requires limits { IsWithinLimits config.old }
     requires few { IfSome needs (λ n. length n.bytes.now ≤ MAX_CONFIG_BYTES) }
+    requires short { length file.bytes.now ≤ MAX_CONFIG_BYTES }
+    requires read { reading file.bytes.now ≡ Ok config.old }
     ensures { IfOk result (IsReviewedRun (file_of file.entry) (option_map file_of needs.entry) (file_of ledger.entry) run.now more.now
         config.old) }
 {
-    let told = told_of(alloc, config)?;
+    let told = told_of(alloc, config, file.bytes)?;
     let needed = needed_of(alloc, config, file.name, needs)?;
     let ending = run_ending(needed.standing, run.passed);
     let before = needed.added.with(more)?;
@@ -188,6 +197,8 @@ fn of_run(
     requires limits { IsWithinLimits config.old }
     requires accepted { IsAccepted config.old }
     requires few { IfSome needs (λ n. length n.bytes.now ≤ MAX_CONFIG_BYTES) }
+    requires short { length file.bytes.now ≤ MAX_CONFIG_BYTES }
+    requires read { reading file.bytes.now ≡ Ok config.old }
     ensures is { IfOk result (IsReviewedLedger (file_of file.entry) (option_map file_of needs.entry) (file_of ledger.entry) range more.now
         config.old) }
     ensures fault { IfErr result (IsFaultOf (IsFoundIn config.old ledger.entry.bytes.now Found.Header) range ledger.entry.bytes.now) }
@@ -214,6 +225,8 @@ fn of_both(
     requires checked { IsChecked config.old }
     requires limits { IsWithinLimits config.old }
     requires few { IfSome needs (λ n. length n.bytes.now ≤ MAX_CONFIG_BYTES) }
+    requires short { length file.bytes.now ≤ MAX_CONFIG_BYTES }
+    requires read { reading file.bytes.now ≡ Ok config.old }
     ensures is { IfOk result (IsReviewedWith (file_of file.entry) (option_map file_of needs.entry) (file_of ledger.entry) range more.now
         config.old) }
     ensures fault { IfErr result (IsFaultOf (IsFoundIn config.old ledger.entry.bytes.now Found.Header) range ledger.entry.bytes.now) }

@@ -1,35 +1,24 @@
 //! What the commands tell of a configuration.
-ghost use Rattle.std.specs.Prelude.{◌≡◌, IfOk, length};
-ghost use Rattle.dk_config.specs.Checked.{BreaksNoRule, IsChecked, IsWithinLimits};
+ghost use Rattle.std.specs.Prelude.{◌≡◌, ◌≤◌, IfOk, Ok, length};
+ghost use Rattle.dk_config.specs.declared.TheConstants.{MAX_CONFIG_BYTES};
 ghost use Rattle.dk_certify.specs.Verdicts.{verdict_of};
-ghost use Rattle.dk_certify_matrix.specs.Matrix.{matrix_csv};
-ghost use Rattle.dk_certify_report.specs.Certificate.{certificate_csv, certificate_text};
-ghost use Rattle.dk_margin_report.specs.Margins.{AreMargins};
-ghost use Rattle.dk_table.specs.declared.form.Form.{Form};
+ghost use Rattle.dk_loader.specs.Reading.{reading};
 ghost use Rattle.dk_warnings.specs.Found.{warnings};
-ghost use Rattle.dk_warning_report.specs.WarningLines.{warnings_text};
-ghost use Rattle.show_layout.specs.When.{IsWhen};
-ghost use Rattle.show_rows.specs.declared.row.Form.{Form as RowForm};
 ghost use Rattle.dk_review.specs.Reviews.{IsCertification, IsCertified, IsTold};
 
 use dk_certify::{Verdict, certify};
-use dk_certify_matrix::certificate_matrix as matrix_page;
-use dk_certify_report::{certificate, certificate_csv};
-use dk_config::{Config, NoMemory};
+use dk_config::{Config, Layout, NoMemory};
 use dk_config_report::Page;
-use dk_margin_report::{margins, margins_csv};
+use dk_loader::read_config;
 use dk_page::{Certification, Told};
-use dk_warning_report::warnings as warnings_page;
 use dk_warnings::warnings;
-use show_layout::when_of;
+use show_rows::Form;
 use std::alloc::Global;
 
-fn count_warnings(alloc: Global, config: &Config) -> Result<usize, NoMemory>
-    requires checked { IsChecked config.now }
-    requires limits { IsWithinLimits config.now }
-    ensures { IfOk result (λ n. n ≡ length (warnings config.now)) }
+fn count_warnings(alloc: Global, layout: &Layout) -> Result<usize, NoMemory>
+    ensures { IfOk result (λ n. n ≡ length (warnings layout.now)) }
 {
-    Ok(warnings(alloc, config)?.len())
+    Ok(warnings(alloc, layout.config())?.len())
 }
 
 pub(crate) fn bytes_of(alloc: Global, page: &Page) -> Result<Vec<u8>, NoMemory>
@@ -38,102 +27,25 @@ pub(crate) fn bytes_of(alloc: Global, page: &Page) -> Result<Vec<u8>, NoMemory>
     Ok(page.as_bytes().to_vec(alloc)?)
 }
 
-fn when_text(alloc: Global, config: &Config) -> Result<Vec<u8>, NoMemory>
-    requires checked { IsChecked config.now }
-    requires limits { IsWithinLimits config.now }
-    ensures { IfOk result (λ v. IsWhen RowForm.Line config.now v.items) }
+fn verdict_for(layout: &Layout) -> Verdict
+    ensures { result ≡ verdict_of layout.now }
 {
-    when_of(alloc, show_rows::Form::Line, config)
+    certify(layout.config())
 }
 
-fn when_table(alloc: Global, config: &Config) -> Result<Vec<u8>, NoMemory>
-    requires checked { IsChecked config.now }
-    requires limits { IsWithinLimits config.now }
-    ensures { IfOk result (λ v. IsWhen RowForm.Record config.now v.items) }
+fn certified(alloc: Global, layout: &Layout) -> Result<Certification, NoMemory>
+    ensures { IfOk result (IsCertified layout.now) }
 {
-    when_of(alloc, show_rows::Form::Record, config)
-}
-
-fn certificate_bytes(alloc: Global, config: &Config) -> Result<Vec<u8>, NoMemory>
-    requires checked { IsChecked config.now }
-    requires limits { IsWithinLimits config.now }
-    ensures { IfOk result (λ v. v.items ≡ certificate_text config.now) }
-{
-    let page = certificate(alloc, config)?;
-    let bytes = bytes_of(alloc, &page)?;
-    Ok(bytes)
-}
-
-fn certificate_table(alloc: Global, config: &Config) -> Result<Vec<u8>, NoMemory>
-    requires unbroken { BreaksNoRule config.now }
-    requires checked { IsChecked config.now }
-    requires limits { IsWithinLimits config.now }
-    ensures { IfOk result (λ v. v.items ≡ certificate_csv config.now) }
-{
-    let page = certificate_csv(alloc, config)?;
-    let bytes = bytes_of(alloc, &page)?;
-    Ok(bytes)
-}
-
-fn certificate_matrix(alloc: Global, config: &Config) -> Result<Vec<u8>, NoMemory>
-    requires checked { IsChecked config.now }
-    requires limits { IsWithinLimits config.now }
-    ensures { IfOk result (λ v. v.items ≡ matrix_csv config.now) }
-{
-    let page = matrix_page(alloc, config)?;
-    let bytes = bytes_of(alloc, &page)?;
-    Ok(bytes)
-}
-
-fn margins_bytes(alloc: Global, config: &Config) -> Result<Vec<u8>, NoMemory>
-    requires unbroken { BreaksNoRule config.now }
-    requires checked { IsChecked config.now }
-    requires limits { IsWithinLimits config.now }
-    ensures { IfOk result (λ v. AreMargins Form.Line config.now v.items) }
-{
-    let page = margins(alloc, config)?;
-    let bytes = bytes_of(alloc, &page)?;
-    Ok(bytes)
-}
-
-fn margins_table(alloc: Global, config: &Config) -> Result<Vec<u8>, NoMemory>
-    requires unbroken { BreaksNoRule config.now }
-    requires checked { IsChecked config.now }
-    requires limits { IsWithinLimits config.now }
-    ensures { IfOk result (λ v. AreMargins Form.Record config.now v.items) }
-{
-    let page = margins_csv(alloc, config)?;
-    let bytes = bytes_of(alloc, &page)?;
-    Ok(bytes)
-}
-
-fn warnings_bytes(alloc: Global, config: &Config) -> Result<Vec<u8>, NoMemory>
-    requires checked { IsChecked config.now }
-    requires limits { IsWithinLimits config.now }
-    ensures { IfOk result (λ v. v.items ≡ warnings_text config.now) }
-{
-    let page = warnings_page(alloc, config)?;
-    let bytes = bytes_of(alloc, &page)?;
-    Ok(bytes)
-}
-
-fn certified(alloc: Global, config: &Config) -> Result<Certification, NoMemory>
-    requires checked { IsChecked config.now }
-    requires limits { IsWithinLimits config.now }
-    ensures { IfOk result (IsCertified config.now) }
-{
-    let when = when_text(alloc, config)?;
-    let table = when_table(alloc, config)?;
+    let when = show_layout::when(alloc, Form::Line, layout)?;
+    let table = show_layout::when(alloc, Form::Record, layout)?;
     Ok(Certification::Certified { when, table })
 }
 
-fn certification(alloc: Global, config: &Config) -> Result<Certification, NoMemory>
-    requires checked { IsChecked config.now }
-    requires limits { IsWithinLimits config.now }
-    ensures { IfOk result (IsCertification config.now (verdict_of config.now)) }
+fn certification(alloc: Global, layout: &Layout) -> Result<Certification, NoMemory>
+    ensures { IfOk result (IsCertification layout.now (verdict_of layout.now)) }
 {
-    match certify(config) {
-        Verdict::Accepted(_) => certified(alloc, config),
+    match verdict_for(layout) {
+        Verdict::Accepted(_) => certified(alloc, layout),
         Verdict::Fails {
             level,
             needs,
@@ -146,21 +58,18 @@ fn certification(alloc: Global, config: &Config) -> Result<Certification, NoMemo
     }
 }
 
-/// What the commands tell of a configuration that breaks no rule. `Err` is want of memory.
-pub(crate) fn told_of(alloc: Global, config: &Config) -> Result<Told, NoMemory>
-    requires unbroken { BreaksNoRule config.now }
-    requires checked { IsChecked config.now }
-    requires limits { IsWithinLimits config.now }
-    ensures { IfOk result (IsTold config.now) }
+/// What the commands tell of a layout. `Err` is want of memory.
+fn told_of_layout(alloc: Global, layout: &Layout) -> Result<Told, NoMemory>
+    ensures { IfOk result (IsTold layout.now) }
 {
-    let certificate = certificate_bytes(alloc, config)?;
-    let certificate_table = certificate_table(alloc, config)?;
-    let matrix = certificate_matrix(alloc, config)?;
-    let certification = certification(alloc, config)?;
-    let margins = margins_bytes(alloc, config)?;
-    let margins_table = margins_table(alloc, config)?;
-    let warnings = warnings_bytes(alloc, config)?;
-    let count = count_warnings(alloc, config)?;
+    let certificate = show_layout::certificate(alloc, Form::Line, layout)?;
+    let certificate_table = show_layout::certificate(alloc, Form::Record, layout)?;
+    let matrix = show_layout::matrix(alloc, layout)?;
+    let certification = certification(alloc, layout)?;
+    let margins = show_layout::margins(alloc, Form::Line, layout)?;
+    let margins_table = show_layout::margins(alloc, Form::Record, layout)?;
+    let warnings = show_layout::warnings(alloc, Form::Line, layout)?;
+    let count = count_warnings(alloc, layout)?;
     Ok(Told {
         certificate,
         certificate_table,
@@ -171,4 +80,31 @@ pub(crate) fn told_of(alloc: Global, config: &Config) -> Result<Told, NoMemory>
         warnings,
         count,
     })
+}
+
+/// The layout of a document that was read as this configuration. It is read once more, since the caller's is changed in
+/// place where chains are tried. `Err` is want of memory.
+fn layout_of(alloc: Global, config: &Config, bytes: &[u8]) -> Result<Layout, NoMemory>
+    requires few { length bytes.now ≤ MAX_CONFIG_BYTES }
+    requires read { reading bytes.now ≡ Ok config.now }
+    ensures { IfOk result (λ layout. layout ≡ config.now) }
+{
+    let Ok(again) = read_config(alloc, bytes) else {
+        return Err(NoMemory);
+    };
+    match Layout::of(again) {
+        Ok(layout) => Ok(layout),
+        Err(_) => Err(NoMemory),
+    }
+}
+
+/// What the commands tell of the configuration that the document in these bytes was read as. `Err` is want of memory.
+pub(crate) fn told_of(alloc: Global, config: &Config, bytes: &[u8]) -> Result<Told, NoMemory>
+    requires few { length bytes.now ≤ MAX_CONFIG_BYTES }
+    requires read { reading bytes.now ≡ Ok config.now }
+    ensures { IfOk result (IsTold config.now) }
+{
+    let layout = layout_of(alloc, config, bytes)?;
+    let told = told_of_layout(alloc, &layout)?;
+    Ok(told)
 }

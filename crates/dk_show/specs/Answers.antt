@@ -3,7 +3,8 @@ use Rattle.std.specs.Prelude.{ℕ, Bool, true, false, codes, decimal, length, Li
 use Rattle.dk_config.specs.declared.TheConstants.{MAX_CONFIG_BYTES, MAX_LEDGER_BYTES, MAX_PROGRAM_BYTES}
 use Rattle.dk_asm.specs.declared.TheConstants.{MAX_SOURCE_BYTES}
 use Rattle.dk_fault_words.specs.FaultWords.{fault_text}
-use Rattle.dk_certify_report.specs.Certificate.{failing_text}
+use Rattle.show_layout.specs.Certificate.{overload_told}
+use Rattle.show_rows.specs.declared.row.Form.TheVariants as row_form
 use Rattle.dk_ledger.specs.Readable.{IsNoText, IsWrongLine}
 use Rattle.dk_picture.specs.declared.reading.TheConstants.{MAX_GROUPS}
 use Rattle.dk_profile.specs.declared.TheConstants.{MAX_PROFILE_BYTES}
@@ -23,7 +24,7 @@ refusal_text why.LongConfig = codes "config:" ++ longer_than MAX_CONFIG_BYTES
 refusal_text why.LongSource = codes "asm:" ++ longer_than MAX_SOURCE_BYTES
 refusal_text why.NotToml = codes "config: not TOML\n"
 refusal_text (why.Rule f) = fault_text f
-refusal_text (why.Uncertified level needs window) = failing_text level needs window
+refusal_text (why.Uncertified level needs window) = overload_told row_form.Line level needs window
 refusal_text (why.LongProgram process) = codes "program: process " ++ (decimal process ++ longer_than MAX_PROGRAM_BYTES)
 refusal_text why.LongNeeds = codes "needs:" ++ longer_than MAX_CONFIG_BYTES
 refusal_text why.LongProfile = codes "profile:" ++ longer_than MAX_PROFILE_BYTES

@@ -6,13 +6,12 @@ use Rattle.dk_certify.specs.declared.certifying.Verdict.{Verdict}
 use Rattle.dk_certify.specs.declared.certifying.Verdict.TheVariants as verdict
 use Rattle.dk_certify.specs.Verdicts.{verdict_of}
 use Rattle.dk_document_report.specs.Telling.{Tells}
-use Rattle.dk_table.specs.declared.form.Form.{Form}
-use Rattle.dk_certify_report.specs.Certificate.{certificate_of}
-use Rattle.dk_margin_report.specs.Margins.{AreMargins}
+use Rattle.show_layout.specs.Certificate.{IsCertificate}
+use Rattle.show_layout.specs.Margins.{AreMargins}
+use Rattle.show_layout.specs.Warnings.{warnings_of}
 use Rattle.show_layout.specs.When.{IsWhen}
-use Rattle.show_rows.specs.declared.row.Form.{Form as RowForm}
+use Rattle.show_rows.specs.declared.row.Form.{Form}
 use Rattle.show_rows.specs.declared.row.Form.TheVariants as row_form
-use Rattle.dk_warning_report.specs.WarningLines.{warnings_of}
 use Rattle.dk_loader.specs.declared.fault.LoadFault.{LoadFault}
 use Rattle.dk_loader.specs.declared.fault.LoadFault.TheVariants as fault
 use Rattle.dk_loader.specs.Reading.{reading}
@@ -84,20 +83,15 @@ certified_end (verdict.Fails level needs window) = status.Uncertified
 
 -- the form in which it is told
 abbrev pub form_of : Bool → Form
-form_of true = Form.Record
-form_of false = Form.Line
-
--- the form of its rows
-abbrev pub row_form_of : Bool → RowForm
-row_form_of true = row_form.Record
-row_form_of false = row_form.Line
+form_of true = row_form.Record
+form_of false = row_form.Line
 
 -- what is told of a configuration, as a table where that is asked for
 abbrev pub IsToldOf : Telling → Bool → Configuration → Verdict → List ℕ → Status → Type 0
 IsToldOf telling.Certify csv c v text ended =
-    (text ≡ certificate_of (form_of csv) c) × (ended ≡ certified_end v)
+    IsCertificate (form_of csv) c text × (ended ≡ certified_end v)
 IsToldOf telling.Margins csv c v text ended = AreMargins (form_of csv) c text × (ended ≡ status.Done)
-IsToldOf telling.When csv c (verdict.Accepted rows) text ended = IsWhen (row_form_of csv) c text × (ended ≡ status.Done)
+IsToldOf telling.When csv c (verdict.Accepted rows) text ended = IsWhen (form_of csv) c text × (ended ≡ status.Done)
 IsToldOf telling.When csv c (verdict.Fails level needs window) text ended =
     Says (why.Uncertified level needs window) text ended
 IsToldOf telling.Warnings csv c v text ended = (text ≡ warnings_of (form_of csv) c) × (ended ≡ status.Done)

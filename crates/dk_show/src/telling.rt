@@ -1,93 +1,82 @@
 //! What is told of a configuration.
 ghost use Rattle.std.specs.Prelude.{◌≡◌, ◌≢◌, ◌^◌, ◌<◌, ◌≤◌, IfOk, IfErr, IfSome, length, None};
-ghost use Rattle.dk_config.specs.Checked.{BreaksNoRule, IsChecked, IsWithinLimits};
+ghost use Rattle.dk_config.specs.Checked.{BreaksNoRule};
 ghost use Rattle.dk_certify.specs.Verdicts.{verdict_of};
+ghost use Rattle.show_layout.specs.Certificate.{IsCertificate};
+ghost use Rattle.show_layout.specs.Margins.{AreMargins};
+ghost use Rattle.show_layout.specs.Warnings.{warnings_of};
+ghost use Rattle.show_layout.specs.When.{IsWhen};
 ghost use Rattle.dk_show.specs.Answers.{IsEnd};
 ghost use Rattle.dk_show.specs.Asking.{Asks, handed_out};
 ghost use Rattle.dk_show.specs.Leaves.{Reads};
-ghost use Rattle.dk_certify_report.specs.Certificate.{certificate_of};
-ghost use Rattle.dk_margin_report.specs.Margins.{AreMargins};
-ghost use Rattle.dk_warning_report.specs.WarningLines.{warnings_of};
-ghost use Rattle.show_layout.specs.When.{IsWhen};
-ghost use Rattle.dk_show.specs.Output.{IsOfDocument, IsOfNamed, IsToldOf, certified_end, form_of, row_form_of};
+ghost use Rattle.dk_show.specs.Output.{IsOfDocument, IsOfNamed, IsToldOf, certified_end, form_of};
 ghost use Rattle.dk_show.specs.Works.{ComesTo, IsMade, IsWhole};
 
 use crate::files::file_at;
 use crate::work::Work;
 use crate::{Refusal, Status};
 use dk_certify::{Verdict, certify};
-use dk_certify_report::{certificate, certificate_csv};
-use dk_config::{Config, MAX_CONFIG_BYTES, NoMemory};
-use dk_config_report::Page;
+use dk_config::{Config, Layout, MAX_CONFIG_BYTES, NoMemory};
 use dk_loader::{LoadFault, read_config};
-use dk_margin_report::{margins, margins_csv};
 use dk_outside::Depot;
 use dk_show_request::{TellRequest, Telling};
-use dk_warning_report::{warnings, warnings_csv};
-use show_layout::when_of;
+use show_layout::{certificate, margins, warnings, when};
 use show_rows::Form;
 use std::alloc::Global;
 
-fn when_bytes(alloc: Global, as_csv: bool, config: &Config) -> Result<Vec<u8>, NoMemory>
-    requires checked { IsChecked config.now }
-    requires limits { IsWithinLimits config.now }
-    ensures { IfOk result (λ v. IsWhen (row_form_of as_csv) config.now v.items) }
+fn when_bytes(alloc: Global, as_csv: bool, layout: &Layout) -> Result<Vec<u8>, NoMemory>
+    ensures { IfOk result (λ v. IsWhen (form_of as_csv) layout.now v.items) }
 {
     if as_csv {
-        when_of(alloc, Form::Record, config)
+        when(alloc, Form::Record, layout)
     } else {
-        when_of(alloc, Form::Line, config)
+        when(alloc, Form::Line, layout)
     }
 }
 
-fn certificate_page(alloc: Global, as_csv: bool, config: &Config) -> Result<Page, NoMemory>
-    requires unbroken { BreaksNoRule config.now }
-    requires checked { IsChecked config.now }
-    requires limits { IsWithinLimits config.now }
-    ensures { IfOk result (λ page. page ≡ certificate_of (form_of as_csv) config.now) }
+fn certificate_bytes(alloc: Global, as_csv: bool, layout: &Layout) -> Result<Vec<u8>, NoMemory>
+    ensures { IfOk result (λ v. IsCertificate (form_of as_csv) layout.now v.items) }
 {
     if as_csv {
-        certificate_csv(alloc, config)
+        certificate(alloc, Form::Record, layout)
     } else {
-        certificate(alloc, config)
+        certificate(alloc, Form::Line, layout)
     }
 }
 
-fn margins_page(alloc: Global, as_csv: bool, config: &Config) -> Result<Page, NoMemory>
-    requires unbroken { BreaksNoRule config.now }
-    requires checked { IsChecked config.now }
-    requires limits { IsWithinLimits config.now }
-    ensures { IfOk result (λ page. AreMargins (form_of as_csv) config.now page) }
+fn margins_bytes(alloc: Global, as_csv: bool, layout: &Layout) -> Result<Vec<u8>, NoMemory>
+    ensures { IfOk result (λ v. AreMargins (form_of as_csv) layout.now v.items) }
 {
     if as_csv {
-        margins_csv(alloc, config)
+        margins(alloc, Form::Record, layout)
     } else {
-        margins(alloc, config)
+        margins(alloc, Form::Line, layout)
     }
 }
 
-fn warnings_page(alloc: Global, as_csv: bool, config: &Config) -> Result<Page, NoMemory>
-    requires unbroken { BreaksNoRule config.now }
-    requires checked { IsChecked config.now }
-    requires limits { IsWithinLimits config.now }
-    ensures { IfOk result (λ page. page ≡ warnings_of (form_of as_csv) config.now) }
+fn warnings_bytes(alloc: Global, as_csv: bool, layout: &Layout) -> Result<Vec<u8>, NoMemory>
+    ensures { IfOk result (λ v. v.items ≡ warnings_of (form_of as_csv) layout.now) }
 {
     if as_csv {
-        warnings_csv(alloc, config)
+        warnings(alloc, Form::Record, layout)
     } else {
-        warnings(alloc, config)
+        warnings(alloc, Form::Line, layout)
     }
 }
 
-/// From when and by when each main has its ticks, where the configuration is certified.
-fn when_work(alloc: Global, as_csv: bool, config: &Config) -> Result<Work, Refusal>
-    requires checked { IsChecked config.now }
-    requires limits { IsWithinLimits config.now }
-    ensures comes { ComesTo (IsToldOf Telling.When as_csv config.now (verdict_of config.now)) result }
+fn verdict_for(layout: &Layout) -> Verdict
+    ensures { result ≡ verdict_of layout.now }
+{
+    certify(layout.config())
+}
+
+/// From when and by when each main has its ticks, where the layout is certified.
+fn when_work(alloc: Global, as_csv: bool, layout: &Layout) -> Result<Work, Refusal>
+    ensures comes { ComesTo (IsToldOf Telling.When as_csv layout.now (verdict_of layout.now)) result }
     ensures made { IsMade IsWhole result }
 {
-    match certify(config) {
-        Verdict::Accepted(_) => Ok(Work::Bytes(when_bytes(alloc, as_csv, config)?, Status::Done)),
+    match verdict_for(layout) {
+        Verdict::Accepted(_) => Ok(Work::Bytes(when_bytes(alloc, as_csv, layout)?, Status::Done)),
         Verdict::Fails {
             level,
             needs,
@@ -100,68 +89,66 @@ fn when_work(alloc: Global, as_csv: bool, config: &Config) -> Result<Work, Refus
     }
 }
 
-/// The status that tells whether the configuration is certified.
-fn certified_end(config: &Config) -> Status
-    requires checked { IsChecked config.now }
-    requires limits { IsWithinLimits config.now }
-    ensures is { result ≡ certified_end (verdict_of config.now) }
+/// The status that tells whether the layout is certified.
+fn certified_end(layout: &Layout) -> Status
+    ensures is { result ≡ certified_end (verdict_of layout.now) }
     ensures ends { IsEnd result }
 {
-    match certify(config) {
+    match verdict_for(layout) {
         Verdict::Accepted(_) => Status::Done,
         Verdict::Fails { .. } => Status::Uncertified,
     }
 }
 
-/// What the certification test finds, whether the configuration is certified or not.
-fn certificate_work(alloc: Global, as_csv: bool, config: &Config) -> Result<Work, Refusal>
-    requires unbroken { BreaksNoRule config.now }
-    requires checked { IsChecked config.now }
-    requires limits { IsWithinLimits config.now }
-    ensures comes { ComesTo (IsToldOf Telling.Certify as_csv config.now (verdict_of config.now)) result }
+/// What the certification test finds, whether the layout is certified or not.
+fn certificate_work(alloc: Global, as_csv: bool, layout: &Layout) -> Result<Work, Refusal>
+    ensures comes { ComesTo (IsToldOf Telling.Certify as_csv layout.now (verdict_of layout.now)) result }
     ensures made { IsMade IsWhole result }
 {
-    Ok(Work::Page(
-        certificate_page(alloc, as_csv, config)?,
-        certified_end(config),
+    Ok(Work::Bytes(
+        certificate_bytes(alloc, as_csv, layout)?,
+        certified_end(layout),
     ))
 }
 
-/// How far each number can go, whether the configuration is certified or not.
-fn margins_work(alloc: Global, as_csv: bool, config: &Config) -> Result<Work, Refusal>
-    requires unbroken { BreaksNoRule config.now }
-    requires checked { IsChecked config.now }
-    requires limits { IsWithinLimits config.now }
-    ensures comes { ComesTo (IsToldOf Telling.Margins as_csv config.now (verdict_of config.now)) result }
+/// How far each number can go, whether the layout is certified or not.
+fn margins_work(alloc: Global, as_csv: bool, layout: &Layout) -> Result<Work, Refusal>
+    ensures comes { ComesTo (IsToldOf Telling.Margins as_csv layout.now (verdict_of layout.now)) result }
     ensures made { IsMade IsWhole result }
 {
-    Ok(Work::Page(margins_page(alloc, as_csv, config)?, Status::Done))
+    Ok(Work::Bytes(margins_bytes(alloc, as_csv, layout)?, Status::Done))
 }
 
-/// What is allowed and can't be meant, whether the configuration is certified or not.
-fn warnings_work(alloc: Global, as_csv: bool, config: &Config) -> Result<Work, Refusal>
-    requires unbroken { BreaksNoRule config.now }
-    requires checked { IsChecked config.now }
-    requires limits { IsWithinLimits config.now }
-    ensures comes { ComesTo (IsToldOf Telling.Warnings as_csv config.now (verdict_of config.now)) result }
+/// What is allowed and can't be meant, whether the layout is certified or not.
+fn warnings_work(alloc: Global, as_csv: bool, layout: &Layout) -> Result<Work, Refusal>
+    ensures comes { ComesTo (IsToldOf Telling.Warnings as_csv layout.now (verdict_of layout.now)) result }
     ensures made { IsMade IsWhole result }
 {
-    Ok(Work::Page(warnings_page(alloc, as_csv, config)?, Status::Done))
+    Ok(Work::Bytes(warnings_bytes(alloc, as_csv, layout)?, Status::Done))
 }
 
-/// What is told of a configuration.
-fn told_of(alloc: Global, telling: Telling, as_csv: bool, config: &Config) -> Result<Work, Refusal>
-    requires unbroken { BreaksNoRule config.now }
-    requires checked { IsChecked config.now }
-    requires limits { IsWithinLimits config.now }
-    ensures comes { ComesTo (IsToldOf telling as_csv config.now (verdict_of config.now)) result }
+/// What is told of a layout.
+fn told_of(alloc: Global, telling: Telling, as_csv: bool, layout: &Layout) -> Result<Work, Refusal>
+    ensures comes { ComesTo (IsToldOf telling as_csv layout.now (verdict_of layout.now)) result }
     ensures made { IsMade IsWhole result }
 {
     match telling {
-        Telling::Certify => certificate_work(alloc, as_csv, config),
-        Telling::Margins => margins_work(alloc, as_csv, config),
-        Telling::When => when_work(alloc, as_csv, config),
-        Telling::Warnings => warnings_work(alloc, as_csv, config),
+        Telling::Certify => certificate_work(alloc, as_csv, layout),
+        Telling::Margins => margins_work(alloc, as_csv, layout),
+        Telling::When => when_work(alloc, as_csv, layout),
+        Telling::Warnings => warnings_work(alloc, as_csv, layout),
+    }
+}
+
+/// What is told of a configuration that breaks no rule.
+fn of_config(alloc: Global, telling: Telling, as_csv: bool, config: Config) -> Result<Work, Refusal>
+    requires { BreaksNoRule config }
+    ensures comes { ComesTo (IsToldOf telling as_csv config (verdict_of config)) result }
+    ensures made { IsMade IsWhole result }
+{
+    match Layout::of(config) {
+        Ok(layout) => told_of(alloc, telling, as_csv, &layout),
+        Err(fault) => Err(Refusal::Rule(fault)),
     }
 }
 
@@ -172,7 +159,7 @@ fn of_document(alloc: Global, telling: Telling, as_csv: bool, bytes: &[u8]) -> R
     ensures made { IsMade IsWhole result }
 {
     match read_config(alloc, bytes) {
-        Ok(config) => told_of(alloc, telling, as_csv, &config),
+        Ok(config) => of_config(alloc, telling, as_csv, config),
         Err(LoadFault::NotToml) => Err(Refusal::NotToml),
         Err(LoadFault::Config(fault)) => Err(Refusal::Rule(fault)),
         Err(_) => Err(Refusal::NoMemory),

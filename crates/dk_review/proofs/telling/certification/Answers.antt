@@ -4,7 +4,7 @@ use Rattle.dk_review.proofs.telling.certification.Goals as goal
 
 pub returns-in-Accepted : goal.returns-in-Accepted
 returns-in-Accepted c =
-    same_verdict c.args.config.now _ _ _ (sym c.certify.ensures.verdict ∙ c.in-Accepted.is) c.certified.ensures
+    same_verdict c.args.layout.now _ _ _ (sym c.verdict_for.ensures ∙ c.in-Accepted.is) c.certified.ensures
 
 pub returns-in-Fails : goal.returns-in-Fails
-returns-in-Fails c = same_fails c.args.config.now _ _ _ (sym c.certify.ensures.verdict ∙ c.in-Fails.is) refl
+returns-in-Fails c = same_fails c.args.layout.now _ _ _ (sym c.verdict_for.ensures ∙ c.in-Fails.is) refl

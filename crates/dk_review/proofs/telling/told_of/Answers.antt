@@ -1,14 +1,7 @@
+use Rattle.std.proofs.Common.{subst}
+use Rattle.dk_config.specs.Configuration.{Configuration}
+use Rattle.dk_review.specs.Reviews.{IsTold}
 use Rattle.dk_review.proofs.telling.told_of.Goals as goal
 
 pub returns : goal.returns
-returns c =
-    record {
-      certificate = c.in_ok-certificate.ensures;
-      certificate_table = c.in_ok-certificate_table.ensures;
-      matrix = c.in_ok-matrix.ensures;
-      certification = c.in_ok-certification.ensures;
-      margins = c.in_ok-margins.ensures;
-      margins_table = c.in_ok-margins_table.ensures;
-      warnings = c.in_ok-warnings.ensures;
-      count = c.in_ok-count.ensures;
-    }
+returns c = subst (λ (k : Configuration). IsTold k c.in_ok-told.told) c.in_ok-layout.ensures c.in_ok-told.ensures

@@ -1,2 +1,0 @@
-pub mod Matrix
-pub use Rattle.dk_config.specs.Checked

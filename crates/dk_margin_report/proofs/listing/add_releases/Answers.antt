@@ -1,9 +1,0 @@
-use Rattle.std.specs.Prelude.{string_bytes}
-use Rattle.dk_margin_report.specs.Margins.{IsReleaseLine}
-use Rattle.dk_config_report.proofs.Adding.{one_added}
-use Rattle.dk_margin_report.proofs.listing.add_releases.Goals as goal
-
-pub loop-level-preserved : goal.loop-level-preserved
-loop-level-preserved c =
-    one_added (IsReleaseLine c.args.form c.args.config.now) c.loop-level.level (string_bytes c.args.text.now) (string_bytes c.loop-level.text) (string_bytes c.push_line.new.text) (string_bytes c.in_ok-line.line)
-    c.in_ok-line.ensures c.in_ok-push_line.ensures c.loop-level.invariant

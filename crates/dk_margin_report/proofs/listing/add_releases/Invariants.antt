@@ -1,8 +1,0 @@
-use Rattle.std.specs.Prelude.{string_bytes}
-use Rattle.dk_config_report.specs.Pages.{AddsLines}
-use Rattle.dk_margin_report.specs.Margins.{IsReleaseLine}
-use Rattle.dk_margin_report.proofs.listing.add_releases.Given as goal
-
--- the lines so far are added
-abbrev pub invariant-loop-level : goal.invariant-loop-level
-invariant-loop-level l = AddsLines (IsReleaseLine l.form l.config) l.level (string_bytes l.initial.text) (string_bytes l.text)

@@ -1,4 +1,0 @@
-pub mod Table
-pub mod WarningLines
-pub use Rattle.dk_config.specs.Checked
-pub use Rattle.dk_table.specs.Names
