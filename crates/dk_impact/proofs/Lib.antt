@@ -13,3 +13,4 @@ mod Premises
 mod GreaterPremises
 mod Witness
 mod GreaterWitness
+pub mod Listing

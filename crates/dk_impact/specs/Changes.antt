@@ -1,5 +1,5 @@
 -- What a process sees change from one configuration to another, in order.
-use Rattle.std.specs.Prelude.{ℕ, ◌≡◌, ◌==◌, Bool, true, false, if◌then◌else◌, List, Option, Some, None}
+use Rattle.std.specs.Prelude.{ℕ, zero, suc, ◌≡◌, ◌==◌, Bool, true, false, if◌then◌else◌, List, [], ◌∷◌, ◌++◌, Option, Some, None}
 use Rattle.std.specs.Option.{option_or}
 use Rattle.dk_config.specs.declared.TheConstants.{MAX_MUTEXES}
 use Rattle.dk_config.specs.Configuration.{Configuration}
@@ -84,3 +84,36 @@ Tells c p c' p' program change = TellsOf (SeesTheSame c p c' p' program) change
 abbrev pub but_time_change : Sight → Configuration → ℕ → Configuration → ℕ → Option Change
 but_time_change s c p c' p' =
     option_or (cost_change c c') (option_or (differs Change.Memory (memory c p) (memory c' p')) (use_change s c p c' p'))
+
+-- all that it sees change, in that order
+abbrev pub listed : Option Change → List Change
+listed None = []
+listed (Some change) = change ∷ []
+
+abbrev pub cost_changes : Configuration → Configuration → List Change
+cost_changes c c' = listed (differs Change.Switch c.costs.switch c'.costs.switch) ++ listed (differs Change.Call c.costs.call c'.costs.call)
+
+abbrev pub row_changes : Configuration → ℕ → Configuration → ℕ → List Change
+row_changes c p c' p' =
+    listed (differs Change.Period (period c (main_level c p)) (period c' (main_level c' p')))
+    ++ (listed (differs Change.Budget (budget c p) (budget c' p')) ++ listed (differs Change.Memory (memory c p) (memory c' p')))
+
+-- of the mutexes with numbers below n
+abbrev pub mutexes_below : Configuration → ℕ → Configuration → ℕ → ℕ → List Change
+mutexes_below c p c' p' zero = []
+mutexes_below c p c' p' (suc m) = mutexes_below c p c' p' m ++ listed (mutex_change c p c' p' m)
+
+abbrev pub seen_all : Bool → List Change → List Change
+seen_all true changes = changes
+seen_all false changes = []
+
+abbrev pub all_changes : Sight → Configuration → ℕ → Configuration → ℕ → List Change
+all_changes s c p c' p' =
+    cost_changes c c'
+    ++ (row_changes c p c' p' ++ (seen_all s.locks (mutexes_below c p c' p' MAX_MUTEXES) ++ listed (seen s.creates (level_change c p c' p'))))
+
+-- all that a process with this program sees change
+pub record AreAll (c : Configuration) (p : ℕ) (c' : Configuration) (p' : ℕ) (program : List ℕ) (changes : List Change) : Type 0 where
+  pub sight : Sight
+  pub is : IsSight sight program
+  pub all : changes ≡ all_changes sight c p c' p'

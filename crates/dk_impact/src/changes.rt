@@ -1,16 +1,17 @@
-//! The first thing that a process sees change.
-ghost use Rattle.std.specs.Prelude.{ℕ, ◌≡◌, ◌↔◌, IsTrue};
+//! What a process sees change: the first of it, and all.
+ghost use Rattle.std.specs.Prelude.{ℕ, ◌≡◌, ◌++◌, ◌↔◌, IfOk, IsTrue, OnOk};
 ghost use Rattle.std.specs.Option.{option_or};
 ghost use Rattle.dk_impact.specs.declared.change.Change.{Change};
 ghost use Rattle.dk_impact.specs.Greater.{GivesNoLess};
-ghost use Rattle.dk_impact.specs.Impact.{SeesTheSameButTime};
+ghost use Rattle.dk_impact.specs.Impact.{SeesTheSameButPeriod, SeesTheSameButTime};
 ghost use Rattle.dk_config.specs.Checked.{IsWithinLimits};
 ghost use Rattle.dk_config.specs.Windows.{budget, longest_hold, main_level, max_level, memory, period};
-ghost use Rattle.dk_impact.specs.Changes.{IsFirst, IsSight, Tells, TellsOf, but_time_change, cost_change, differs, first_change, level_change, mutex_change, mutexes_change, own_change, row_change, seen, size_change, use_change};
+ghost use Rattle.dk_impact.specs.Changes.{AreAll, IsFirst, IsSight, Tells, TellsOf, but_time_change, cost_change, cost_changes, differs, first_change, level_change, listed, mutex_change, mutexes_below, mutexes_change, own_change, row_change, row_changes, seen, seen_all, size_change, use_change};
 
 use crate::{Change, Sight};
-use dk_config::{Config, MAX_MUTEXES};
+use dk_config::{Config, MAX_MUTEXES, NoMemory};
 use dk_isa::holds_call;
+use std::alloc::{AllocError, Global};
 
 /// The number of the call that makes a thread.
 const CREATE: u8 = 3;
@@ -253,6 +254,115 @@ pub fn first_change(
     any_change(old, process, new, same, sight)
 }
 
+fn add(changes: &mut Vec<Change>, change: Option<Change>) -> Result<(), AllocError>
+    ensures { OnOk result (changes.new.items ≡ changes.old.items ++ listed change) }
+{
+    if let Some(change) = change {
+        changes.push(change)?;
+    }
+    Ok(())
+}
+
+fn add_costs(changes: &mut Vec<Change>, old: &Config, new: &Config) -> Result<(), AllocError>
+    ensures { OnOk result (changes.new.items ≡ changes.old.items ++ cost_changes old.now new.now) }
+{
+    add(
+        changes,
+        differs(Change::Switch, old.costs.switch, new.costs.switch),
+    )?;
+    add(
+        changes,
+        differs(Change::Call, old.costs.call, new.costs.call),
+    )
+}
+
+fn add_row(
+    changes: &mut Vec<Change>,
+    old: &Config,
+    process: u32,
+    new: &Config,
+    same: u32,
+) -> Result<(), AllocError>
+    ensures { OnOk result (changes.new.items ≡ changes.old.items ++ row_changes old.now process new.now same) }
+{
+    let before = period_at(old, level_of(old, process));
+    let after = period_at(new, level_of(new, same));
+    add(changes, differs(Change::Period, before, after))?;
+    add(
+        changes,
+        differs(
+            Change::Budget,
+            budget_of(old, process),
+            budget_of(new, same),
+        ),
+    )?;
+    add(
+        changes,
+        differs(
+            Change::Memory,
+            memory_of(old, process),
+            memory_of(new, same),
+        ),
+    )
+}
+
+#[tactic(auto, using(crate::proofs::Listing::one_more))]
+fn add_mutexes(
+    changes: &mut Vec<Change>,
+    old: &Config,
+    process: u32,
+    new: &Config,
+    same: u32,
+) -> Result<(), AllocError>
+    ensures { OnOk result (changes.new.items ≡ changes.old.items ++ mutexes_below old.now process new.now same MAX_MUTEXES) }
+{
+    for mutex in 0..MAX_MUTEXES {
+        add(changes, mutex_change(old, process, new, same, mutex as u32))?;
+    }
+    Ok(())
+}
+
+fn add_mutexes_if(
+    sees: bool,
+    changes: &mut Vec<Change>,
+    old: &Config,
+    process: u32,
+    new: &Config,
+    same: u32,
+) -> Result<(), AllocError>
+    ensures { OnOk result (changes.new.items ≡ changes.old.items ++ seen_all sees (mutexes_below old.now process new.now same MAX_MUTEXES)) }
+{
+    if sees {
+        add_mutexes(changes, old, process, new, same)
+    } else {
+        Ok(())
+    }
+}
+
+/// All that the process sees change from the old configuration to the new, in the order of `first_change`, where it is the
+/// process `same`, and has this program in both. `Err` is want of memory.
+pub fn all_changes(
+    alloc: Global,
+    old: &Config,
+    process: u32,
+    new: &Config,
+    same: u32,
+    program: &[u8],
+) -> Result<Vec<Change>, NoMemory>
+    ensures { IfOk result (λ changes. AreAll old.now process new.now same program.now changes.items) }
+{
+    let sight = sight_of(program);
+    let mut changes = Vec::new(alloc);
+    add_costs(&mut changes, old, new)?;
+    add_row(&mut changes, old, process, new, same)?;
+    add_mutexes_if(sight.locks, &mut changes, old, process, new, same)?;
+    add(
+        &mut changes,
+        seen(sight.creates, level_change(old, process, new, same)),
+    )?;
+    Ok(changes)
+}
+
 /// Whether nothing is seen to change but the budget and the period, by a process with this program in both.
 fn sees_the_same_but_time(
     old: &Config,
@@ -270,6 +380,27 @@ fn sees_the_same_but_time(
         Some(_) => false,
         None => true,
     }
+}
+
+/// Whether the process, which is the process `same` of the new configuration and has this program in both, sees nothing
+/// change but maybe the period of its level.
+///
+/// Then what was seen of its windows holds of them in the new configuration too (`first_windows_any_period_law`).
+pub fn sees_the_same_but_period(
+    old: &Config,
+    process: u32,
+    new: &Config,
+    same: u32,
+    program: &[u8],
+) -> bool
+    requires old_limits { IsWithinLimits old.now }
+    requires new_limits { IsWithinLimits new.now }
+    ensures { IsTrue result ↔ SeesTheSameButPeriod old.now process new.now same program.now }
+{
+    if budget_of(old, process) != budget_of(new, same) {
+        return false;
+    }
+    sees_the_same_but_time(old, process, new, same, program)
 }
 
 /// Whether the process, which is the process `same` of the new configuration and has this program in both, is given no less

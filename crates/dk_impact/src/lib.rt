@@ -12,7 +12,7 @@ mod change;
 mod changes;
 
 pub use change::{Change, Sight};
-pub use changes::{first_change, gives_no_less};
+pub use changes::{all_changes, first_change, gives_no_less, sees_the_same_but_period};
 use dk_alone::{alone_law, first_windows_law, windows_law};
 
 /// With the processor to itself a process that may have neither children nor slack and doesn't read the tick runs the same
