@@ -18,9 +18,9 @@ impact_end true = status.Done
 impact_end false = status.Refused
 
 -- the rows as text, or as a table
-abbrev pub IsTold : Bool → Configuration → Configuration → List Row → List ℕ → Type 0
-IsTold true old new rows text = IsImpactText row_form.Record old new rows text
-IsTold false old new rows text = IsImpactText row_form.Line old new rows text
+abbrev pub IsTold : Bool → Configuration → Configuration → List Row → List (List ℕ) → List ℕ → Type 0
+IsTold true old new rows names text = IsImpactText row_form.Record old new rows names text
+IsTold false old new rows names text = IsImpactText row_form.Line old new rows names text
 
 -- the status tells whether the change touches none but the processes of these names
 abbrev pub EndsBy : Type 0 → Status → Type 0
@@ -30,7 +30,7 @@ EndsBy Only ended = (Only × (ended ≡ status.Done)) ⊎ ((Only → ⊥) × (en
 pub record IsOfChange (r : ChangeAsk) (old new : Workload) (text : List ℕ) (ended : Status) : Type 0 where
   pub rows : List Row
   pub found : AreRows old new (length new.config.processes) rows
-  pub told : IsTold r.as_csv old.config new.config rows text
+  pub told : IsTold r.as_csv old.config new.config rows r.names text
   pub ends : EndsBy (TouchesOnly r.names old new) ended
 
 -- the old configuration with its programs is read first, and then the new

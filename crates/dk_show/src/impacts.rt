@@ -12,7 +12,7 @@ use crate::loading::loaded_at;
 use crate::work::Work;
 use crate::{Refusal, Status};
 use dk_certify::{Certified, Overload};
-use dk_config::{Config, Layout, NoMemory};
+use dk_config::{Config, Layout, NoMemory, Text};
 use dk_loader::Loaded;
 use dk_outside::Depot;
 use dk_plan::certified_is_accepted;
@@ -93,13 +93,14 @@ fn told(
     old: &CertifiedLoad,
     new: &CertifiedLoad,
     rows: &[Row],
+    names: &[Text],
 ) -> Result<Vec<u8>, NoMemory>
-    ensures { IfOk result (λ v. IsTold as_csv old.now.config new.now.config rows.now v.items) }
+    ensures { IfOk result (λ v. IsTold as_csv old.now.config new.now.config rows.now names.now v.items) }
 {
     if as_csv {
-        impact_text(alloc, Form::Record, old, new, rows)
+        impact_text(alloc, Form::Record, old, new, rows, names)
     } else {
-        impact_text(alloc, Form::Line, old, new, rows)
+        impact_text(alloc, Form::Line, old, new, rows, names)
     }
 }
 
@@ -114,8 +115,9 @@ fn of_change(
     ensures made { IsMade IsWhole result }
 {
     let rows = impacts(alloc, old, new)?;
-    let bytes = told(alloc, request.as_csv, old, new, rows.as_slice())?;
-    let only = touches_only(old, new, rows.as_slice(), request.names.as_slice());
+    let names = request.names.as_slice();
+    let bytes = told(alloc, request.as_csv, old, new, rows.as_slice(), names)?;
+    let only = touches_only(old, new, rows.as_slice(), names);
     Ok(Work::Bytes(bytes, impact_end(only)))
 }
 

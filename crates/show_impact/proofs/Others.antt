@@ -9,7 +9,7 @@ use Rattle.dk_loader.specs.Workload.{Workload}
 use Rattle.show_impact.specs.declared.row.Cause.{Cause}
 use Rattle.show_impact.specs.declared.row.Impact.{Impact}
 use Rattle.show_impact.specs.declared.row.Row.{Row}
-use Rattle.show_impact.specs.Impacts.{AreRows, IsCause, IsFound, IsImpact, IsKept, IsRow, IsSame, Keeps, TouchesOnly, is_named, is_same, is_there, place_of}
+use Rattle.show_impact.specs.Impacts.{AreRows, IsCause, IsFound, IsKept, IsRow, IsRowAt, IsSame, Keeps, TouchesOnly, is_named, is_same, is_there, place_of}
 use Rattle.show_impact.specs.Touching.{is_lost, is_same_at, is_touched}
 
 keeps-not : (w : Workload) (p : ℕ) (cause : Cause) → Keeps w p → IsCause w p (Some cause) → ⊥
@@ -20,8 +20,10 @@ keeps-not w p Cause.Clock keeps is = is.2 keeps.clock
 -- what is the same is told so
 told-same : (old : Workload) (p : ℕ) (new : Workload) (q : ℕ) (impact : Impact) → IsSame old p new q → IsFound old p new q impact → is_same impact ≡ true
 told-same old p new q Impact.Same same found = refl
+told-same old p new q Impact.PeriodAlone same found = absurd (found.differs same.sees)
+told-same old p new q Impact.IfItWaits same found = absurd (found.differs same.sees.but_period)
 told-same old p new q Impact.Program same found = absurd (found.1 same.program)
-told-same old p new q (Impact.Changed change) same found = absurd (found.differs same.sees)
+told-same old p new q Impact.Changed same found = absurd (found.differs same.sees.but_period)
 told-same old p new q (Impact.Open cause) same (inl before) = absurd (keeps-not old p cause same.keeps.before before)
 told-same old p new q (Impact.Open cause) same (inr (keeps, now)) = absurd (keeps-not new q cause same.keeps.now now)
 told-same old p new q Impact.New same found = absurd found
@@ -29,21 +31,25 @@ told-same old p new q Impact.New same found = absurd found
 -- and what is told so is
 same-told : (old : Workload) (p : ℕ) (new : Workload) (q : ℕ) (impact : Impact) → IsFound old p new q impact → is_same impact ≡ true → IsSame old p new q
 same-told old p new q Impact.Same found is = found
+same-told old p new q Impact.PeriodAlone found is = absurd (let never : false ≡ true = is in cc)
+same-told old p new q Impact.IfItWaits found is = absurd (let never : false ≡ true = is in cc)
 same-told old p new q Impact.Program found is = absurd (let never : false ≡ true = is in cc)
-same-told old p new q (Impact.Changed change) found is = absurd (let never : false ≡ true = is in cc)
+same-told old p new q Impact.Changed found is = absurd (let never : false ≡ true = is in cc)
 same-told old p new q (Impact.Open cause) found is = absurd (let never : false ≡ true = is in cc)
 same-told old p new q Impact.New found is = absurd found
 
 told-kept : (old new : Workload) (q : ℕ) (row : Row) → IsRow old new q row → IsKept old new q → is_same row.impact ≡ true
-told-kept old new q row is (p, at, same) = told-same old p new q row.impact same (subst (λ place. IsImpact place old new q row.impact) at is.impact)
+told-kept old new q row is (p, at, same) =
+    let found = subst (λ place. IsRowAt place old new q row) at is in
+    told-same old p new q row.impact same found.impact
 
-kept-at : (place : Option ℕ) (old new : Workload) (q : ℕ) (impact : Impact) → place_of old.config (process_name new.config q) ≡ place
-    → IsImpact place old new q impact → is_same impact ≡ true → IsKept old new q
-kept-at None old new q impact at found is = absurd (let never : false ≡ true = ap is_same (sym found) ∙ is in cc)
-kept-at (Some p) old new q impact at found is = (p, at, same-told old p new q impact found is)
+kept-at : (place : Option ℕ) (old new : Workload) (q : ℕ) (row : Row) → place_of old.config (process_name new.config q) ≡ place
+    → IsRowAt place old new q row → is_same row.impact ≡ true → IsKept old new q
+kept-at None old new q row at found is = absurd (let never : false ≡ true = ap is_same (sym found.impact) ∙ is in cc)
+kept-at (Some p) old new q row at found is = (p, at, same-told old p new q row.impact found.impact is)
 
 kept-told : (old new : Workload) (q : ℕ) (row : Row) → IsRow old new q row → is_same row.impact ≡ true → IsKept old new q
-kept-told old new q row is same = kept-at (place_of old.config (process_name new.config q)) old new q row.impact refl is.impact same
+kept-told old new q row is same = kept-at (place_of old.config (process_name new.config q)) old new q row refl is same
 
 -- the row of each process stands at its place
 get-front : (xs ys : List Row) (i : ℕ) → i < length xs → slice_get (xs ++ ys) i ≡ slice_get xs i

@@ -1,34 +1,53 @@
 -- The sentence of each kind of row, and its cells.
-use Rattle.std.specs.Prelude.{ℕ, ◌==◌, Bool, true, false, not, List, [], ◌∷◌, Option, Some, None, length}
+use Rattle.std.specs.Prelude.{ℕ, ◌==◌, Bool, true, false, not, nat_lt, if◌then◌else◌, List, [], ◌∷◌, Option, Some, None, codes, length}
 use Rattle.show_rows.specs.declared.row.Form.{Form}
 use Rattle.show_rows.specs.Rows.{number_field, told}
-use Rattle.show_impact.specs.declared.forms.TheConstants.{COLUMNS, KEYED, KEYED_MOVED, PLAIN, PLAIN_MOVED, VALUED, VALUED_MOVED}
+use Rattle.show_impact.specs.declared.forms.TheConstants.{ALONE, ALONE_MOVED, COLUMNS, KEYED, KEYED_MOVED, PLAIN, PLAIN_MOVED, VALUED, VALUED_MOVED}
+use Rattle.show_impact.specs.declared.forms.Wording.{Wording}
+use Rattle.show_impact.specs.declared.row.Impact.{Impact}
+use Rattle.show_impact.specs.declared.told.Fate.{Fate}
 use Rattle.show_impact.specs.declared.told.Told.{Told}
-use Rattle.show_impact.specs.Told.{impact_word}
+use Rattle.show_impact.specs.Told.{fate_word}
 
--- the main has its budget at another time
-abbrev pub is_moved : Option ℕ → Option ℕ → Bool
-is_moved (Some before) (Some now) = not (before == now)
-is_moved _ _ = false
+-- whether the main has its budget by a later tick of its windows than before, or by a sooner one
+abbrev pub word_between : ℕ → ℕ → List ℕ
+word_between before now = if nat_lt before now then codes "later" else (if nat_lt now before then codes "sooner" else [])
 
-abbrev pub sentence_of : Bool → Bool → Bool → List ℕ
-sentence_of false false valued = PLAIN.now
-sentence_of false true false = KEYED.now
-sentence_of false true true = VALUED.now
-sentence_of true false valued = PLAIN_MOVED.now
-sentence_of true true false = KEYED_MOVED.now
-sentence_of true true true = VALUED_MOVED.now
+abbrev pub when_word : Option ℕ → Option ℕ → List ℕ
+when_word (Some before) (Some now) = word_between before now
+when_word _ _ = []
+
+abbrev pub wording_of : Bool → Bool → Bool → Wording
+wording_of false valued alone = Wording.Plain
+wording_of true false alone = Wording.Keyed
+wording_of true true false = Wording.Valued
+wording_of true true true = Wording.Alone
+
+abbrev pub sentence_of : Bool → Wording → List ℕ
+sentence_of false Wording.Plain = PLAIN.now
+sentence_of false Wording.Keyed = KEYED.now
+sentence_of false Wording.Valued = VALUED.now
+sentence_of false Wording.Alone = ALONE.now
+sentence_of true Wording.Plain = PLAIN_MOVED.now
+sentence_of true Wording.Keyed = KEYED_MOVED.now
+sentence_of true Wording.Valued = VALUED_MOVED.now
+sentence_of true Wording.Alone = ALONE_MOVED.now
+
+abbrev pub is_alone : Fate → Bool
+is_alone (Fate.Is Impact.PeriodAlone) = true
+is_alone _ = false
 
 abbrev pub is_some : Option ℕ → Bool
 is_some None = false
 is_some (Some n) = true
 
 -- the sentence tells the key, the number that changed, and by when its main is done, where there is such a thing
-abbrev pub sentence : List ℕ → Told → List ℕ
-sentence key t = sentence_of (is_moved t.done_before t.done_now) (not (length key == 0)) (is_some t.before)
+abbrev pub sentence : List ℕ → List ℕ → Told → List ℕ
+sentence key when t = sentence_of (not (length when == 0)) (wording_of (not (length key == 0)) (is_some t.before) (is_alone t.fate))
 
 -- what is told of the process of this name, by this key
 abbrev pub told_text : Form → List ℕ → List ℕ → Told → List ℕ
 told_text form name key t =
-    told form COLUMNS.now (sentence key t)
-    (name ∷ impact_word t.impact ∷ key ∷ number_field t.before ∷ number_field t.now ∷ number_field t.done_before ∷ number_field t.done_now ∷ [])
+    let when = when_word t.done_before t.done_now in
+    told form COLUMNS.now (sentence key when t)
+    (name ∷ fate_word t.fate ∷ key ∷ number_field t.before ∷ number_field t.now ∷ number_field t.done_before ∷ number_field t.done_now ∷ when ∷ [])

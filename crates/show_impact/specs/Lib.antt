@@ -1,4 +1,5 @@
 pub mod Impacts
+pub mod Evidence
 pub mod Told
 pub mod Forms
 pub mod ImpactText

@@ -7,6 +7,7 @@ use Rattle.dk_impact.specs.declared.change.Change.{Change}
 use Rattle.show_impact.specs.declared.row.Cause.{Cause}
 use Rattle.show_impact.specs.declared.row.Impact.{Impact}
 use Rattle.show_impact.specs.declared.row.Row.{Row}
+use Rattle.show_impact.specs.declared.told.Fate.{Fate}
 use Rattle.show_impact.specs.declared.told.Told.{Told}
 use Rattle.show_impact.specs.Impacts.{place_of}
 
@@ -21,26 +22,26 @@ value_of (Change.User m) c p = None
 value_of (Change.Hold m) c p = Some (longest_hold c m)
 value_of Change.Levels c p = None
 
--- of a process that may not be there
-abbrev pub told_value : Impact → Configuration → Option ℕ → Option ℕ
-told_value (Impact.Changed change) c (Some p) = value_of change c p
+-- of a process that may not be there, where something is seen to change
+abbrev pub told_value : Option Change → Configuration → Option ℕ → Option ℕ
+told_value (Some change) c (Some p) = value_of change c p
 told_value _ c p = None
 
--- what is told of process q of the new configuration
-abbrev pub told_of : Configuration → Configuration → Row → ℕ → Told
-told_of old new row q =
+-- what is told of process q of the new configuration, and of a change that it sees
+abbrev pub told_of : Configuration → Configuration → Row → ℕ → Option Change → Told
+told_of old new row q change =
     let place = place_of old (process_name new q) in
     record {
-      impact = Some row.impact;
-      before = told_value row.impact old place;
-      now = told_value row.impact new (Some q);
+      fate = Fate.Is row.impact;
+      before = told_value change old place;
+      now = told_value change new (Some q);
       done_before = option_map (λ p. row.before) place;
       done_now = Some row.after;
     }
 
--- and of a process that is gone
-abbrev pub told_gone : Told
-told_gone = record { impact = None; before = None; now = None; done_before = None; done_now = None }
+-- and of a process that is gone, or of a name that is that of none
+abbrev pub told_name : Fate → Told
+told_name fate = record { fate = fate; before = None; now = None; done_before = None; done_now = None }
 
 abbrev pub cause_word : Cause → List ℕ
 cause_word Cause.Threads = codes "threads"
@@ -65,18 +66,27 @@ change_text old new (Change.User m) = codes "user " ++ mutex_told old new m
 change_text old new (Change.Hold m) = codes "hold " ++ mutex_told old new m
 change_text old new Change.Levels = codes "level"
 
--- what becomes of the process, in a word
-abbrev pub impact_word : Option Impact → List ℕ
-impact_word None = codes "gone"
-impact_word (Some Impact.Same) = codes "same"
-impact_word (Some Impact.Program) = codes "changed"
-impact_word (Some (Impact.Changed change)) = codes "changed"
-impact_word (Some (Impact.Open cause)) = codes "open"
-impact_word (Some Impact.New) = codes "new"
+-- what becomes of the process, in a word or a few
+abbrev pub impact_word : Impact → List ℕ
+impact_word Impact.Same = codes "same"
+impact_word Impact.PeriodAlone = codes "period alone"
+impact_word Impact.IfItWaits = codes "same if it waits"
+impact_word Impact.Program = codes "changed"
+impact_word Impact.Changed = codes "changed"
+impact_word (Impact.Open cause) = codes "open"
+impact_word Impact.New = codes "new"
 
--- and by what, if by anything
-abbrev pub key_text : Configuration → Configuration → Impact → List ℕ
-key_text old new Impact.Program = codes "program"
-key_text old new (Impact.Changed change) = change_text old new change
-key_text old new (Impact.Open cause) = cause_word cause
-key_text old new _ = []
+abbrev pub fate_word : Fate → List ℕ
+fate_word (Fate.Is impact) = impact_word impact
+fate_word Fate.Gone = codes "gone"
+fate_word Fate.Unknown = codes "unknown"
+
+abbrev pub reason_word : Impact → List ℕ
+reason_word Impact.Program = codes "program"
+reason_word (Impact.Open cause) = cause_word cause
+reason_word _ = []
+
+-- and by what, if by anything: a change that it sees, or the reason
+abbrev pub key_text : Configuration → Configuration → Impact → Option Change → List ℕ
+key_text old new impact (Some change) = change_text old new change
+key_text old new impact None = reason_word impact

@@ -1,14 +1,20 @@
 //! What a change does to each process.
-ghost use Rattle.std.specs.Prelude.{ℕ, ◌≡◌, ◌<◌, IfOk, IfSome, length, position};
+ghost use Rattle.std.specs.Prelude.{ℕ, ◌≡◌, ◌↔◌, ◌<◌, IfOk, IfSome, IsTrue, length, position};
 ghost use Rattle.std.specs.Str.{bytes_eq};
 ghost use Rattle.dk_config.specs.declared.rows.ProcessRow.{ProcessRow as Process};
 ghost use Rattle.dk_config.specs.Windows.{process_name};
-ghost use Rattle.dk_impact.specs.Changes.{IsFirst, Tells};
-ghost use Rattle.show_impact.specs.Impacts.{AreRows, EvidenceStands, IsCause, IsDone, IsFound, IsRow, IsSame, Keeps, place_of, program_of};
+ghost use Rattle.dk_impact.specs.Changes.{AreAll, Tells};
+ghost use Rattle.dk_impact.specs.Greater.{GivesNoLess};
+ghost use Rattle.dk_impact.specs.Impact.{SeesTheSame, SeesTheSameButPeriod};
+ghost use Rattle.show_impact.specs.Evidence.{EvidenceOutlives, EvidenceStands, WindowsStand};
+ghost use Rattle.show_impact.specs.Impacts.{AreChanges, AreRows, IsCause, IsDone, IsFound, IsGivenNoLess, IsPeriodAlone, IsRow, IsRowThere, IsSame, Keeps, place_of, program_of};
 
 use crate::{Cause, CertifiedLoad, Impact, Row};
 use dk_config::{NoMemory, ProcessRow};
-use dk_impact::{Change, first_change, first_windows_across_law, impact_law};
+use dk_impact::{
+    Change, all_changes, first_change, first_windows_across_law, first_windows_any_period_law,
+    first_windows_with_more_law, gives_no_less, impact_law, sees_the_same_but_period,
+};
 use dk_isa::holds_call;
 use dk_when::done_by;
 use std::alloc::Global;
@@ -36,10 +42,42 @@ fn cause_of(load: &CertifiedLoad, process: u32) -> Option<Cause>
 
 /// The first thing that the process sees change, where it has the same program in both.
 fn change_of(old: &CertifiedLoad, process: u32, new: &CertifiedLoad, same: u32) -> Option<Change>
-    ensures first { IsFirst old.now.config process new.now.config same (program_of old.now process) result }
-    ensures tells { Tells old.now.config process new.now.config same (program_of old.now process) result }
+    ensures { Tells old.now.config process new.now.config same (program_of old.now process) result }
 {
     first_change(
+        old.config(),
+        process,
+        new.config(),
+        same,
+        old.program(process),
+    )
+}
+
+fn sees_the_same(old: &CertifiedLoad, process: u32, new: &CertifiedLoad, same: u32) -> bool
+    ensures { IsTrue result ↔ SeesTheSame old.now.config process new.now.config same (program_of old.now process) }
+{
+    match change_of(old, process, new, same) {
+        None => true,
+        Some(_) => false,
+    }
+}
+
+fn sees_a_period_alone(old: &CertifiedLoad, process: u32, new: &CertifiedLoad, same: u32) -> bool
+    ensures { IsTrue result ↔ SeesTheSameButPeriod old.now.config process new.now.config same (program_of old.now process) }
+{
+    sees_the_same_but_period(
+        old.config(),
+        process,
+        new.config(),
+        same,
+        old.program(process),
+    )
+}
+
+fn has_no_less(old: &CertifiedLoad, process: u32, new: &CertifiedLoad, same: u32) -> bool
+    ensures { IsTrue result ↔ GivesNoLess old.now.config process new.now.config same (program_of old.now process) }
+{
+    gives_no_less(
         old.config(),
         process,
         new.config(),
@@ -55,10 +93,16 @@ fn seen_change(old: &CertifiedLoad, process: u32, new: &CertifiedLoad, same: u32
     requires program { program_of old.now process ≡ program_of new.now same }
     ensures { IsFound old.now process new.now same result }
 {
-    match change_of(old, process, new, same) {
-        None => Impact::Same,
-        Some(change) => Impact::Changed(change),
+    if sees_the_same(old, process, new, same) {
+        return Impact::Same;
     }
+    if sees_a_period_alone(old, process, new, same) {
+        return Impact::PeriodAlone;
+    }
+    if has_no_less(old, process, new, same) {
+        return Impact::IfItWaits;
+    }
+    Impact::Changed
 }
 
 /// What becomes of the process of the old configuration, which is the process `same` of the new.
@@ -115,23 +159,88 @@ pub(crate) fn name_of(load: &CertifiedLoad, process: u32) -> &str
     }
 }
 
-/// What is found of a process of the new configuration.
-fn row_of(old: &CertifiedLoad, new: &CertifiedLoad, process: u32) -> Row
-    requires { process < length new.now.config.processes }
-    ensures { IsRow old.now new.now process result }
+/// All that the process sees change, where it has the same program in both.
+fn changes_between(
+    alloc: Global,
+    old: &CertifiedLoad,
+    process: u32,
+    new: &CertifiedLoad,
+    same: u32,
+) -> Result<Vec<Change>, NoMemory>
+    ensures { IfOk result (λ changes. AreAll old.now.config process new.now.config same (program_of old.now process) changes.items) }
 {
-    let now = done_in(new, process);
+    all_changes(
+        alloc,
+        old.config(),
+        process,
+        new.config(),
+        same,
+        old.program(process),
+    )
+}
+
+/// What it sees change, by what becomes of it.
+fn changes_of(
+    alloc: Global,
+    impact: Impact,
+    old: &CertifiedLoad,
+    process: u32,
+    new: &CertifiedLoad,
+    same: u32,
+) -> Result<Vec<Change>, NoMemory>
+    ensures { IfOk result (λ changes. AreChanges impact old.now process new.now same changes.items) }
+{
+    match impact {
+        Impact::PeriodAlone | Impact::IfItWaits | Impact::Changed => {
+            changes_between(alloc, old, process, new, same)
+        }
+        Impact::Same | Impact::Program | Impact::Open(_) | Impact::New => Ok(Vec::new(alloc)),
+    }
+}
+
+/// What is found of the process of the old configuration, which is the process `same` of the new.
+fn row_there(
+    alloc: Global,
+    old: &CertifiedLoad,
+    process: u32,
+    new: &CertifiedLoad,
+    same: u32,
+) -> Result<Row, NoMemory>
+    requires old_known { process < length old.now.config.processes }
+    requires new_known { same < length new.now.config.processes }
+    ensures { IfOk result (IsRowThere old.now process new.now same) }
+{
+    let impact = found(old, process, new, same);
+    let changes = changes_of(alloc, impact, old, process, new, same)?;
+    Ok(Row {
+        impact,
+        changes,
+        before: done_in(old, process),
+        after: done_in(new, same),
+    })
+}
+
+/// What is found of a process of the new configuration.
+fn row_of(
+    alloc: Global,
+    old: &CertifiedLoad,
+    new: &CertifiedLoad,
+    process: u32,
+) -> Result<Row, NoMemory>
+    requires { process < length new.now.config.processes }
+    ensures { IfOk result (IsRow old.now new.now process) }
+{
     match place_of(old, name_of(new, process)) {
-        Some(place) => Row {
-            impact: found(old, place, new, process),
-            before: done_in(old, place),
-            after: now,
-        },
-        None => Row {
-            impact: Impact::New,
-            before: now,
-            after: now,
-        },
+        Some(place) => row_there(alloc, old, place, new, process),
+        None => {
+            let done = done_in(new, process);
+            Ok(Row {
+                impact: Impact::New,
+                changes: Vec::new(alloc),
+                before: done,
+                after: done,
+            })
+        }
     }
 }
 
@@ -149,19 +258,38 @@ fn rows_of(alloc: Global, old: &CertifiedLoad, new: &CertifiedLoad) -> Result<Ve
 {
     let mut rows = Vec::new(alloc);
     for process in 0..how_many(new) {
-        rows.push(row_of(old, new, process))?;
+        let row = row_of(alloc, old, new, process)?;
+        rows.push(row)?;
     }
     Ok(rows)
 }
 
-/// What is told to be the same is: its evidence stands.
-fn evidence(old: &CertifiedLoad, new: &CertifiedLoad)
+/// The evidence of what is told to be the same stands.
+fn evidence_stands(old: &CertifiedLoad, new: &CertifiedLoad)
     ensures { (p q : ℕ) → IsSame old.now p new.now q → EvidenceStands old.now p new.now q }
 {
     let _before = old.config();
     let _after = new.config();
     impact_law();
     first_windows_across_law();
+}
+
+/// And window by window that of what sees a period alone change.
+fn windows_stand(old: &CertifiedLoad, new: &CertifiedLoad)
+    ensures { (p q : ℕ) → IsPeriodAlone old.now p new.now q → WindowsStand old.now p new.now q }
+{
+    let _before = old.config();
+    let _after = new.config();
+    first_windows_any_period_law();
+}
+
+/// And that of what is given no less, as long as each window has enough.
+fn evidence_outlives(old: &CertifiedLoad, new: &CertifiedLoad)
+    ensures { (p q : ℕ) → IsGivenNoLess old.now p new.now q → EvidenceOutlives old.now p new.now q }
+{
+    let _before = old.config();
+    let _after = new.config();
+    first_windows_with_more_law();
 }
 
 /// What a change of the configuration, and of programs, does to each process of the new configuration, in the order of its
@@ -174,7 +302,13 @@ pub fn impacts(
     ensures rows { IfOk result (λ rows. AreRows old.now new.now (length new.now.config.processes) rows.items) }
     // What is told to be the same is: its evidence stands.
     ensures stands { (p q : ℕ) → IsSame old.now p new.now q → EvidenceStands old.now p new.now q }
+    // Of what sees a period alone change, it stands window by window.
+    ensures windows { (p q : ℕ) → IsPeriodAlone old.now p new.now q → WindowsStand old.now p new.now q }
+    // Of what is given no less, it does as long as each window has enough.
+    ensures outlives { (p q : ℕ) → IsGivenNoLess old.now p new.now q → EvidenceOutlives old.now p new.now q }
 {
-    evidence(old, new);
+    evidence_stands(old, new);
+    windows_stand(old, new);
+    evidence_outlives(old, new);
     rows_of(alloc, old, new)
 }

@@ -17,10 +17,14 @@ pub enum Cause {
 pub enum Impact {
     /// It sees the same: its own time is what it was.
     Same,
+    /// It sees nothing change but the period of its level: each of its windows is what it was.
+    PeriodAlone,
+    /// It is given no less: each of its windows is what it was, as long as each has enough.
+    IfItWaits,
     /// It has another program.
     Program,
-    /// The first thing that it sees change.
-    Changed(Change),
+    /// It sees something else change.
+    Changed,
     /// Nothing is promised of it, before or now.
     Open(Cause),
     /// No process had its name.
@@ -28,9 +32,11 @@ pub enum Impact {
 }
 
 /// What is found of a process of the new configuration.
-#[derive(Clone, Copy)]
+#[derive(Drop)]
 pub struct Row {
     pub impact: Impact,
+    /// All that it sees change, where it keeps to itself and has one program; else nothing.
+    pub changes: Vec<Change>,
     /// After how many ticks of each window its main had its whole budget; of a new one as it is now.
     pub before: u32,
     /// After how many it has it now.

@@ -1,7 +1,7 @@
 //! What is told of a process.
 ghost use Rattle.std.specs.Prelude.{◌≡◌, ◌++◌, IfOk, option_map, string_bytes};
 ghost use Rattle.dk_config.specs.Windows.{budget, longest_hold, main_level, memory, period};
-ghost use Rattle.show_impact.specs.Told.{cause_word, change_text, impact_word, key_text, mutex_name, mutex_told, told_gone, told_of, told_value, value_of};
+ghost use Rattle.show_impact.specs.Told.{cause_word, change_text, fate_word, impact_word, key_text, mutex_name, mutex_told, reason_word, told_name, told_of, told_value, value_of};
 
 use crate::comparing::{name_of, place_of};
 use crate::{Cause, CertifiedLoad, Impact, Row};
@@ -9,11 +9,21 @@ use dk_config::Config;
 use dk_impact::Change;
 use std::alloc::{AllocError, Global};
 
-/// What is told of a process of either configuration.
+/// Of whom something is told.
+#[derive(Clone, Copy)]
+pub(crate) enum Fate {
+    /// A process of the new configuration.
+    Is(Impact),
+    /// One that the old configuration has alone.
+    Gone,
+    /// A name that no process has.
+    Unknown,
+}
+
+/// What is told of a process of either configuration, or of a name.
 #[derive(Clone, Copy)]
 pub(crate) struct Told {
-    /// None: it is gone.
-    pub(crate) impact: Option<Impact>,
+    pub(crate) fate: Fate,
     /// The number that changed, before and now.
     pub(crate) before: Option<u32>,
     pub(crate) now: Option<u32>,
@@ -83,12 +93,12 @@ fn value_of(change: Change, config: &Config, process: u32) -> Option<u32>
     }
 }
 
-/// Of a process that may not be there.
-fn told_value(impact: Impact, config: &Config, process: Option<u32>) -> Option<u32>
-    ensures { result ≡ told_value impact config.now process }
+/// Of a process that may not be there, where something is seen to change.
+fn told_value(change: Option<Change>, config: &Config, process: Option<u32>) -> Option<u32>
+    ensures { result ≡ told_value change config.now process }
 {
-    match (impact, process) {
-        (Impact::Changed(change), Some(process)) => value_of(change, config, process),
+    match (change, process) {
+        (Some(change), Some(process)) => value_of(change, config, process),
         _ => None,
     }
 }
@@ -102,26 +112,32 @@ fn done_where(place: Option<u32>, done: u32) -> Option<u32>
     }
 }
 
-/// What is told of a process of the new configuration.
-pub(crate) fn told_of(old: &CertifiedLoad, new: &CertifiedLoad, row: &Row, process: u32) -> Told
-    ensures { result ≡ told_of old.now.config new.now.config row.now process }
+/// What is told of a process of the new configuration, and of a change that it sees, if it sees one.
+pub(crate) fn told_of(
+    old: &CertifiedLoad,
+    new: &CertifiedLoad,
+    row: &Row,
+    process: u32,
+    change: Option<Change>,
+) -> Told
+    ensures { result ≡ told_of old.now.config new.now.config row.now process change }
 {
     let place = place_of(old, name_of(new, process));
     Told {
-        impact: Some(row.impact),
-        before: told_value(row.impact, old.config(), place),
-        now: told_value(row.impact, new.config(), Some(process)),
+        fate: Fate::Is(row.impact),
+        before: told_value(change, old.config(), place),
+        now: told_value(change, new.config(), Some(process)),
         done_before: done_where(place, row.before),
         done_now: Some(row.after),
     }
 }
 
-/// And of a process that is gone.
-pub(crate) fn told_gone() -> Told
-    ensures { result ≡ told_gone }
+/// And of a process that is gone, or of a name that is that of none.
+pub(crate) fn told_name(fate: Fate) -> Told
+    ensures { result ≡ told_name fate }
 {
     Told {
-        impact: None,
+        fate,
         before: None,
         now: None,
         done_before: None,
@@ -184,17 +200,39 @@ fn change_text(
     }
 }
 
-/// What becomes of the process, in a word.
-pub(crate) fn impact_word(impact: Option<Impact>) -> &'static str
+fn impact_word(impact: Impact) -> &'static str
     ensures { result.now ≡ impact_word impact }
 {
     match impact {
-        None => "gone",
-        Some(Impact::Same) => "same",
-        Some(Impact::Program) => "changed",
-        Some(Impact::Changed(_)) => "changed",
-        Some(Impact::Open(_)) => "open",
-        Some(Impact::New) => "new",
+        Impact::Same => "same",
+        Impact::PeriodAlone => "period alone",
+        Impact::IfItWaits => "same if it waits",
+        Impact::Program => "changed",
+        Impact::Changed => "changed",
+        Impact::Open(_) => "open",
+        Impact::New => "new",
+    }
+}
+
+/// What becomes of whom it is told, in a word or a few.
+pub(crate) fn fate_word(fate: Fate) -> &'static str
+    ensures { result.now ≡ fate_word fate }
+{
+    match fate {
+        Fate::Is(impact) => impact_word(impact),
+        Fate::Gone => "gone",
+        Fate::Unknown => "unknown",
+    }
+}
+
+fn reason_word(impact: Impact) -> &'static str
+    ensures { result.now ≡ reason_word impact }
+{
+    match impact {
+        Impact::Program => "program",
+        Impact::Open(cause) => cause_word(cause),
+        Impact::Same | Impact::PeriodAlone | Impact::IfItWaits | Impact::Changed | Impact::New =>
+            "",
     }
 }
 
@@ -204,13 +242,12 @@ pub(crate) fn key_text(
     old: &Config,
     new: &Config,
     impact: Impact,
+    change: Option<Change>,
 ) -> Result<String, AllocError>
-    ensures { IfOk result (λ s. string_bytes s ≡ key_text old.now new.now impact) }
+    ensures { IfOk result (λ s. string_bytes s ≡ key_text old.now new.now impact change) }
 {
-    match impact {
-        Impact::Program => String::from_str(alloc, "program"),
-        Impact::Changed(change) => change_text(alloc, old, new, change),
-        Impact::Open(cause) => String::from_str(alloc, cause_word(cause)),
-        _ => String::from_str(alloc, ""),
+    match change {
+        Some(change) => change_text(alloc, old, new, change),
+        None => String::from_str(alloc, reason_word(impact)),
     }
 }
