@@ -10,10 +10,10 @@ use Rattle.dk_config.specs.Windows.{period, main_level}
 use Rattle.dk_config.specs.Certification.{spare}
 use Rattle.dk_config.proofs.Sums.{sum_from-same, sum_from-zero}
 use Rattle.dk_slack_promise.specs.Allotted.{allotted, IsAllotted}
-use Rattle.dk_allotment.specs.Alone.{alone, IsOwnSlack, FitsSoFar}
+use Rattle.dk_allotment.specs.Alone.{alone, IsFirstPassed, IsOwnSlack, FitsSoFar}
 
 -- a sum of one term
-sum-alone : (low n p : ℕ) (f : ℕ → ℕ) → low ≤ p → p < low + n → ((k : ℕ) → (k ≡ p → ⊥) → f k ≡ 0) → sum_from low n f ≡ f p
+pub sum-alone : (low n p : ℕ) (f : ℕ → ℕ) → low ≤ p → p < low + n → ((k : ℕ) → (k ≡ p → ⊥) → f k ≡ 0) → sum_from low n f ≡ f p
 sum-alone low zero p f a b others = absurd (omega (arith, a, b))
 sum-alone low (suc n) p f a b others =
     elim (cases_eq low p) [
@@ -87,32 +87,74 @@ fits-next c p level most now spare_there windows reaches so_far some spared is l
       omega (arith, earlier, quotient, least),
 )
 
+module _ (c : Configuration) (p s : ℕ) (here : p < length c.processes) where
+  -- a faster level has none of it
+  alone-before : (j : ℕ) → j < main_level c p → allotted c (alone p s) j ≡ 0
+  alone-before j faster =
+      let is = allotted-alone c p s j here in
+      let off : leb (main_level c p) j ≡ false = grind (arith, nat_tests) in
+      let none : cond (leb (main_level c p) j) (s * (period c j / period c (main_level c p))) 0 ≡ 0 = rw off refl in
+      omega (arith, is, none)
+
+  -- and each from its own on has it in each window
+  alone-from : (j : ℕ) → main_level c p ≤ j → allotted c (alone p s) j ≡ s * (period c j / period c (main_level c p))
+  alone-from j from =
+      let is = allotted-alone c p s j here in
+      let on : leb (main_level c p) j ≡ true = grind (arith, nat_tests) in
+      let same : cond (leb (main_level c p) j) (s * (period c j / period c (main_level c p))) 0 ≡ s * (period c j / period c (main_level c p)) = rw on refl in
+      omega (arith, is, same)
+
+  -- so it is within the spare of each level before one where it is from its own on
+  alone-within : (level : ℕ) → ((j : ℕ) → main_level c p ≤ j → j < level → s * (period c j / period c (main_level c p)) ≤ spare c j)
+      → (j : ℕ) → j < level → allotted c (alone p s) j ≤ spare c j
+  alone-within level each j under =
+      elim (cases_lt j (main_level c p)) [
+        | inl faster ↦ let none = alone-before j faster in omega (arith, none)
+        | inr reaches ↦
+            let from : main_level c p ≤ j = omega (arith, reaches) in
+            let is = alone-from j from in
+            let fit = each j from under in
+            omega (arith, is, fit)
+      ]
+
+  -- the first level whose spare it passes
+  pub first-passed : (level : ℕ) → level < length c.levels → main_level c p ≤ level
+      → ((j : ℕ) → main_level c p ≤ j → j < level → s * (period c j / period c (main_level c p)) ≤ spare c j)
+      → spare c level < s * (period c level / period c (main_level c p)) → IsFirstPassed c (alone p s) level
+  first-passed level known reaches each passes =
+      let is = alone-from level reaches in
+      record { known = known; passed = omega (arith, is, passes); before = alone-within level each }
+
 -- all levels
 pub fits-all : (c : Configuration) (p most : ℕ) → p < length c.processes → FitsSoFar c p (length c.levels) most → IsOwnSlack c p most
 fits-all c p most here all = record {
-  reached = λ j known. reached_at j known;
-  greatest = λ s fit. (all s).1 (λ j from known. greatest_at s fit j from known);
+  reached = alone-within c p most here (length c.levels) ((all most).0 (omega arith));
+  greatest =
+      λ s fit. (all s).1 (λ j from known.
+      let is = alone-from c p s here j from in
+      let le = fit j known in
+      omega (arith, is, le));
 }
-  where
-    reached_at : (j : ℕ) → j < length c.levels → allotted c (alone p most) j ≤ spare c j
-    reached_at j known =
-        let is = allotted-alone c p most j here in
-        elim (cases_lt j (main_level c p)) [
-          | inl faster ↦
-              let off : leb (main_level c p) j ≡ false = grind (arith, nat_tests) in
-              let none : cond (leb (main_level c p) j) (most * (period c j / period c (main_level c p))) 0 ≡ 0 = rw off refl in
-              omega (arith, is, none)
-          | inr reaches ↦
-              let on : leb (main_level c p) j ≡ true = grind (arith, nat_tests) in
-              let same : cond (leb (main_level c p) j) (most * (period c j / period c (main_level c p))) 0 ≡ most * (period c j / period c (main_level c p)) = rw on refl in
-              let fit = (all most).0 (omega arith) j (omega (arith, reaches)) known in
-              omega (arith, is, same, fit)
-        ]
 
-    greatest_at : (s : ℕ) → IsAllotted c (alone p s) → (j : ℕ) → main_level c p ≤ j → j < length c.levels → s * (period c j / period c (main_level c p)) ≤ spare c j
-    greatest_at s fit j from known =
-        let is = allotted-alone c p s j here in
-        let on : leb (main_level c p) j ≡ true = grind (arith, nat_tests) in
-        let same : cond (leb (main_level c p) j) (s * (period c j / period c (main_level c p))) 0 ≡ s * (period c j / period c (main_level c p)) = rw on refl in
-        let le = fit j known in
-        omega (arith, is, same, le)
+-- where all levels before the last hold one tick more than the greatest number, the last doesn't
+pub last-passed : (c : Configuration) (p most last : ℕ) → p < length c.processes → length c.levels ≡ last + 1 → main_level c p ≤ last → IsOwnSlack c p most
+    → ((j : ℕ) → main_level c p ≤ j → j < last → (most + 1) * (period c j / period c (main_level c p)) ≤ spare c j)
+    → IsFirstPassed c (alone p (most + 1)) last
+last-passed c p most last here is reaches own each =
+    let K : ℕ = period c last / period c (main_level c p) in
+    elim (cases_lt (spare c last) ((most + 1) * K)) [
+      | inl passes ↦ first-passed c p (most + 1) here last (omega (arith, is)) reaches each passes
+      | inr holds ↦
+          let whole = own.greatest (most + 1) (λ j known. alone-within c p (most + 1) here (last + 1) (all holds) j (omega (arith, is, known))) in
+          absurd (omega (arith, whole))
+    ]
+  where
+    all : (most + 1) * (period c last / period c (main_level c p)) ≤ spare c last
+        → (j : ℕ) → main_level c p ≤ j → j < last + 1 → (most + 1) * (period c j / period c (main_level c p)) ≤ spare c j
+    all holds j from under =
+        elim (cases_lt j last) [
+          | inl before ↦ each j from before
+          | inr after ↦
+              let same : j ≡ last = omega (arith, under, after) in
+              subst (λ i. (most + 1) * (period c i / period c (main_level c p)) ≤ spare c i) (sym same) holds
+        ]

@@ -1,3 +1,4 @@
 pub mod Alone
 pub mod Sums
 pub mod Planned
+pub mod Enough

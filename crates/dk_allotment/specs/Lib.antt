@@ -1,3 +1,4 @@
 pub mod Alone
 pub mod Given
 pub mod Planned
+pub mod Soon

@@ -5,8 +5,12 @@
 
 mod given;
 mod laws;
+mod limiting;
 mod own;
+mod soon;
 
 pub use given::{allotted_at, overdrawn_level};
-pub use laws::planned_law;
-pub use own::{own_slack, slowest_slack};
+pub use laws::{allotted_in_law, planned_law};
+pub use limiting::limiting_level;
+pub use own::{own_slack, slowest_slack, spare_of};
+pub use soon::own_slack_by;

@@ -11,7 +11,7 @@ use dk_config::{Config, MAX_SPAN};
 use dk_plan::windows_in;
 
 /// The ticks of a window of the level that nobody can claim.
-pub(crate) fn spare_of(config: &Config, level: u32) -> u32
+pub fn spare_of(config: &Config, level: u32) -> u32
     requires checked { IsChecked config.now }
     requires limits { IsWithinLimits config.now }
     requires accepted { IsAccepted config.now }

@@ -154,7 +154,7 @@ level-process-rises c m q f g checked here there le = go (slowest_up_to c m q) r
         times-rises (budget c q * (period c b / period c (main_level c q))) (windows_begun c b f) (windows_begun c b g)
         (begun-rises c b f g (checked.positive b (known b is)) le)
 
-level-rises : (c : Configuration) (m f g : ℕ) → IsChecked c → m < length c.levels → f ≤ g → level_ahead c m f ≤ level_ahead c m g
+pub level-rises : (c : Configuration) (m f g : ℕ) → IsChecked c → m < length c.levels → f ≤ g → level_ahead c m f ≤ level_ahead c m g
 level-rises c m f g checked here le =
     let kernel = sum_from-le 0 (suc m) (λ i. release c i * windows_begun c i f) (λ i. release c i * windows_begun c i g)
     (λ i a b. times-rises (release c i) (windows_begun c i f) (windows_begun c i g) (begun-rises c i f g (checked.positive i (omega arith)) le)) in

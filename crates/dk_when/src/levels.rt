@@ -66,7 +66,7 @@ fn processes_up_to(config: &Config, level: u32, ticks: u32) -> u64
 }
 
 /// All that may have to be done in so many ticks before all threads of the level are through.
-fn level_ahead(config: &Config, level: u32, ticks: u32) -> u64
+pub fn level_ahead(config: &Config, level: u32, ticks: u32) -> u64
     requires checked { IsChecked config.now }
     requires limits { IsWithinLimits config.now }
     requires level { level < length config.now.levels }

@@ -9,5 +9,5 @@ mod levels;
 mod searching;
 
 pub use earliest::{begins_from, done_from};
-pub use levels::level_done_by;
+pub use levels::{level_ahead, level_done_by};
 pub use searching::{begins_by, done_by};
