@@ -61,10 +61,11 @@ _deosk_show_arguments() {
     fi
     case ${COMP_WORDS[first]}:$((COMP_CWORD - first)):$word in
     windows:*:-* | windows:2:*) COMPREPLY=($(compgen -W '--strict --sparing --all --tenths --csv' -- "$word")) ;;
-    impact:*:-*) COMPREPLY=($(compgen -W --csv -- "$word")) ;;
+    impact:*:-* | slack:*:-*) COMPREPLY=($(compgen -W --csv -- "$word")) ;;
     check:*:-*) COMPREPLY=($(compgen -W '--csv --junit' -- "$word")) ;;
     certify:[2-9]:* | margins:[2-9]:* | when:[2-9]:* | warnings:[2-9]:* | certify:1:-* | margins:1:-* | when:1:-* | warnings:1:-*)
         COMPREPLY=($(compgen -W --csv -- "$word")) ;;
+    slack:[2-9]:* | slack:[1-3][0-9]:*) _deosk_processes "${COMP_WORDS[first + 1]}" ;;
     impact:[3-9]:* | impact:[1-3][0-9]:*) _deosk_processes "${COMP_WORDS[first + 2]}" ;;
     chain:*:-*) COMPREPLY=($(compgen -W --ledger -- "$word")) ;;
     page:*:-*) COMPREPLY=($(compgen -W '--needs --repeats' -- "$word")) ;;
@@ -79,5 +80,5 @@ _deosk_show_arguments() {
 }
 
 _deosk_commands='certify run inspect plan harmonise migrate asm dis ledger audit gen'
-_deosk_show_commands='svg pictures trace vcd csv windows holds faults certify margins when warnings page chain impact repeats check replay'
+_deosk_show_commands='svg pictures trace vcd csv windows holds faults certify margins when slack warnings page chain impact repeats check replay'
 complete -F _deosk deosk deosk-show try

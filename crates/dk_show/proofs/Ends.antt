@@ -1,5 +1,10 @@
 -- Where a text stands with the status of what is done, no other status stands.
 use Rattle.dk_show.proofs.Names.{ℕ, ◌≡◌, ◌∙◌, ◌⊎◌, ◌<◌, inl, inr, List, length, reverse, sym, ap, subst, refl, arith, Bool, true, false, MatchBool, Option, Some, None, IfSome, Result, Ok, Err, MAX_CONFIG_BYTES, MAX_LEDGER_BYTES, Configuration, Verdict, verdict_of, LoadFault, reading, Journal, one_text, MAX_GROUPS, Telling, Range, RangeRequest, Request, Refusal, Status, IsAnswer, IsFaulty, refusal_status, IsOwnHeading, AreReactionsTold, ChainIn, IsChainTold, IsOfOther, IsOfReactions, chain_at, IsOf, certified_at, IsOfSource, is_source_name, IsOfProfile, MAX_PROFILE_BYTES, MAX_SOURCE_BYTES, IsSought, IsOfHolds, IsOfOwnHolds, IsOfWindows, windows_end, WindowsForm, IsBehind, IsDrawn, IsOfBytes, IsOfDocument, IsOfFaults, IsOfPicture, IsOfOwnPicture, IsPictureUnder, Promised, nothing_promised, IsOfReading, IsOfRequest, IsPicture, IsToldOf, groups_asked, to_of}
+use Rattle.std.specs.Prelude.{[], ◌∷◌, is_some, not}
+use Rattle.dk_allotment.specs.Given.{IsOverdrawn}
+use Rattle.show_rows.specs.declared.row.Form.{Form}
+use Rattle.dk_show_request.specs.declared.allotments.Allotment.{Allotment}
+use Rattle.dk_show.specs.Slacks.{AreAllotted, IsOfAllotments, IsOfFit, IsOfSlack, slack_end, slack_form, ticks_by, unfit_text}
 use Rattle.dk_certify.specs.declared.certifying.Verdict.TheVariants as verdict
 use Rattle.dk_loader.specs.declared.fault.LoadFault.TheVariants as fault
 use Rattle.dk_show_request.specs.declared.commands.Telling.TheVariants as telling
@@ -120,6 +125,27 @@ wrong_ends at file x y s true one two =
 wrong_ends at file x y s false one two =
     named_ends at file MAX_CONFIG_BYTES why.LongConfig IsOfFaults x y s (λ bad. cc) (λ bytes a b. b.1 ∙ sym a.1) one two
 
+allotted_ends : (form : Form) (c : Configuration) (xs x y : List ℕ) (s : Status) → AreAllotted form c xs x status.Done → AreAllotted form c xs y s → s ≡ status.Done
+allotted_ends form c xs x y s one two = holds one.are.passed two.are.passed one.are.found two.are.found one.are.hold two.are.hold
+  where
+    holds : (p q : Option ℕ) → IsOverdrawn c xs p → IsOverdrawn c xs q → one.found.hold ≡ not (is_some p) → two.found.hold ≡ not (is_some q) → s ≡ status.Done
+    holds (Some level) q over also is too =
+        let ends : status.Done ≡ slack_end false = one.ends ∙ ap slack_end is in
+        let bad : status.Done ≡ status.Refused = ends in cc
+    holds None (Some level) fit over is too =
+        let passes = over.1 in
+        let within = fit level over.0 in
+        absurd (omega (arith, passes, within))
+    holds None None fit also is too = two.ends ∙ ap slack_end too
+
+fit_ends : (o : Option (List ℕ)) (form : Form) (c : Configuration) (xs x y : List ℕ) (s : Status) → IsOfFit o form c xs x status.Done → IsOfFit o form c xs y s → s ≡ status.Done
+fit_ends (Some unfit) form c xs x y s one two = let bad = one.1 in cc
+fit_ends None form c xs x y s one two = allotted_ends form c xs x y s one two
+
+slack_ends : (given : List Allotment) (form : Form) (c : Configuration) (x y : List ℕ) (s : Status) → IsOfAllotments given form c x status.Done → IsOfAllotments given form c y s → s ≡ status.Done
+slack_ends [] form c x y s one two = two.1
+slack_ends (one_of ∷ rest) form c x y s one two = fit_ends (unfit_text c.processes (one_of ∷ rest)) form c (ticks_by c.processes (one_of ∷ rest)) x y s one two
+
 pub request_ends : (r : Request) (at : Files) (x y : List ℕ) (s : Status) → (IsSought (Some r) → ⊥) → IsOfRequest r at x status.Done → IsOfRequest r at y s → s ≡ status.Done
 request_ends (request.Draw r) at x y s known one two =
     named_ends at r.ledger MAX_LEDGER_BYTES why.LongLedger (IsOfBytes r) x y s (λ bad. cc) (λ bytes a b. ledger_ends r bytes x y s a b) one two
@@ -141,6 +167,8 @@ request_ends (request.Faults file) at x y s known one two = wrong_ends at file x
 request_ends (request.Tell r) at x y s known one two =
     named_ends at r.file MAX_CONFIG_BYTES why.LongConfig (IsOfDocument r.telling r.as_csv) x y s (λ bad. cc)
     (λ bytes a b. reading_ends r.telling r.as_csv (reading bytes) x y s a b) one two
+request_ends (request.Slack r) at x y s known one two =
+    of_ends (certified_at (at r.file)) (IsOfSlack r) x y s (λ c. slack_ends r.allotments (slack_form r.as_csv) c x y s) one two
 request_ends (request.Chain r) at x y s known one two =
     of_ends (chain_at at r) IsChainTold x y s (λ chain a b. b.1) one two
 request_ends (request.Reactions r ledger) at x y s known one two =

@@ -8,5 +8,6 @@ pub mod Ends
 pub mod HoldEnds
 pub mod Loads
 pub mod Wholes
+pub mod Accepting
 pub mod Asks
 pub mod Wanting

@@ -64,6 +64,7 @@ handed_for (request.Windows ledger form) at = handed_out MAX_LEDGER_BYTES (at le
 handed_for (request.Holds ledger file) at = handed_held file at ledger
 handed_for (request.Faults file) at = handed_out (most_of file) (at file)
 handed_for (request.Tell r) at = handed_out MAX_CONFIG_BYTES (at r.file)
+handed_for (request.Slack r) at = handed_out MAX_CONFIG_BYTES (at r.file)
 handed_for (request.Chain r) at = handed_out MAX_CONFIG_BYTES (at r.file)
 handed_for (request.Reactions r ledger) at =
     handed_out MAX_CONFIG_BYTES (at r.file) + handed_after (λ _. handed_out MAX_LEDGER_BYTES (at ledger)) (chain_at at r)
@@ -100,6 +101,7 @@ Misses (request.Windows ledger form) at = at ledger ≡ None
 Misses (request.Holds ledger file) at = MissesHeld file at ledger
 Misses (request.Faults file) at = at file ≡ None
 Misses (request.Tell r) at = at r.file ≡ None
+Misses (request.Slack r) at = at r.file ≡ None
 Misses (request.Chain r) at = at r.file ≡ None
 Misses (request.Reactions r ledger) at = MissesAfter (λ _. at ledger ≡ None) (chain_at at r)
 Misses (request.Impact r) at = MissesAfter (λ _. loaded at r.new ≡ Err why.Depot) (loaded at r.old)

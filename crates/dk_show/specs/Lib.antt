@@ -8,6 +8,7 @@ pub mod Sources
 pub mod Impacts
 pub mod Repeats
 pub mod Replays
+pub mod Slacks
 pub mod Needed
 pub mod Asking
 pub mod Windowed

@@ -44,6 +44,7 @@ use Rattle.dk_show_request.specs.Usage.{usage_text}
 use Rattle.dk_show.specs.Repeats.{IsOfRepeats}
 use Rattle.dk_show.specs.Replays.{IsOfProfile}
 use Rattle.dk_profile.specs.declared.TheConstants.{MAX_PROFILE_BYTES}
+use Rattle.dk_show.specs.Slacks.{IsOfSlack}
 use Rattle.dk_show.specs.Sources.{IsOfSource, is_source_name}
 use Rattle.dk_show.specs.Windowed.{IsOfWindows}
 use Rattle.dk_asm.specs.declared.TheConstants.{MAX_SOURCE_BYTES}
@@ -132,6 +133,7 @@ IsOfRequest (request.Holds ledger file) at text ended = IsOfHeld file at ledger 
 IsOfRequest (request.Faults file) at text ended = IsAllWrong at file text ended
 IsOfRequest (request.Tell r) at text ended =
     IsOfNamed at r.file MAX_CONFIG_BYTES why.LongConfig (IsOfDocument r.telling r.as_csv) text ended
+IsOfRequest (request.Slack r) at text ended = IsOf (certified_at (at r.file)) (IsOfSlack r) text ended
 IsOfRequest (request.Chain r) at text ended = IsOf (chain_at at r) IsChainTold text ended
 IsOfRequest (request.Reactions r ledger) at text ended =
     IsOf (chain_at at r) (λ chain. IsOfNamed at ledger MAX_LEDGER_BYTES why.LongLedger (IsOfReactions chain)) text ended

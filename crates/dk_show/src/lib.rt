@@ -16,6 +16,7 @@ mod refusal;
 mod repeats;
 mod replays;
 mod show;
+mod slacks;
 mod status;
 mod telling;
 mod windows;

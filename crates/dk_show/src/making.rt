@@ -19,6 +19,7 @@ use crate::pictures::picture_work;
 use crate::reactions::reactions_work;
 use crate::repeats::repeats_work;
 use crate::replays::replay_work;
+use crate::slacks::slack_work;
 use crate::telling::telling_work;
 use crate::windows::windows_work;
 use crate::work::{RangeWork, Work};
@@ -119,6 +120,7 @@ pub(crate) fn work_for<D: Depot>(
         Request::Holds { ledger, file } => holds_work(alloc, ledger.as_str(), file, depot),
         Request::Faults(file) => faults_work(alloc, file.as_str(), depot),
         Request::Tell(request) => telling_work(alloc, request, depot),
+        Request::Slack(request) => slack_work(alloc, request, depot),
         Request::Chain(request) => chain_work(alloc, request, depot),
         Request::Reactions { chain, ledger } => {
             reactions_work(alloc, chain, ledger.as_str(), depot)

@@ -1,5 +1,5 @@
 -- The words never ask for a chain of more than 32 processes.
-use Rattle.dk_show_request.proofs.Names.{ℕ, ◌≡◌, ◌<◌, inl, inr, List, [], ◌∷◌, length, arith, drop, subst, sym, Bool, Option, Some, None, IfOk, IfSome, Result, Ok, Err, nat_lt, option_and_then, option_map, cases_Bool, nat_tests, Row, all_of, first_of, MAX_PROCESSES, Command, Drawing, Telling, CheckForm, Range, Request, WindowsForm, app_for, given_by, has, form_of, HasFewNames, asked, asked_by, chain_by, chain_of, chain_with, check_by, check_form_in, drawing_by, faults_by, holds_by, impact_by, picture_by, range_in, repeats_by, repeats_of, replay_by, telling_by, windows_by, windows_form_in, ticks_in, fits}
+use Rattle.dk_show_request.proofs.Names.{ℕ, ◌≡◌, ◌<◌, inl, inr, List, [], ◌∷◌, length, arith, drop, subst, sym, Bool, Option, Some, None, IfOk, IfSome, Result, Ok, Err, nat_lt, option_and_then, option_map, cases_Bool, nat_tests, Row, all_of, first_of, MAX_PROCESSES, Command, Drawing, Telling, CheckForm, Range, Request, WindowsForm, app_for, given_by, has, form_of, HasFewNames, asked, asked_by, chain_by, chain_of, chain_with, check_by, check_form_in, drawing_by, faults_by, holds_by, impact_by, picture_by, range_in, repeats_by, repeats_of, replay_by, slack_by, slack_with, repeated_name, is_no_allotment, is_some, find, unwrap_or, if◌then◌else◌, ◌||◌, true, false, telling_by, windows_by, windows_form_in, ticks_in, fits}
 use Rattle.std.specs.Prelude.{codes}
 use Rattle.dk_show_request.specs.declared.commands.Command.TheVariants as command
 
@@ -38,6 +38,14 @@ faults_few (Some file) = tt
 telling_few : (t : Telling) (as_csv : Bool) (file : Word) → Few (telling_by t as_csv file)
 telling_few t as_csv None = tt
 telling_few t as_csv (Some file) = tt
+
+slack_few : (as_csv : Bool) (words : Option (List (List ℕ))) (file : Word) → Few (slack_by as_csv words file)
+slack_few as_csv words None = tt
+slack_few as_csv words (Some file) = either (is_some (find is_no_allotment (unwrap_or words [])) || is_some (repeated_name (unwrap_or words [])))
+  where
+    either : (b : Bool) → Few (if b then None else Some (slack_with as_csv file (unwrap_or words [])))
+    either true = tt
+    either false = tt
 
 chain_few : (file : List ℕ) (names : List (List ℕ)) (ledger : Word) → Few (option_map (λ r. chain_with r ledger) (chain_of file names))
 chain_few file [] ledger = tt
@@ -88,6 +96,7 @@ asked_few command.Windows rows = windows_few (windows_form_in rows) (first_of (c
 asked_few command.Holds rows = holds_few (first_of (codes "LEDGER") rows) (first_of (codes "FILE") rows)
 asked_few command.Faults rows = faults_few (first_of (codes "FILE") rows)
 asked_few (command.Tell t) rows = telling_few t (has (codes "csv") rows) (first_of (codes "FILE") rows)
+asked_few command.Slack rows = slack_few (has (codes "csv") rows) (all_of (codes "NAME=TICKS") rows) (first_of (codes "FILE") rows)
 asked_few command.Chain rows = by_few (first_of (codes "ledger") rows) (first_of (codes "FILE") rows) (all_of (codes "NAME") rows)
 asked_few command.Impact rows =
     impact_few (has (codes "csv") rows) (all_of (codes "NAME") rows) (first_of (codes "OLD") rows) (first_of (codes "NEW") rows)

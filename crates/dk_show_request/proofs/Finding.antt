@@ -20,3 +20,6 @@ length-filter-map f p (x ∷ xs) =
 pub list_any-map : {A B : Type 0} (f : A → B) (test : B → Bool) (xs : List A) → list_any test (map f xs) ≡ list_any (λ x. test (f x)) xs
 list_any-map f test [] = refl
 list_any-map f test (x ∷ xs) = ap (λ b. test (f x) || b) (list_any-map f test xs)
+
+pub any_mapped : {A B : Type 0} (f : A → B) (test : B → Bool) (xs : List A) → list_any test (map f xs) ≡ list_any (λ x. test (f x)) xs
+any_mapped f test xs = list_any-map f test xs

@@ -66,6 +66,14 @@ bare_option : Says (codes "chain" ∷ codes "c" ∷ codes "a" ∷ codes "--ledge
 unfolding command_named
 bare_option = refl
 
+no_allotment : Says (codes "slack" ∷ codes "c" ∷ codes "nav=4" ∷ codes "video=" ∷ []) (codes "slack: video= is no NAME=TICKS, with TICKS from 0 to 10000000\n")
+unfolding command_named digits
+no_allotment = refl
+
+allotted_again : Says (codes "slack" ∷ codes "c" ∷ codes "nav=4" ∷ codes "video=1" ∷ codes "nav=0" ∷ []) (codes "slack: nav is allotted more than once\n")
+unfolding command_named
+allotted_again = refl
+
 two_flags : Says (codes "check" ∷ codes "c" ∷ codes "n" ∷ codes "--csv" ∷ codes "--junit" ∷ []) (codes "check: --csv|--junit stands more than once\n")
 unfolding command_named
 two_flags = refl

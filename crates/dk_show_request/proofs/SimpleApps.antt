@@ -18,6 +18,7 @@ simple_for (command.Tell telling.Certify) = refl
 simple_for (command.Tell telling.Margins) = refl
 simple_for (command.Tell telling.When) = refl
 simple_for (command.Tell telling.Warnings) = refl
+simple_for command.Slack = refl
 simple_for command.Chain = refl
 simple_for command.Impact = refl
 simple_for command.Repeats = refl

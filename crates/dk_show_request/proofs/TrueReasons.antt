@@ -1,7 +1,8 @@
 -- The reason that is told holds of the words.
-use Rattle.dk_show_request.proofs.Names.{ℕ, ◌≡◌, ◌<◌, ◌+◌, ◌==◌, ◌∙◌, true, false, List, [], ◌∷◌, length, refl, sym, subst, arith, inl, inr, ◌-◌, ◌&&◌, ◌||◌, not, Option, Some, None, find, is_some, nat_lt, slice_get, unwrap_or, if◌then◌else◌, option_map_or, cases_Bool, and_parts, nat_tests, find_at, position_or_len, MAX_PROCESSES, Command, Form, form_of, ticks_in, marks_text, arguments, ends_bare, is_mark, is_option, is_plain_word, is_repeated, is_unfit, unfit_word, word_at, Reason, count_reason, has_many_names, is_below, is_disordered, is_no_ticks, mark_reason, missing_name, names_reason, no_ticks_word, order_reason, surplus_reason, surplus_word, ticks_reason, unfit_reason, AreNotBelow, HoldsOf, LeavesOut, ReasonsHold, StandsIn}
-use Rattle.std.proofs.Common.{Bool}
+use Rattle.dk_show_request.proofs.Names.{ℕ, ◌≡◌, ◌<◌, ◌+◌, ◌==◌, ◌∙◌, true, false, List, [], ◌∷◌, length, refl, sym, subst, arith, inl, inr, ◌-◌, ◌&&◌, ◌||◌, not, Option, Some, None, find, is_some, nat_lt, slice_get, unwrap_or, if◌then◌else◌, option_map_or, cases_Bool, and_parts, nat_tests, find_at, position_or_len, MAX_PROCESSES, Command, Form, form_of, ticks_in, marks_text, arguments, ends_bare, is_mark, is_option, is_plain_word, is_repeated, is_unfit, unfit_word, word_at, bytes_eq, filter, list_any, allotments_reason, again_reason, allotting, has_same_name, is_no_allotment, name_in, repeated_name, ticks_behind, Reason, count_reason, has_many_names, is_below, is_disordered, is_no_ticks, mark_reason, missing_name, names_reason, no_ticks_word, order_reason, surplus_reason, surplus_word, ticks_reason, unfit_reason, AreNotBelow, HoldsOf, LeavesOut, ReasonsHold, StandsIn}
+use Rattle.std.proofs.Common.{Bool, ◌≤◌, ◌⊎◌}
 use Rattle.std.specs.Prelude.{drop}
+use Rattle.std.proofs.lemmas.Slice.Eq.{bytes_eq-Decides}
 use Rattle.dk_show_request.specs.declared.commands.Command.TheVariants as command
 
 or_else : {X : Type 0} (P : Reason → Type 0) (g : X → Reason) (o : Option X) (d : Reason)
@@ -91,6 +92,78 @@ marks f ps ws =
     (λ twice. (refl, grind (arith, nat_tests)))
     (λ once. if_so P (ends_bare f ws) (Reason.bare last) Reason.other (ended f ws) (λ _. tt))
 
+-- what the allotments of a command are among its words
+allots : (c : Command) (ps : List (List ℕ)) → (allotting c ps ≡ drop 1 ps) ⊎ (allotting c ps ≡ [])
+allots command.Slack ps = inl refl
+allots command.Chain ps = inr refl
+allots command.Picture ps = inr refl
+allots (command.Draw d) ps = inr refl
+allots command.Windows ps = inr refl
+allots command.Faults ps = inr refl
+allots (command.Tell t) ps = inr refl
+allots command.Impact ps = inr refl
+allots command.Repeats ps = inr refl
+allots command.Check ps = inr refl
+allots command.Holds ps = inr refl
+allots command.Replay ps = inr refl
+
+no_allot : (c : Command) (ps ws : List (List ℕ)) (w : List ℕ) → find is_no_allotment (allotting c ps) ≡ Some w
+    → HoldsOf (form_of c) ps ws (Reason.no_allotment w)
+no_allot c ps ws w e =
+    elim (allots c ps) [
+      | inl is ↦
+          let found : find is_no_allotment (drop 1 ps) ≡ Some w = subst (λ (l : List (List ℕ)). find is_no_allotment l ≡ Some w) is e in
+          (stands is_no_allotment (drop 1 ps) w found, none_in (ticks_behind w) (passes is_no_allotment (drop 1 ps) w found))
+      | inr is ↦
+          let no : None ≡ Some w = subst (λ (l : List (List ℕ)). find is_no_allotment l ≡ Some w) is e in absurd (cc)
+    ]
+
+some_pass : (p : List ℕ → Bool) (ws : List (List ℕ)) → list_any p ws ≡ true → 0 < length (filter p ws)
+some_pass p [] h = absurd (cc)
+some_pass p (w ∷ ws) h =
+    elim (cases_Bool (p w)) [
+      | inl is ↦ rw is (omega arith)
+      | inr isnt ↦ rw isnt (some_pass p ws (rw isnt at h))
+    ]
+
+more_pass : (p : List ℕ → Bool) (w : List ℕ) (ws : List (List ℕ)) → length (filter p ws) ≤ length (filter p (w ∷ ws))
+more_pass p w ws =
+    elim (cases_Bool (p w)) [
+      | inl is ↦ rw is (omega arith)
+      | inr isnt ↦ rw isnt (omega arith)
+    ]
+
+twice : (ws : List (List ℕ)) (name : List ℕ) → repeated_name ws ≡ Some name → 1 < length (filter (λ w. bytes_eq name (name_in w)) ws)
+twice [] name e = absurd (cc)
+twice (w ∷ ws) name e =
+    elim (cases_Bool (list_any (has_same_name w) ws)) [
+      | inl again ↦
+          let some : Some (name_in w) ≡ Some name = rw again at e in
+          let same : name_in w ≡ name = cc in
+          subst (λ (n : List ℕ). 1 < length (filter (λ v. bytes_eq n (name_in v)) (w ∷ ws))) same
+          (rw ((bytes_eq-Decides (name_in w) (name_in w)).1 refl) (let rest = some_pass (has_same_name w) ws again in omega (arith, rest)))
+      | inr once ↦
+          let found : repeated_name ws ≡ Some name = rw once at e in
+          let rest = twice ws name found in
+          let more = more_pass (λ v. bytes_eq name (name_in v)) w ws in
+          omega (arith, rest, more)
+    ]
+
+allotted_twice : (c : Command) (ps ws : List (List ℕ)) (name : List ℕ) → repeated_name (allotting c ps) ≡ Some name
+    → HoldsOf (form_of c) ps ws (Reason.allotted_again name)
+allotted_twice c ps ws name e =
+    elim (allots c ps) [
+      | inl is ↦ twice (drop 1 ps) name (subst (λ (l : List (List ℕ)). repeated_name l ≡ Some name) is e)
+      | inr is ↦ let no : None ≡ Some name = subst (λ (l : List (List ℕ)). repeated_name l ≡ Some name) is e in absurd (cc)
+    ]
+
+allotments : (c : Command) (ps ws : List (List ℕ)) → HoldsOf (form_of c) ps ws (allotments_reason c ps ws)
+allotments c ps ws =
+    let P = λ (r : Reason). HoldsOf (form_of c) ps ws r in
+    or_else P Reason.no_allotment (find is_no_allotment (allotting c ps)) (again_reason c ps ws) (no_allot c ps ws)
+    (λ _. or_else P Reason.allotted_again (repeated_name (allotting c ps)) (mark_reason (form_of c) ws) (allotted_twice c ps ws)
+    (λ _. marks (form_of c) ps ws))
+
 many : (c : Command) (ps : List (List ℕ)) → has_many_names c ps ≡ true → MAX_PROCESSES < length (drop 1 ps)
 many command.Chain ps h = grind (arith, nat_tests)
 many command.Picture ps h = absurd (cc)
@@ -98,6 +171,7 @@ many (command.Draw d) ps h = absurd (cc)
 many command.Windows ps h = absurd (cc)
 many command.Faults ps h = absurd (cc)
 many (command.Tell t) ps h = absurd (cc)
+many command.Slack ps h = absurd (cc)
 many command.Impact ps h = absurd (cc)
 many command.Repeats ps h = absurd (cc)
 many command.Check ps h = absurd (cc)
@@ -106,8 +180,8 @@ many command.Replay ps h = absurd (cc)
 
 names : (c : Command) (ps ws : List (List ℕ)) → HoldsOf (form_of c) ps ws (names_reason c ps ws)
 names c ps ws =
-    if_so (HoldsOf (form_of c) ps ws) (has_many_names c ps) Reason.many_names (mark_reason (form_of c) ws)
-    (many c ps) (λ _. marks (form_of c) ps ws)
+    if_so (HoldsOf (form_of c) ps ws) (has_many_names c ps) Reason.many_names (allotments_reason c ps ws)
+    (many c ps) (λ _. allotments c ps ws)
 
 last_two : (ps : List (List ℕ)) → length ps ≡ 3 → drop 1 ps ≡ word_at ps 1 ∷ word_at ps 2 ∷ []
 last_two [] three = absurd (omega arith)

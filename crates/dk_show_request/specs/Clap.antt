@@ -54,6 +54,9 @@ file_rules = argument (codes "FILE") true ∷ []
 abbrev pub telling_rules : List Rule
 telling_rules = argument (codes "FILE") true ∷ flag (codes "csv") ∷ []
 
+abbrev pub slack_rules : List Rule
+slack_rules = argument (codes "FILE") true ∷ many_argument (codes "NAME=TICKS") false ∷ flag (codes "csv") ∷ []
+
 abbrev pub chain_rules : List Rule
 chain_rules = argument (codes "FILE") true ∷ many_argument (codes "NAME") true ∷ option (codes "ledger") ∷ []
 
@@ -78,6 +81,7 @@ rules_for command.Windows = windows_rules
 rules_for command.Holds = holds_rules
 rules_for command.Faults = file_rules
 rules_for (command.Tell t) = telling_rules
+rules_for command.Slack = slack_rules
 rules_for command.Chain = chain_rules
 rules_for command.Impact = change_rules
 rules_for command.Repeats = ticks_rules

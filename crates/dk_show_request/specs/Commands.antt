@@ -17,6 +17,7 @@ word_of command.Faults = codes "faults"
 word_of (command.Tell telling.Certify) = codes "certify"
 word_of (command.Tell telling.Margins) = codes "margins"
 word_of (command.Tell telling.When) = codes "when"
+word_of command.Slack = codes "slack"
 word_of (command.Tell telling.Warnings) = codes "warnings"
 word_of command.Chain = codes "chain"
 word_of command.Impact = codes "impact"
@@ -28,7 +29,7 @@ word_of command.Replay = codes "replay"
 abbrev pub commands : List Command
 commands = command.Picture ∷ command.Draw drawing.Trace ∷ command.Draw drawing.Vcd ∷ command.Draw drawing.Csv
     ∷ command.Windows ∷ command.Holds ∷ command.Faults ∷ command.Tell telling.Certify ∷ command.Tell telling.Margins
-    ∷ command.Tell telling.When ∷ command.Tell telling.Warnings ∷ command.Chain ∷ command.Impact ∷ command.Repeats
+    ∷ command.Tell telling.When ∷ command.Slack ∷ command.Tell telling.Warnings ∷ command.Chain ∷ command.Impact ∷ command.Repeats
     ∷ command.Check ∷ command.Replay ∷ []
 
 -- the command of this word

@@ -42,6 +42,10 @@ file_form = plain (codes "FILE" ∷ []) [] false
 abbrev pub telling_form : Form
 telling_form = record (plain (codes "FILE" ∷ []) [] false) { marks = codes "--csv" ∷ [] }
 
+abbrev pub slack_form : Form
+slack_form = record (plain (codes "FILE" ∷ []) (codes "NAME=TICKS" ∷ []) false)
+    { repeats = Some (codes "NAME=TICKS"); marks = codes "--csv" ∷ [] }
+
 abbrev pub chain_form : Form
 chain_form = record (plain (codes "FILE" ∷ codes "NAME" ∷ []) [] false) {
   repeats = Some (codes "NAME");
@@ -70,6 +74,7 @@ form_of command.Windows = windows_form
 form_of command.Holds = holds_form
 form_of command.Faults = file_form
 form_of (command.Tell t) = telling_form
+form_of command.Slack = slack_form
 form_of command.Chain = chain_form
 form_of command.Impact = change_form
 form_of command.Repeats = ticks_form

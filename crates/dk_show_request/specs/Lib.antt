@@ -5,6 +5,8 @@ pub mod Words
 pub mod Clap
 pub mod Chain
 pub mod Change
+pub mod Allotments
+pub mod Slack
 pub mod Meaning
 pub mod Usage
 pub mod Reasons

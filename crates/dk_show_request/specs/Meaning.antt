@@ -1,5 +1,5 @@
 -- What the words mean.
-use Rattle.std.specs.Prelude.{ℕ, ◌≡◌, ◌<◌, Bool, codes, drop, length, nat_lt, unwrap_or, option_and_then, option_map, List, [], ◌∷◌, Option, Some, None, if◌then◌else◌}
+use Rattle.std.specs.Prelude.{ℕ, ◌≡◌, ◌<◌, Bool, codes, drop, find, is_some, length, map, nat_lt, unwrap_or, ◌||◌, option_and_then, option_map, List, [], ◌∷◌, Option, Some, None, if◌then◌else◌}
 use Rattle.clap.specs.Words.{Row, all_of, first_of}
 use Rattle.dk_config.specs.declared.TheConstants.{MAX_PROCESSES}
 use Rattle.dk_show_request.specs.declared.commands.Drawing.{Drawing}
@@ -13,6 +13,7 @@ use Rattle.dk_show_request.specs.declared.request.WindowsForm.{WindowsForm}
 use Rattle.dk_show_request.specs.declared.request.WindowsForm.TheVariants as windows_form
 use Rattle.dk_show_request.specs.declared.request.Request.{Request}
 use Rattle.dk_show_request.specs.declared.request.Request.TheVariants as request
+use Rattle.dk_show_request.specs.Allotments.{allotment_of, is_no_allotment, repeated_name}
 use Rattle.dk_show_request.specs.Chain.{ChainAsk}
 use Rattle.dk_show_request.specs.Clap.{app_for, given_by, has}
 use Rattle.dk_show_request.specs.Commands.{command_named}
@@ -67,6 +68,20 @@ abbrev pub telling_by : Telling → Bool → Option (List ℕ) → Option Reques
 telling_by t as_csv None = None
 telling_by t as_csv (Some file) = Some (request.Tell (record { telling = t; file = file; as_csv = as_csv }))
 
+abbrev pub slack_with : Bool → List ℕ → List (List ℕ) → Request
+slack_with as_csv file words =
+    request.Slack (record { file = file; allotments = map allotment_of words; as_csv = as_csv })
+
+-- where each of the words is an allotment, and no name stands twice
+abbrev pub slack_of : Bool → List ℕ → List (List ℕ) → Option Request
+slack_of as_csv file words =
+    if is_some (find is_no_allotment words) || is_some (repeated_name words) then None
+    else Some (slack_with as_csv file words)
+
+abbrev pub slack_by : Bool → Option (List (List ℕ)) → Option (List ℕ) → Option Request
+slack_by as_csv words None = None
+slack_by as_csv words (Some file) = slack_of as_csv file (unwrap_or words [])
+
 -- one process, and up to 31 more
 abbrev pub chain_of : List ℕ → List (List ℕ) → Option ChainAsk
 chain_of file [] = None
@@ -120,6 +135,8 @@ asked command.Windows rows = windows_by (windows_form_in rows) (first_of (codes 
 asked command.Holds rows = holds_by (first_of (codes "LEDGER") rows) (first_of (codes "FILE") rows)
 asked command.Faults rows = faults_by (first_of (codes "FILE") rows)
 asked (command.Tell t) rows = telling_by t (has (codes "csv") rows) (first_of (codes "FILE") rows)
+asked command.Slack rows =
+    slack_by (has (codes "csv") rows) (all_of (codes "NAME=TICKS") rows) (first_of (codes "FILE") rows)
 asked command.Chain rows =
     chain_by (first_of (codes "ledger") rows) (first_of (codes "FILE") rows) (all_of (codes "NAME") rows)
 asked command.Impact rows = impact_by (has (codes "csv") rows) (all_of (codes "NAME") rows)

@@ -1,11 +1,12 @@
 -- Why words mean nothing: the first reason that is found.
-use Rattle.std.specs.Prelude.{ℕ, ◌+◌, ◌-◌, ◌==◌, ◌&&◌, ◌||◌, not, Bool, false, codes, decimal, drop, find, is_some, length, nat_lt, slice_get, List, ◌∷◌, ◌++◌, Option, Some, None, if◌then◌else◌}
+use Rattle.std.specs.Prelude.{ℕ, ◌+◌, ◌-◌, ◌==◌, ◌&&◌, ◌||◌, not, Bool, false, codes, decimal, drop, find, is_some, length, nat_lt, slice_get, List, [], ◌∷◌, ◌++◌, Option, Some, None, if◌then◌else◌}
 use Rattle.std.specs.List.{list_any}
 use Rattle.std.specs.Option.{option_map_or}
 use Rattle.dk_config.specs.declared.TheConstants.{MAX_PROCESSES, MAX_RUN_TICKS}
 use Rattle.dk_show_request.specs.declared.commands.Command.{Command}
 use Rattle.dk_show_request.specs.declared.commands.Command.TheVariants as command
 use Rattle.dk_show_request.specs.Commands.{command_named, word_of}
+use Rattle.dk_show_request.specs.Allotments.{is_no_allotment, repeated_name}
 use Rattle.dk_show_request.specs.Forms.{Form, form_of}
 use Rattle.dk_show_request.specs.Numbers.{ticks_in}
 use Rattle.dk_show_request.specs.Usage.{marks_text}
@@ -27,6 +28,10 @@ pub data Reason : Type 0 where
   disorder : List ℕ → List ℕ → Reason
   -- a chain has more names than a configuration has processes
   many_names : Reason
+  -- this word is no allotment of slack
+  no_allotment : List ℕ → Reason
+  -- the process of this name has more than one allotment
+  allotted_again : List ℕ → Reason
   -- more than one of these flags and options stands, or one of them twice
   repeated : List ℕ → Reason
   -- no word stands behind this option
@@ -59,6 +64,11 @@ abbrev pub has_many_names : Command → List (List ℕ) → Bool
 has_many_names command.Chain ps = nat_lt MAX_PROCESSES (length (drop 1 ps))
 has_many_names _ ps = false
 
+-- of a command that takes allotments the words that are to be such
+abbrev pub allotting : Command → List (List ℕ) → List (List ℕ)
+allotting command.Slack ps = drop 1 ps
+allotting _ ps = []
+
 -- of the flags and options
 abbrev pub mark_reason : Form → List (List ℕ) → Reason
 mark_reason f ws =
@@ -66,8 +76,15 @@ mark_reason f ws =
     else if ends_bare f ws then bare (word_at ws (length ws - 1))
     else other
 
+abbrev pub again_reason : Command → List (List ℕ) → List (List ℕ) → Reason
+again_reason c ps ws = option_map_or allotted_again (repeated_name (allotting c ps)) (mark_reason (form_of c) ws)
+
+-- of allotments, and of the flags and options
+abbrev pub allotments_reason : Command → List (List ℕ) → List (List ℕ) → Reason
+allotments_reason c ps ws = option_map_or no_allotment (find is_no_allotment (allotting c ps)) (again_reason c ps ws)
+
 abbrev pub names_reason : Command → List (List ℕ) → List (List ℕ) → Reason
-names_reason c ps ws = if has_many_names c ps then many_names else mark_reason (form_of c) ws
+names_reason c ps ws = if has_many_names c ps then many_names else allotments_reason c ps ws
 
 -- the words stand for a file, FROM and TO, and FROM isn't below TO
 abbrev pub is_disordered : Form → List (List ℕ) → Bool
@@ -114,6 +131,9 @@ reason_text (surplus w) = shown w ++ codes " is one word too many\n"
 reason_text (no_ticks w) = shown w ++ (codes " is no number of ticks from 0 to " ++ (decimal MAX_RUN_TICKS ++ codes "\n"))
 reason_text (disorder from to) = codes "FROM " ++ (shown from ++ (codes " isn't below TO " ++ (shown to ++ codes "\n")))
 reason_text many_names = codes "more than " ++ (decimal MAX_PROCESSES ++ codes " names\n")
+reason_text (no_allotment w) =
+    shown w ++ (codes " is no NAME=TICKS, with TICKS from 0 to " ++ (decimal MAX_RUN_TICKS ++ codes "\n"))
+reason_text (allotted_again name) = shown name ++ codes " is allotted more than once\n"
 reason_text (repeated flags) = flags ++ codes " stands more than once\n"
 reason_text (bare w) = codes "a word is wanted behind " ++ (shown w ++ codes "\n")
 reason_text other = codes "these words are no call of it\n"

@@ -3,6 +3,8 @@ use Rattle.std.specs.Prelude.{ℕ, ◌≡◌, ◌<◌, ◌≤◌, ◌+◌, ◌-�
 use Rattle.std.specs.List.{list_any}
 use Rattle.dk_config.specs.declared.TheConstants.{MAX_PROCESSES}
 use Rattle.dk_show_request.specs.declared.commands.Command.{Command}
+use Rattle.std.specs.Str.{bytes_eq}
+use Rattle.dk_show_request.specs.Allotments.{name_in, ticks_behind}
 use Rattle.dk_show_request.specs.Forms.{Form, form_of}
 use Rattle.dk_show_request.specs.Numbers.{ticks_in}
 use Rattle.dk_show_request.specs.Reasons.{Reason, is_control, reason, wrong_text}
@@ -30,6 +32,8 @@ HoldsOf f ps ws (Reason.surplus w) = (f.repeats ≡ None) × (slice_get ps (leng
 HoldsOf f ps ws (Reason.no_ticks w) = (f.ticks ≡ true) × StandsIn (drop 1 ps) w × (ticks_in w ≡ None)
 HoldsOf f ps ws (Reason.disorder from to) = (f.ticks ≡ true) × (drop 1 ps ≡ from ∷ to ∷ []) × AreNotBelow from to
 HoldsOf f ps ws Reason.many_names = MAX_PROCESSES < length (drop 1 ps)
+HoldsOf f ps ws (Reason.no_allotment w) = StandsIn (drop 1 ps) w × (ticks_behind w ≡ None)
+HoldsOf f ps ws (Reason.allotted_again name) = 1 < length (filter (λ w. bytes_eq name (name_in w)) (drop 1 ps))
 HoldsOf f ps ws (Reason.repeated flags) = (flags ≡ marks_text f.marks) × (1 < length (filter (is_mark f) ws))
 HoldsOf f ps ws (Reason.bare w) = (slice_get ws (length ws - 1) ≡ Some w) × (is_option f w ≡ true)
 HoldsOf f ps ws Reason.other = Unit {0}

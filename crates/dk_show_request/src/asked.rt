@@ -2,14 +2,15 @@
 ghost use Rattle.std.specs.Prelude.{◌≡◌, [], codes, IfOk, map, option_map, unwrap_or};
 ghost use Rattle.dk_show_request.specs.Clap.{has};
 ghost use Rattle.dk_show_request.specs.Numbers.{ticks_in};
-ghost use Rattle.dk_show_request.specs.Meaning.{asked, chain_by, chain_of, chain_with, check_by, check_form_in, drawing_by, faults_by, holds_by, impact_by, picture_by, range_by, range_in, range_of, repeats_by, repeats_of, replay_by, telling_by, windows_by, windows_form_in};
+ghost use Rattle.dk_show_request.specs.Meaning.{asked, chain_by, chain_of, chain_with, check_by, check_form_in, drawing_by, faults_by, holds_by, impact_by, picture_by, range_by, range_in, range_of, repeats_by, repeats_of, replay_by, slack_by, slack_of, slack_with, telling_by, windows_by, windows_form_in};
 
+use crate::allotments::{allotments_of, no_allotment, repeated_name};
 use crate::commands::{Command, Drawing, Telling};
 use crate::given::Given;
 use crate::numbers::ticks_in;
 use crate::request::{
     ChainRequest, ChangeRequest, CheckForm, CheckRequest, Range, RangeRequest, ReplayRequest,
-    Request, TellRequest, WindowsForm,
+    Request, SlackRequest, TellRequest, WindowsForm,
 };
 use dk_config::{MAX_PROCESSES, NoMemory, Text};
 use std::alloc::Global;
@@ -183,6 +184,47 @@ fn telling_by(
             as_csv,
         }))),
         None => Ok(None),
+    }
+}
+
+fn slack_with(alloc: Global, as_csv: bool, file: &str, words: &[&str]) -> Result<Request, NoMemory>
+    ensures { IfOk result (λ r. r ≡ slack_with as_csv file.now (map (λ w. w.now) words.now)) }
+{
+    Ok(Request::Slack(SlackRequest {
+        file: copy_of(alloc, file)?,
+        allotments: allotments_of(alloc, words)?,
+        as_csv,
+    }))
+}
+
+/// Where each of the words is an allotment, and no name stands twice.
+fn slack_of(
+    alloc: Global,
+    as_csv: bool,
+    file: &str,
+    words: &[&str],
+) -> Result<Option<Request>, NoMemory>
+    ensures { IfOk result (λ r. r ≡ slack_of as_csv file.now (map (λ w. w.now) words.now)) }
+{
+    if no_allotment(words).is_some() || repeated_name(words).is_some() {
+        return Ok(None);
+    }
+    Ok(Some(slack_with(alloc, as_csv, file, words)?))
+}
+
+fn slack_by(
+    alloc: Global,
+    as_csv: bool,
+    words: Option<&[&str]>,
+    file: Option<&str>,
+) -> Result<Option<Request>, NoMemory>
+    ensures { IfOk result (λ r. r ≡ slack_by as_csv (option_map (λ ws. map (λ w. w.now) ws.now) words.entry)
+        (option_map (λ w. w.now) file.entry)) }
+{
+    match (file, words) {
+        (None, _) => Ok(None),
+        (Some(file), Some(words)) => slack_of(alloc, as_csv, file, words),
+        (Some(file), None) => slack_of(alloc, as_csv, file, &[]),
     }
 }
 
@@ -365,6 +407,12 @@ pub fn asked(alloc: Global, command: Command, given: &Given) -> Result<Option<Re
         Command::Tell(telling) => {
             telling_by(alloc, telling, given.has("csv"), given.word("FILE"))
         }
+        Command::Slack => slack_by(
+            alloc,
+            given.has("csv"),
+            given.words("NAME=TICKS"),
+            given.word("FILE"),
+        ),
         Command::Chain => chain_by(
             alloc,
             given.word("ledger"),

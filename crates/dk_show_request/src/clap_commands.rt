@@ -48,6 +48,12 @@ const FILE: &[Argument] = &[Argument::One("FILE", true)];
 
 const TELLING: &[Argument] = &[Argument::One("FILE", true), Argument::Flag("csv")];
 
+const SLACK: &[Argument] = &[
+    Argument::One("FILE", true),
+    Argument::Many("NAME=TICKS", false),
+    Argument::Flag("csv"),
+];
+
 const CHAIN: &[Argument] = &[
     Argument::One("FILE", true),
     Argument::Many("NAME", true),
@@ -88,6 +94,7 @@ fn arguments_of(command: Command) -> &'static [Argument]
         Command::Holds => HOLDS,
         Command::Faults => FILE,
         Command::Tell(_) => TELLING,
+        Command::Slack => SLACK,
         Command::Chain => CHAIN,
         Command::Impact => CHANGE,
         Command::Repeats => TICKS,

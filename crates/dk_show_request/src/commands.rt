@@ -39,6 +39,8 @@ pub enum Command {
     /// All that is wrong with the document of a configuration.
     Faults,
     Tell(Telling),
+    /// How much slack is promised.
+    Slack,
     /// How long after an event a chain of processes has answered it.
     Chain,
     /// What a change of the configuration does to each process.
@@ -52,7 +54,7 @@ pub enum Command {
 }
 
 /// In the order of the usage line.
-const COMMANDS: [Command; 16] = [
+const COMMANDS: [Command; 17] = [
     Command::Picture,
     Command::Draw(Drawing::Trace),
     Command::Draw(Drawing::Vcd),
@@ -63,6 +65,7 @@ const COMMANDS: [Command; 16] = [
     Command::Tell(Telling::Certify),
     Command::Tell(Telling::Margins),
     Command::Tell(Telling::When),
+    Command::Slack,
     Command::Tell(Telling::Warnings),
     Command::Chain,
     Command::Impact,
@@ -87,6 +90,7 @@ impl Command {
             Command::Tell(Telling::Certify) => "certify",
             Command::Tell(Telling::Margins) => "margins",
             Command::Tell(Telling::When) => "when",
+            Command::Slack => "slack",
             Command::Tell(Telling::Warnings) => "warnings",
             Command::Chain => "chain",
             Command::Impact => "impact",

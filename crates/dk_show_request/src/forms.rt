@@ -1,6 +1,6 @@
 //! What may stand behind each command word.
 ghost use Rattle.std.specs.Prelude.{◌≡◌, map};
-ghost use Rattle.dk_show_request.specs.Forms.{change_form, chain_form, check_form, form_of, picture_form, plain, telling_form, windows_form};
+ghost use Rattle.dk_show_request.specs.Forms.{change_form, chain_form, check_form, form_of, picture_form, plain, slack_form, telling_form, windows_form};
 
 use crate::commands::Command;
 use std::marker::Model;
@@ -53,6 +53,8 @@ const FILE_NEEDS: &[&str] = &["FILE", "NEEDS"];
 const OLD_NEW: &[&str] = &["OLD", "NEW"];
 
 const NAME: &[&str] = &["NAME"];
+
+const NAME_TICKS: &[&str] = &["NAME=TICKS"];
 
 const PROFILE_NAME_FILE: &[&str] = &["PROFILE", "NAME", "FILE"];
 
@@ -123,6 +125,19 @@ fn telling_form() -> Form
     }
 }
 
+fn slack_form() -> Form
+    ensures { result ≡ slack_form }
+{
+    Form {
+        needed: FILE,
+        optional: NAME_TICKS,
+        repeats: Some("NAME=TICKS"),
+        marks: TABLE_MARKS,
+        value: None,
+        ticks: false,
+    }
+}
+
 fn chain_form() -> Form
     ensures { result ≡ chain_form }
 {
@@ -173,6 +188,7 @@ pub fn form_of(command: Command) -> Form
         Command::Holds => plain(LEDGER, FILE, false),
         Command::Faults => plain(FILE, NONE, false),
         Command::Tell(_) => telling_form(),
+        Command::Slack => slack_form(),
         Command::Chain => chain_form(),
         Command::Impact => change_form(),
         Command::Repeats => plain(FILE_TICKS, NONE, true),

@@ -3,6 +3,7 @@
 //! A command's words are read by `clap` as its form has them (`forms.rt`, `reading.rt`), and mean a request (`asked.rt`).
 #![tactic(auto)]
 
+mod allotments;
 mod arguments;
 mod asked;
 mod clap_commands;
@@ -16,10 +17,12 @@ mod reasons;
 mod request;
 mod usage_line;
 
+pub use allotments::Allotment;
 pub use commands::{Command, Drawing, Telling};
+pub use reason_texts::shown;
 pub use reasons::{lines_law, reasons_law, wrong_words};
 pub use request::{
     ChainRequest, ChangeRequest, CheckForm, CheckRequest, Range, RangeRequest, ReplayRequest,
-    Request, TellRequest, WindowsForm, meaning,
+    Request, SlackRequest, TellRequest, WindowsForm, meaning,
 };
 pub use usage_line::usage;

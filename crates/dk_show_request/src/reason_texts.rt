@@ -71,6 +71,14 @@ pub fn many_names_text(alloc: Global) -> Result<String, AllocError>
     format!(in alloc; "more than {most} names\n")
 }
 
+pub fn no_allotment_text(alloc: Global, word: &str) -> Result<String, AllocError>
+    ensures { IfOk result (λ s. string_bytes s ≡ reason_text (Reason.no_allotment word.now)) }
+{
+    let word = shown(word);
+    let most = MAX_RUN_TICKS;
+    format!(in alloc; "{word} is no NAME=TICKS, with TICKS from 0 to {most}\n")
+}
+
 pub fn bare_text(alloc: Global, word: &str) -> Result<String, AllocError>
     ensures { IfOk result (λ s. string_bytes s ≡ reason_text (Reason.bare word.now)) }
 {

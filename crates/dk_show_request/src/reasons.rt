@@ -5,9 +5,10 @@ ghost use Rattle.dk_show_request.specs.Commands.{command_named, word_of};
 ghost use Rattle.dk_show_request.specs.Usage.{marks_text};
 ghost use Rattle.dk_show_request.specs.Words.{ends_bare, word_at};
 ghost use Rattle.dk_show_request.specs.Numbers.{ticks_in};
-ghost use Rattle.dk_show_request.specs.Reasons.{count_reason, has_many_names, is_below, is_disordered, mark_reason, names_reason, order_reason, reason, reason_text, surplus_reason, ticks_reason, wrong_text, wrong_with};
+ghost use Rattle.dk_show_request.specs.Reasons.{again_reason, allotments_reason, allotting, count_reason, has_many_names, is_below, is_disordered, mark_reason, names_reason, order_reason, reason, reason_text, surplus_reason, ticks_reason, wrong_text, wrong_with};
 ghost use Rattle.dk_show_request.specs.TrueReasons.{AreLines, ReasonsHold};
 
+use crate::allotments::{no_allotment, repeated_name};
 use crate::arguments::{
     arguments, is_option, is_repeated, missing_name, no_ticks_word, surplus_word, unfit_word,
 };
@@ -15,7 +16,8 @@ use crate::commands::Command;
 use crate::forms::{Form, form_of};
 use crate::numbers::ticks_in;
 use crate::reason_texts::{
-    bare_text, disorder_text, many_names_text, no_ticks_text, said_of, shown, unfit_text,
+    bare_text, disorder_text, many_names_text, no_allotment_text, no_ticks_text, said_of, shown,
+    unfit_text,
 };
 use dk_config::MAX_PROCESSES;
 use std::alloc::{AllocError, Global};
@@ -41,7 +43,7 @@ fn marks_of(command: Command) -> &'static str
     match command {
         Command::Picture => "--config",
         Command::Windows => "--strict|--sparing|--all|--tenths|--csv",
-        Command::Tell(_) | Command::Impact => "--csv",
+        Command::Tell(_) | Command::Impact | Command::Slack => "--csv",
         Command::Chain => "--ledger",
         Command::Check => "--csv|--junit",
         _ => "",
@@ -71,6 +73,46 @@ fn has_many_names(command: Command, given: &[&str]) -> bool
     }
 }
 
+/// The words that are to be allotments.
+fn allotting<'a, 'b>(command: Command, given: &'b [&'a str]) -> &'b [&'a str]
+    ensures { map (λ w. w.now) result.now ≡ allotting command (map (λ w. w.now) given.entry.now) }
+{
+    match (command, given) {
+        (Command::Slack, [_, words @ ..]) => words,
+        _ => &[],
+    }
+}
+
+fn again_text(
+    alloc: Global,
+    command: Command,
+    given: &[&str],
+    words: &[String],
+) -> Result<String, AllocError>
+    ensures { IfOk result (λ s. string_bytes s ≡ reason_text (again_reason command (map (λ w. w.now) given.now) (map string_bytes words.now))) }
+{
+    match repeated_name(allotting(command, given)) {
+        Some(name) => said_of(alloc, shown(name), " is allotted more than once\n"),
+        None => mark_text(alloc, command, words),
+    }
+}
+
+/// Of allotments, and of the flags and options.
+fn allotments_text(
+    alloc: Global,
+    command: Command,
+    given: &[&str],
+    words: &[String],
+) -> Result<String, AllocError>
+    ensures { IfOk result (λ s. string_bytes s
+        ≡ reason_text (allotments_reason command (map (λ w. w.now) given.now) (map string_bytes words.now))) }
+{
+    match no_allotment(allotting(command, given)) {
+        Some(word) => no_allotment_text(alloc, word),
+        None => again_text(alloc, command, given, words),
+    }
+}
+
 fn names_text(
     alloc: Global,
     command: Command,
@@ -83,7 +125,7 @@ fn names_text(
     if has_many_names(command, given) {
         many_names_text(alloc)
     } else {
-        mark_text(alloc, command, words)
+        allotments_text(alloc, command, given, words)
     }
 }
 

@@ -3,6 +3,7 @@ ghost use Rattle.std.specs.Prelude.{◌≡◌, IfOk, IfSome, drop, map, string_b
 ghost use Rattle.dk_show_request.specs.Meaning.{HasFewNames, asked, asked_by, meaning};
 ghost use Rattle.dk_show_request.specs.Words.{word_at};
 
+use crate::allotments::Allotment;
 use crate::arguments::fits;
 use crate::asked::asked;
 use crate::commands::{Command, Drawing, Telling};
@@ -65,6 +66,23 @@ impl Model for ChainRequest {
     ghost Value = { ChainAsk };
 
     ghost view = { λ r. record { file = r.file; first = r.first; rest = r.rest.items } };
+}
+
+/// The file of a configuration, allotments of slack to its processes, and whether it is told as a table. It is seen with a
+/// list in place of the `Vec`.
+#[derive(Drop)]
+pub struct SlackRequest {
+    pub file: Text,
+    pub allotments: Vec<Allotment>,
+    pub as_csv: bool,
+}
+
+impl Model for SlackRequest {
+    ghost use Rattle.dk_show_request.specs.Slack.{SlackAsk};
+
+    ghost Value = { SlackAsk };
+
+    ghost view = { λ r. record { file = r.file; allotments = r.allotments.items; as_csv = r.as_csv } };
 }
 
 /// The files of two configurations, the names of the processes that the change may touch, and whether it is told as a
@@ -137,6 +155,8 @@ pub enum Request {
     Faults(Text),
     /// What is told of a configuration.
     Tell(TellRequest),
+    /// How much slack a configuration promises, or whether it can promise these allotments.
+    Slack(SlackRequest),
     /// How long after an event a chain of processes has answered it.
     Chain(ChainRequest),
     /// How long the ledger in the file of this name has a chain take, beside that.

@@ -1,5 +1,6 @@
-use Rattle.dk_show.proofs.Names.{ℕ, List, sym, subst, IfSome, MAX_LEDGER_BYTES, Request, IsAllWrong, IsOfShown, IsOfRequest, IsOfHeld, IsOfLoaded, IsOfRepeats, IsOfWindows, ComesTo}
+use Rattle.dk_show.proofs.Names.{ℕ, ◌≡◌, ◌+◌, None, Asks, MAX_CONFIG_BYTES, MissesAfter, chain_at, handed_after, handed_out, List, sym, subst, IfSome, MAX_LEDGER_BYTES, Request, IsAllWrong, IsOfShown, IsOfRequest, IsOfHeld, IsOfLoaded, IsOfRepeats, IsOfWindows, ComesTo}
 use Rattle.dk_show.specs.declared.refusal.Refusal.TheVariants as why
+use Rattle.dk_show.specs.Asking.{Misses, handed_for}
 use Rattle.dk_show.specs.Output.{IsOfNamed}
 use Rattle.dk_show.proofs.making.work_for.Goals as goal
 
@@ -53,3 +54,15 @@ returns-in-Tell-clause-comes g c =
     let files = (g.D.Depot.seen c.args.depot.now).files in
     let result = c.telling_work.result in
     subst (λ (r : Request). IfSome files (λ at. ComesTo (IsOfRequest r at) result)) (sym c.in-Tell.is) c.telling_work.ensures.comes
+
+pub returns-in-Reactions-clause-asks : goal.returns-in-Reactions-clause-asks
+returns-in-Reactions-clause-asks g c =
+    let files = (g.D.Depot.seen c.args.depot.now).files in
+    let old = g.D.Depot.seen c.args.depot.now in
+    let new = g.D.Depot.seen c.reactions_work.new.depot in
+    let result = c.reactions_work.result in
+    let chain = c.in-Reactions.chain in
+    let named = subst (λ (name : List ℕ). Asks files
+    (λ at. handed_out MAX_CONFIG_BYTES (at chain.file) + handed_after (λ _. handed_out MAX_LEDGER_BYTES (at name)) (chain_at at chain))
+    (λ at. MissesAfter (λ _. at name ≡ None) (chain_at at chain)) old new result) c.as_str-in-Reactions.ensures c.reactions_work.ensures.asks in
+    subst (λ (r : Request). Asks files (handed_for r) (Misses r) old new result) (sym c.in-Reactions.is) named
