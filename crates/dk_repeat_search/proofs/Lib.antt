@@ -1,6 +1,7 @@
 pub mod Names
 pub mod Places
 pub mod Shown
+pub mod Looking
 pub mod Counting
 pub mod Reading
 pub mod Owning

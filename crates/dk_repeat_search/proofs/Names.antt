@@ -1,14 +1,15 @@
 -- The names of other libraries and of this crate's specs that proofs here speak of.
-pub use Rattle.dk_alone.specs.Again.{ProcessStandsAgain, main_is_stopped}
+pub use Rattle.dk_alone.specs.Again.{ProcessStandsAgain, WindowBegins, main_is_stopped}
 pub use Rattle.dk_bound.specs.Rows.{FamilyStands}
 pub use Rattle.dk_config.specs.Checked.{IsAccepted, IsChecked}
 pub use Rattle.dk_config.specs.Configuration.{Configuration}
+pub use Rattle.dk_config.specs.Windows.{main_level, period}
 pub use Rattle.dk_config.specs.declared.TheConstants.{MAX_RUN_TICKS, MAX_THREADS}
 pub use Rattle.dk_cpu.specs.declared.Context.{Context}
 pub use Rattle.dk_cycle.specs.Made.{IsLastMade}
 pub use Rattle.dk_cycle.specs.Own.{IsMainState, IsOwnSearch}
 pub use Rattle.dk_cycle.specs.Run.{AreProcessStates, Follows, IsLastReader, IsProcessState, IsReader, IsRunSearch, IsRunState}
-pub use Rattle.dk_cycle.specs.Seeking.{IsDone}
+pub use Rattle.dk_cycle.specs.Seeking.{HasLooked, HasNoOwnCycle, IsDone, IsYoung, LooksLater, LooksPast, OwnIsFound}
 pub use Rattle.dk_cycle.specs.Start.{with_start}
 pub use Rattle.dk_cycle.specs.Stretching.{GoQuietly, SearchesStay}
 pub use Rattle.dk_cycle.specs.Told.{IsRunTold, OwnIsTold, RunIsTold, made_by, own_told, reader_by, run_told}
@@ -47,9 +48,9 @@ pub use Rattle.dk_repeat_report.specs.Lines.{names_of}
 pub use Rattle.dk_repeat_report.specs.OwnUses.{IsOneFound, IsOneUse, IsSameOwn, OwnCyclesAreAlike, UsesOne, cycle_by, own_cycle}
 pub use Rattle.dk_repeat_report.specs.declared.own.OwnFound.{OwnFound}
 pub use Rattle.dk_repeat_search.specs.Always.{AreTold, AreWaits, AreWatches, IsAlways, IsWatching, watched_process}
-pub use Rattle.dk_repeat_search.specs.Counting.{AreOwnFound, CountsSome, IsFound, StartsCycle}
-pub use Rattle.dk_repeat_search.specs.Repeats.{AreLast, IsRepeatsOf, KnowsLast, repeats, searched_ticks}
-pub use Rattle.dk_repeat_search.specs.Searching.{AreOwn, HasSettled, HaveEnded, IsSearching, loaded_of, process_of}
+pub use Rattle.dk_repeat_search.specs.Counting.{AreOwnFound, CountsSome, IsFound, StartsCycle, told_of}
+pub use Rattle.dk_repeat_search.specs.Repeats.{AreLast, HasNoneToFind, IsRepeatsOf, KnowsLast, NoneWasToFind, repeats, searched_ticks}
+pub use Rattle.dk_repeat_search.specs.Searching.{AllLookFor, AreOwn, HasLookedBefore, HasSettled, HaveEnded, HaveLooked, IsSearching, LooksFor, MayPass, begun, loaded_of, process_of}
 pub use Rattle.dk_repeat_search.specs.States.{AreThreads, HasContext, IsThreadAt, listed}
 pub use Rattle.dk_repeat_search.specs.declared.count.Found.{Found}
 pub use Rattle.dk_repeat_search.specs.declared.search.Searches.{Searches}
@@ -67,9 +68,9 @@ pub use Rattle.dk_trace.specs.declared.ThreadId.{ThreadId}
 pub use Rattle.dk_world.specs.Run.{trace, world}
 pub use Rattle.std.proofs.Common.{Bool, List, None, Option, Some, [], ap, arith, false, get_or, inl, inr, length, map, refl, rules, set, subst, suc, sym, take, true, zero, ℕ, ◌%◌, ◌*◌, ◌++◌, ◌+◌, ◌-◌, ◌/◌, ◌<◌, ◌==◌, ◌∙◌, ◌∷◌, ◌≡◌, ◌≢◌, ◌≤◌, ◌⊎◌}
 pub use Rattle.std.proofs.Math.Bool.{or-true}
-pub use Rattle.std.proofs.Math.Nat.{div-add-mod}
+pub use Rattle.std.proofs.Math.Nat.{div-add-mod, mul-le-mul_left}
 pub use Rattle.std.proofs.Math.Seq.{get_or-append_seam, take-append-add}
-pub use Rattle.std.proofs.lemmas.Bool.{cases_Bool, cases_eq}
+pub use Rattle.std.proofs.lemmas.Bool.{cases_Bool, cases_eq, cases_lt}
 pub use Rattle.std.proofs.lemmas.Bool.Decides.{nat_tests}
 pub use Rattle.std.proofs.lemmas.List.{append-nil, length-replicate, get_or-set_other, get_or-set_same, get_or_append_left, get_or_default, length-map, length-set, length_push, map-append, map-id, map_more, take_all}
 pub use Rattle.std.proofs.lemmas.List.Elements.{All-push, All-set}

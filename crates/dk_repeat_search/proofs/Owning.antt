@@ -1,5 +1,5 @@
 -- What is counted of a cycle of a process by itself.
-use Rattle.dk_repeat_search.proofs.Names.{ℕ, ◌≡◌, ◌+◌, ◌*◌, ◌<◌, ◌≤◌, ◌∙◌, List, [], ◌∷◌, ◌++◌, length, get_or, map, take, Option, Some, None, refl, sym, ap, subst, arith, All, IfSome, slice_index_or, get_or-map-range_with_len, length-map-range_with_len, map-append, map_more, take_all, Configuration, ProcessStandsAgain, Cycle, Keeping, OwnSearch, OwnTold, IsOwnSearch, own_told, MainShare, ProcessUse, CycleCounts, use_of, OwnFound, entries_from, share_at, shares_of, IsOneFound, IsOneUse, IsSameOwn, UsesOne, cycle_by, own_cycle, AreOwn, process_of, AreOwnFound, CountsSome}
+use Rattle.dk_repeat_search.proofs.Names.{ℕ, ◌≡◌, ◌+◌, ◌*◌, ◌<◌, ◌≤◌, ◌∙◌, List, [], ◌∷◌, ◌++◌, length, get_or, map, take, Option, Some, None, refl, sym, ap, subst, arith, All, IfSome, slice_index_or, get_or-map-range_with_len, length-map-range_with_len, map-append, map_more, take_all, Configuration, ProcessStandsAgain, Cycle, Keeping, OwnSearch, OwnTold, IsOwnSearch, own_told, MainShare, ProcessUse, CycleCounts, use_of, OwnFound, entries_from, share_at, shares_of, IsOneFound, IsOneUse, IsSameOwn, UsesOne, cycle_by, own_cycle, AreOwn, process_of, AreOwnFound, CountsSome, told_of}
 use Rattle.dk_cycle.specs.declared.keeping.Keeping.TheVariants as kind
 use Rattle.dk_repeat_report.specs.Lines as lines
 
@@ -87,3 +87,13 @@ pub found-all : (c : Configuration) (programs : List (List ℕ)) (tick : ℕ) (o
     → All (IsOneFound c programs) all → map lines.process_of all ≡ map process_of (take i own) → length own ≤ i → AreOwnFound c programs all
 found-all c programs tick own all i are found so-far past =
     record { all = found; processes = so-far ∙ ap (map process_of) (take_all i own past) ∙ are.processes }
+
+-- what is told of one process more
+pub told-more-of : (all : List OwnFound) (f : OwnFound) (own : List OwnSearch) (i : ℕ) (d : OwnSearch) → i < length own → map told_of all ≡ map own_told (take i own)
+    → told_of f ≡ own_told (get_or own i d) → map told_of (all ++ f ∷ []) ≡ map own_told (take (i + 1) own)
+told-more-of all f own i d less so-far is =
+    map-append told_of all (f ∷ []) ∙ ap (λ (ts : List OwnTold). ts ++ told_of f ∷ []) so-far ∙ ap (λ (t : OwnTold). map own_told (take i own) ++ t ∷ []) is
+    ∙ sym (map_more own_told own i d less)
+
+pub told-all-of : (all : List OwnFound) (own : List OwnSearch) (i : ℕ) → map told_of all ≡ map own_told (take i own) → length own ≤ i → map told_of all ≡ map own_told own
+told-all-of all own i so-far past = so-far ∙ ap (map own_told) (take_all i own past)

@@ -36,3 +36,15 @@ range-more n =
 
 pub many-own : (c : Configuration) (programs : List (List ℕ)) (tick : ℕ) (own : List OwnSearch) → AreOwn c programs tick own → length own ≡ length c.processes
 many-own c programs tick own are = sym (length-map own process_of) ∙ ap length are.processes ∙ length-range_with_len 0 (length c.processes)
+
+-- lists that are the same by two functions are so at each place
+pub same-at : {X Y Z : Type 0} (f : X → Z) (g : Y → Z) (xs : List X) (ys : List Y) (i : ℕ) (d : X) (e : Y) → map f xs ≡ map g ys → i < length xs
+    → (i < length ys) × (f (get_or xs i d) ≡ g (get_or ys i e))
+same-at f g [] ys i d e same low = absurd (omega (arith, low))
+same-at f g (x ∷ xs) [] i d e same low = absurd (cc)
+same-at f g (x ∷ xs) (y ∷ ys) zero d e same low = let here : f x ≡ g y = cc in (omega arith, here)
+same-at f g (x ∷ xs) (y ∷ ys) (suc i) d e same low =
+    let rest : map f xs ≡ map g ys = cc in
+    let r = same-at f g xs ys i d e rest (omega (arith, low)) in
+    let less = r.0 in
+    (omega (arith, less), r.1)

@@ -22,6 +22,7 @@ searching-next k l s e reader run next adds checked' accepted' is reads follows 
       run = follows k.config k.programs checked accepted is.run more read;
       own = record { all = searches-later k.config k.programs k.ticks 1 s.own.items is.own.all; processes = is.own.processes };
       programs = is.programs;
+      each = is.each;
     })
 
 -- and after some in which nobody is at a kernel call
@@ -33,4 +34,5 @@ searching-quiet k l s n law next checked accepted go is =
       run = law k.config k.programs k.ticks n s.run checked accepted go is.run;
       own = record { all = searches-later k.config k.programs k.ticks n s.own.items is.own.all; processes = is.own.processes };
       programs = is.programs;
+      each = is.each;
     })

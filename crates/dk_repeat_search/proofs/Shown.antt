@@ -145,3 +145,16 @@ main-state-of k p s tick memory context stopped = record {
 pub run-state-of : (k : Running) (s : RunState) → s.tick ≡ k.ticks → AreProcessStates k.config (world_of k) (length k.config.processes) s.processes.items
     → IsRunState k.config k.programs s
 run-state-of k s tick are = subst (λ n. AreProcessStates k.config (world k.config k.programs n) (length k.config.processes) s.processes.items) (sym tick) are
+
+-- the main has a row
+pub main-there : (k : Running) (p : ℕ) → FamilyStands k.config (trace_of k) p → IsRowAt k p 0 None → ⊥
+main-there k p stands at =
+    let here : None ≡ Some (counted_row k.config (now_of k) stands.main) = at ∙ ap (option_map (counted_row k.config (now_of k))) (main-shown k p stands) in
+    absurd (cc)
+
+pub main-row : (k : Running) (p : ℕ) (row : ThreadRow) → FamilyStands k.config (trace_of k) p → IsRowAt k p 0 (Some row) → row.id ≡ record { process = p; serial = 0 }
+main-row k p row stands at =
+    let t = thread-of-row k p 0 row at in
+    let both : Some t.thread ≡ Some stands.main = sym t.at ∙ main-shown k p stands in
+    let same : t.thread ≡ stands.main = cc in
+    t.same.0 ∙ ap (λ (x : Thread). x.id) same ∙ stands.id

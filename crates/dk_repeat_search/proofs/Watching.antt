@@ -1,8 +1,9 @@
 -- What is told of each process's windows.
-use Rattle.dk_repeat_search.proofs.Names.{ℕ, zero, suc, ◌≡◌, ◌+◌, ◌<◌, ◌≤◌, ◌≢◌, ◌∙◌, ◌∷◌, ◌++◌, ◌⊎◌, inl, inr, List, [], length, get_or, set, map, false, None, refl, sym, ap, subst, arith, slice_index_or, range_with_len, cases_eq, get_or-set_other, get_or-set_same, get_or_append_left, length-map, length-set, length_push, get_or-range_with_len, length-range_with_len, get_or_from_slice_get, slice_get_within, get_or-append_seam, Configuration, IsChecked, IsAccepted, Workload, IsLoaded, Running, OwnSearch, RunTold, IsLastMade, IsLastReader, IsRunTold, RunIsTold, run_told, Cycle, Keeping, IsDone, Waits, WaitWatch, IsWaits, WaitsAreTold, WaitsSoFar, waits_by, waits_told, Searches, All, AreOwn, HasSettled, HaveEnded, Option, Some, loaded_of, process_of, AreTold, AreWaits, AreWatches, watched_process}
+use Rattle.dk_repeat_search.proofs.Names.{ℕ, zero, suc, ◌≡◌, ◌+◌, ◌<◌, ◌≤◌, ◌≢◌, ◌∙◌, ◌∷◌, ◌++◌, ◌⊎◌, inl, inr, List, [], length, get_or, set, map, false, None, refl, sym, ap, subst, arith, slice_index_or, range_with_len, cases_eq, get_or-set_other, get_or-set_same, get_or_append_left, length-map, length-set, length_push, get_or-range_with_len, length-range_with_len, get_or_from_slice_get, slice_get_within, get_or-append_seam, Configuration, IsChecked, IsAccepted, Workload, IsLoaded, Running, OwnSearch, RunTold, IsLastMade, IsLastReader, IsRunTold, RunIsTold, run_told, Cycle, Keeping, IsDone, Waits, WaitWatch, IsWaits, WaitsAreTold, WaitsSoFar, waits_by, waits_told, HasLookedBefore, HasNoOwnCycle, HaveLooked, OwnIsFound, slice_get, Searches, All, AreOwn, HasSettled, HaveEnded, Option, Some, loaded_of, process_of, AreTold, AreWaits, AreWatches, watched_process}
 use Rattle.dk_cycle.specs.declared.keeping.Keeping.TheVariants as kind
 use Rattle.dk_cycle.specs.declared.waiting.Waits.TheVariants as what
 use Rattle.dk_repeat_search.proofs.Places.{many-own}
+use Rattle.dk_repeat_search.proofs.Told.{no-cycle}
 
 abbrev pub no_search : OwnSearch
 no_search = record { process = 0; period = 0; keeping = kind.Keeps; saved = None; cycle = None }
@@ -104,12 +105,31 @@ told-in c programs n ticks told is all = record {
   alone = is.alone;
 }
 
+-- where it isn't known of a process that keeps to itself, its search had no cycle to find
+none-known : OwnIsFound → (k : Running) (ticks : ℕ) (own : List OwnSearch) (watches : List WaitWatch) (waits : List Waits) → IsChecked k.config → IsAccepted k.config
+    → k.ticks ≤ ticks → AreOwn k.config k.programs k.ticks own → All (HasLookedBefore k (ticks + 1)) own → AreTold own watches (length own) waits → (p : ℕ)
+    → slice_get waits p ≡ Some what.NotWithin → HasNoOwnCycle k.config k.programs p ticks
+none-known law k ticks own watches waits checked accepted few are looked told p there =
+    let low = slice_get_within waits p what.NotWithin there in
+    let many = told.all in
+    let here : p < length own = omega (arith, low, many) in
+    let size = many-own k.config k.programs k.ticks own are in
+    let known : p < length k.config.processes = omega (arith, here, size) in
+    let s = slice_index_or own p no_search in
+    let is : what.NotWithin ≡ waits_told s (slice_index_or watches p no_watch) =
+    sym (get_or_from_slice_get waits p what.NotWithin what.NotWithin there) ∙ told.each p no_search no_watch what.NotWithin here in
+    let both = open-by s.keeping (slice_index_or watches p no_watch).missed s.cycle (sym is) in
+    subst (λ q. HasNoOwnCycle k.config k.programs q ticks) (at-place process_of own (length k.config.processes) p no_search are.processes known)
+    (no-cycle law k ticks s checked accepted few (are.all p no_search here) (looked p no_search here) both.0 both.1)
+
 -- what a kernel's searches and watches tell of its run
 pub always-of : (w : Workload) (ticks : ℕ) (k : Running) (watches : List WaitWatch) (before after : Searches) (run : RunTold) (waits : List Waits) → RunIsTold → WaitsAreTold → loaded_of k ≡ w
     → IsLoaded w → HasSettled k before after → (before.run.cycle ≡ None → k.ticks ≡ ticks) → HaveEnded before k.ticks ticks → AreWatches k.config k.programs k.ticks watches
     → run ≡ run_told after.run → AreTold after.own.items watches (length after.own.items) waits
+    → OwnIsFound → k.ticks ≤ ticks → HaveLooked k (ticks + 1) before
     → IsRunTold w.config w.programs ticks run × AreWaits w.config w.programs ticks waits
-always-of w ticks k watches before after run waits run-law waits-law of loaded settled all ended seen run-is told =
+    × ((p : ℕ) → slice_get waits p ≡ Some what.NotWithin → HasNoOwnCycle w.config w.programs p ticks)
+always-of w ticks k watches before after run waits run-law waits-law of loaded settled all ended seen run-is told found-law few looked =
     let checked : IsChecked k.config = subst (λ (v : Workload). IsChecked v.config) (sym of) loaded.checked in
     let accepted : IsAccepted k.config = subst (λ (v : Workload). IsAccepted v.config) (sym of) loaded.accepted in
     let of-run : IsRunTold k.config k.programs ticks run =
@@ -121,6 +141,9 @@ always-of w ticks k watches before after run waits run-law waits-law of loaded s
     (subst (λ (own : List OwnSearch). All IsDone own ⊎ (k.ticks ≡ ticks)) (sym settled.own) ended) in (
       subst (λ (v : Workload). IsRunTold v.config v.programs ticks run) of of-run,
       subst (λ (v : Workload). AreWaits v.config v.programs ticks waits) of of-waits,
+      subst (λ (v : Workload). (p : ℕ) → slice_get waits p ≡ Some what.NotWithin → HasNoOwnCycle v.config v.programs p ticks) of
+          (none-known found-law k ticks after.own.items watches waits checked accepted few settled.is.own
+          (subst (All (HasLookedBefore k (ticks + 1))) (sym settled.own) looked.own) told),
     )
 
 -- ---- a watch after the other sees an entry

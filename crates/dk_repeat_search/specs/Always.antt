@@ -6,7 +6,9 @@ use Rattle.dk_loader.specs.Workload.{Workload}
 use Rattle.dk_kernel.specs.Running.{Running}
 use Rattle.dk_cycle.specs.declared.own.OwnSearch.{OwnSearch}
 use Rattle.dk_cycle.specs.declared.waiting.Waits.{Waits}
+use Rattle.dk_cycle.specs.declared.waiting.Waits.TheVariants as what
 use Rattle.dk_cycle.specs.declared.waiting.WaitWatch.{WaitWatch}
+use Rattle.dk_cycle.specs.Seeking.{HasNoOwnCycle}
 use Rattle.dk_cycle.specs.Told.{IsRunTold}
 use Rattle.dk_cycle.specs.Waiting.{IsWaitWatch, IsWaits, waits_told}
 use Rattle.dk_repeat_search.specs.declared.always.Always.{Always}
@@ -41,3 +43,5 @@ pub record AreWaits (c : Configuration) (programs : List (List ℕ)) (ticks : �
 pub record IsAlways (w : Workload) (ticks : ℕ) (a : Always) : Type 0 where
   pub run : IsRunTold w.config w.programs ticks a.run
   pub waits : AreWaits w.config w.programs ticks a.waits.items
+  -- where it isn't known of a process that keeps to itself, no cycle of it was to be found
+  pub none : (p : ℕ) → slice_get a.waits.items p ≡ Some what.NotWithin → HasNoOwnCycle w.config w.programs p ticks

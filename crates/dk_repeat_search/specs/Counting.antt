@@ -4,6 +4,7 @@ use Rattle.std.specs.List.{range_with_len}
 use Rattle.dk_config.specs.Configuration.{Configuration}
 use Rattle.dk_loader.specs.Workload.{Workload}
 use Rattle.dk_cycle.specs.declared.Cycle.{Cycle}
+use Rattle.dk_cycle.specs.declared.told.OwnTold.{OwnTold}
 use Rattle.dk_cycle_counts.specs.declared.process.MainShare.{MainShare}
 use Rattle.dk_cycle_counts.specs.declared.counts.CycleCounts.{CycleCounts}
 use Rattle.dk_cycle_counts.specs.Counts.{AreCountsOf}
@@ -26,6 +27,9 @@ pub record CountsSome (c : Configuration) (programs : List (List ℕ)) (shares :
 -- what was found in the run of this configuration with these programs
 abbrev pub IsFound : Workload → Found → Type 0
 IsFound w f = AreOf w.config w.programs f.run f.counts f.own.items
+
+abbrev pub told_of : OwnFound → OwnTold
+told_of f = f.told
 
 -- what was found of each process by itself, in the order of the rows
 pub record AreOwnFound (c : Configuration) (programs : List (List ℕ)) (own : List OwnFound) : Type 0 where

@@ -1,13 +1,14 @@
 -- The searches of a run and of each of its processes.
-use Rattle.std.specs.Prelude.{ℕ, ◌≡◌, ◌⊎◌, List, None, length, map, All, IfSome}
+use Rattle.std.specs.Prelude.{ℕ, ◌≡◌, ◌⊎◌, ◌+◌, ◌≤◌, List, None, length, map, All, IfSome}
 use Rattle.std.specs.List.{range_with_len}
 use Rattle.dk_config.specs.Configuration.{Configuration}
 use Rattle.dk_loader.specs.Workload.{Workload}
-use Rattle.dk_kernel.specs.Running.{Running}
+use Rattle.dk_cpu.specs.declared.Context.{Context}
+use Rattle.dk_kernel.specs.Running.{Running, world_of}
 use Rattle.dk_cycle.specs.declared.own.OwnSearch.{OwnSearch}
-use Rattle.dk_cycle.specs.Own.{IsOwnSearch}
+use Rattle.dk_cycle.specs.Own.{IsGone, IsOwnSearch}
 use Rattle.dk_cycle.specs.Run.{IsRunSearch}
-use Rattle.dk_cycle.specs.Seeking.{IsDone}
+use Rattle.dk_cycle.specs.Seeking.{HasLooked, IsDone, IsYoung}
 use Rattle.dk_cycle.specs.Start.{StartsFirst}
 use Rattle.dk_repeat_search.specs.declared.search.Searches.{Searches}
 
@@ -27,6 +28,32 @@ pub record IsSearching (k : Running) (s : Searches) : Type 0 where
   pub run : IsRunSearch k.config k.programs k.ticks s.run
   pub own : AreOwn k.config k.programs k.ticks s.own.items
   pub programs : s.programs.items ≡ k.programs
+  pub each : length k.programs ≡ length k.config.processes
+
+-- the search needn't look now: what it keeps is young, and the process has another memory or another context of its main
+pub record MayPass (k : Running) (search : OwnSearch) : Type 0 where
+  pub young : IsYoung search.saved k.ticks
+  pub context : Context
+  pub words : List ℕ
+  pub context_is : context ≡ ((world_of k).images search.process).contexts 0
+  pub words_are : words ≡ ((world_of k).images search.process).memory
+  pub gone : IsGone search.saved context words
+
+-- it has looked at each tick before n at which a window of its main begins
+abbrev pub HasLookedBefore : Running → ℕ → OwnSearch → Type 0
+HasLookedBefore k n search = HasLooked k.config k.programs n search
+
+-- and it needn't look in so many ticks from now on
+abbrev pub LooksFor : Running → ℕ → OwnSearch → Type 0
+LooksFor k wait search = (w : ℕ) → 1 ≤ w → w ≤ wait → HasLookedBefore k (k.ticks + w) search
+
+-- each search has looked at each tick before n at which a window begins in which it looks
+pub record HaveLooked (k : Running) (n : ℕ) (s : Searches) : Type 0 where
+  pub own : All (HasLookedBefore k n) s.own.items
+
+-- and none needs to in so many ticks from now on
+abbrev pub AllLookFor : Running → ℕ → Searches → Type 0
+AllLookFor k wait s = (w : ℕ) → 1 ≤ w → w ≤ wait → HaveLooked k (k.ticks + w) s
 
 -- no search of a process looks for anything any more, or all of so many ticks have come
 abbrev pub HaveEnded : Searches → ℕ → ℕ → Type 0

@@ -5,12 +5,14 @@ ghost use Rattle.dk_kernel.specs.Booting.{IsLoaded};
 ghost use Rattle.dk_cycle_start.specs.Passes.{IsPass};
 ghost use Rattle.dk_repeat_search.specs.Always.{AreTold, AreWatches, IsAlways, IsWatching};
 ghost use Rattle.dk_repeat_search.specs.Repeats.{searched_ticks};
-ghost use Rattle.dk_repeat_search.specs.Searching.{begun, loaded_of};
+ghost use Rattle.dk_repeat_search.specs.Searching.{HaveLooked, begun, loaded_of};
 
 use crate::report::searched_ticks;
 use crate::search::Searches;
 use dk_config::{MAX_TICKS, NoMemory};
-use dk_cycle::{OwnSearch, RunTold, WaitWatch, Waits, run_told, told_law, waits_law, waits_told};
+use dk_cycle::{
+    OwnSearch, RunTold, WaitWatch, Waits, found_law, run_told, told_law, waits_law, waits_told,
+};
 use dk_cycle_start::SecondPass;
 use dk_kernel::Kernel;
 use dk_loader::Loaded;
@@ -48,14 +50,15 @@ fn new_watches(alloc: Global, loaded: &Loaded) -> Result<Vec<WaitWatch>, NoMemor
 }
 
 impl Watching {
-    ghost use Rattle.std.specs.Prelude.{◌+◌};
+    ghost use Rattle.std.specs.Prelude.{ℕ, ◌+◌};
     ghost use Rattle.dk_repeat_search.specs.Always.{IsWatching};
-    ghost use Rattle.dk_repeat_search.specs.Searching.{HaveEnded};
+    ghost use Rattle.dk_repeat_search.specs.Searching.{HaveEnded, HaveLooked};
 
     /// Before the first tick.
     fn of(alloc: Global, loaded: &Loaded) -> Result<Watching, NoMemory>
         requires { IsLoaded loaded.now }
-        ensures { IfOk result (IsWatching (begun loaded.now)) }
+        ensures is { IfOk result (IsWatching (begun loaded.now)) }
+        ensures looked { IfOk result (λ w. HaveLooked (begun loaded.now) 0 w.searches) }
     {
         Ok(Watching {
             searches: Searches::of(alloc, loaded)?,
@@ -69,6 +72,7 @@ impl Watching {
         requires is { IsWatching kernel.old self.old }
         ensures next { kernel.new ≡ record kernel.old { ticks = kernel.old.ticks + 1 } }
         ensures is { IsWatching kernel.new self.new }
+        ensures looked { (n : ℕ) → HaveLooked kernel.old n self.old.searches → HaveLooked kernel.new n self.new.searches }
     {
         let entry = self.searches.follow(kernel, steps);
         for watch in self.watches.iter_mut() {
@@ -78,8 +82,10 @@ impl Watching {
 
     /// Looks at the present tick.
     fn look(&mut self, alloc: Global, kernel: &Kernel) -> Result<(), NoMemory>
-        requires { IsWatching kernel.now self.old }
-        ensures { OnOk result (IsWatching kernel.now self.new) }
+        requires is { IsWatching kernel.now self.old }
+        requires looked { HaveLooked kernel.now kernel.now.ticks self.old.searches }
+        ensures is { OnOk result (IsWatching kernel.now self.new) }
+        ensures looked { OnOk result (HaveLooked kernel.now (kernel.now.ticks + 1) self.new.searches) }
     {
         self.searches.look(alloc, kernel)?;
         Ok(())
@@ -95,7 +101,9 @@ impl Watching {
     ) -> Result<(), NoMemory>
         requires room { kernel.old.ticks + ticks ≤ MAX_TICKS }
         requires is { IsWatching kernel.old self.old }
+        requires looked { HaveLooked kernel.old kernel.old.ticks self.old.searches }
         ensures is { OnOk result (IsWatching kernel.new self.new) }
+        ensures looked { OnOk result (HaveLooked kernel.new (kernel.old.ticks + ticks + 1) self.new.searches) }
         ensures same { kernel.new ≡ record kernel.old { ticks = kernel.new.ticks } }
         ensures ticks { kernel.new.ticks ≤ kernel.old.ticks + ticks }
         ensures all { OnOk result (self.new.searches.run.cycle ≡ None → kernel.new.ticks ≡ kernel.old.ticks + ticks) }
@@ -141,10 +149,12 @@ fn told_by<L: Ledger>(
     requires begun { kernel.old.ticks ≡ 0 }
     requires few { ticks ≤ MAX_RUN_TICKS }
     requires is { IsWatching kernel.old watching }
+    requires looked { HaveLooked kernel.old 0 watching.searches }
     requires pass { IsPass pass }
     requires of { pass.early ≡ loaded_of kernel.old }
     ensures { IfOk result (IsAlways (loaded_of kernel.old) ticks) }
 {
+    found_law();
     told_law();
     waits_law();
     watching.watch(alloc, kernel, ticks, steps)?;

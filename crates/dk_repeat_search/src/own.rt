@@ -1,11 +1,12 @@
 //! What is counted of a cycle of each process by itself, of which one tells of all in every run.
-ghost use Rattle.std.specs.Prelude.{◌≡◌, ◌+◌, ◌*◌, ◌<◌, ◌≤◌, length, IfOk, OnOk};
+ghost use Rattle.std.specs.Prelude.{◌≡◌, ◌+◌, ◌*◌, ◌<◌, ◌≤◌, length, map, IfOk, OnOk};
 ghost use Rattle.dk_config.specs.declared.TheConstants.{MAX_PROCESSES, MAX_RUN_TICKS, MAX_TICKS};
 ghost use Rattle.dk_cycle.specs.Own.{IsOwnSearch};
 ghost use Rattle.dk_repeat_report.specs.Cycles.{share_at, shares_of};
 ghost use Rattle.dk_repeat_report.specs.OwnUses.{IsOneFound, UsesOne, own_cycle};
 ghost use Rattle.dk_repeat_search.specs.Searching.{AreOwn};
-ghost use Rattle.dk_repeat_search.specs.Counting.{AreOwnFound};
+ghost use Rattle.dk_repeat_search.specs.Counting.{AreOwnFound, told_of};
+ghost use Rattle.dk_cycle.specs.Told.{own_told as told_by};
 
 use crate::count::count_cycle;
 use dk_config::{MAX_PROCESSES, MAX_RUN_TICKS, MAX_TICKS, NoMemory};
@@ -66,6 +67,7 @@ fn found_of<L: Ledger>(
     requires few { ticks ≤ MAX_RUN_TICKS }
     requires room { kernel.old.ticks + 2 * MAX_RUN_TICKS ≤ MAX_TICKS }
     ensures found { IfOk result (IsOneFound kernel.old.config kernel.old.programs) }
+    ensures told { IfOk result (λ found. found.told ≡ told_by search.now) }
     ensures process { IfOk result (λ found. found.told.process ≡ search.now.process) }
     ensures same { OnOk result (kernel.new ≡ record kernel.old { ticks = kernel.new.ticks }) }
     ensures low { OnOk result (kernel.old.ticks ≤ kernel.new.ticks) }
@@ -99,7 +101,8 @@ pub(crate) fn all_found<L: Ledger>(
     requires within { ticks ≤ kernel.old.ticks }
     requires few { ticks ≤ MAX_RUN_TICKS }
     requires room { kernel.old.ticks ≤ 3 * MAX_RUN_TICKS }
-    ensures { IfOk result (λ all. AreOwnFound kernel.old.config kernel.old.programs all.items) }
+    ensures found { IfOk result (λ all. AreOwnFound kernel.old.config kernel.old.programs all.items) }
+    ensures told { IfOk result (λ all. map told_of all.items ≡ map told_by own.now) }
 {
     let mut all = Vec::new(alloc);
     for search in own {

@@ -5,8 +5,8 @@ ghost use Rattle.dk_kernel.specs.Booting.{IsLoaded};
 ghost use Rattle.dk_cycle_start.specs.Passes.{IsPass};
 ghost use Rattle.dk_repeat_report.specs.Cycles.{shares_of};
 ghost use Rattle.dk_repeat_report.specs.Lines.{names_of};
-ghost use Rattle.dk_repeat_search.specs.Repeats.{IsRepeatsOf, KnowsLast, repeats, searched_ticks};
-ghost use Rattle.dk_repeat_search.specs.Searching.{IsSearching, loaded_of};
+ghost use Rattle.dk_repeat_search.specs.Repeats.{IsRepeatsOf, KnowsLast, NoneWasToFind, repeats, searched_ticks};
+ghost use Rattle.dk_repeat_search.specs.Searching.{HaveLooked, IsSearching, loaded_of};
 ghost use Rattle.dk_repeat_search.specs.Counting.{IsFound};
 
 use crate::count::{Found, count_run, shares_of};
@@ -14,7 +14,7 @@ use crate::own::all_found;
 use crate::search::Searches;
 use dk_config::{Config, MAX_RUN_TICKS, NoMemory, Text};
 use dk_config_report::Page;
-use dk_cycle::{RunTold, run_told, told_law};
+use dk_cycle::{RunTold, found_law, run_told, told_law};
 use dk_cycle_counts::MainShare;
 use dk_cycle_start::SecondPass;
 use dk_kernel::Kernel;
@@ -67,9 +67,12 @@ fn found_by<L: Ledger>(
     requires pass { IsPass pass }
     requires of { pass.early ≡ loaded_of kernel.old }
     requires shares { shares.now ≡ shares_of kernel.old.config }
+    requires looked { HaveLooked kernel.old 0 searches }
     ensures found { IfOk result (IsFound (loaded_of kernel.old)) }
     ensures last { IfOk result (λ found. KnowsLast (loaded_of kernel.old) ticks found.run) }
+    ensures none { IfOk result (λ found. NoneWasToFind (loaded_of kernel.old) ticks found.own.items) }
 {
+    found_law();
     searches.search(alloc, kernel, ticks, steps)?;
     let reached = kernel.now();
     searches.settle(alloc, kernel, pass, steps)?;
@@ -103,6 +106,7 @@ fn searched_by<L: Ledger>(
     requires some { 0 < L.parts }
     ensures found { IfOk result (IsFound loaded) }
     ensures last { IfOk result (λ found. KnowsLast loaded ticks found.run) }
+    ensures none { IfOk result (λ found. NoneWasToFind loaded ticks found.own.items) }
 {
     let searches = Searches::of(alloc, &loaded)?;
     let shares = shares_of(alloc, &loaded)?;
@@ -139,6 +143,7 @@ fn searched(alloc: Global, loaded: Loaded, ticks: u32) -> Result<Found, NoMemory
     requires { IsLoaded loaded }
     ensures found { IfOk result (IsFound loaded) }
     ensures last { IfOk result (λ found. KnowsLast loaded (searched_ticks ticks) found.run) }
+    ensures none { IfOk result (λ found. NoneWasToFind loaded (searched_ticks ticks) found.own.items) }
 {
     searched_by::<Brand>(alloc, loaded, searched_ticks(ticks), Blank::new(1))
 }

@@ -1,14 +1,14 @@
 //! The searches for the cycles of a run and of each of its processes, by stretches of ticks.
-ghost use Rattle.std.specs.Prelude.{[], ◌∷◌, ◌≡◌, ◌+◌, ◌%◌, ◌≤◌, ◌<◌, All, map, slice_index_or, true, None, is_some, IfOk, OnOk};
+ghost use Rattle.std.specs.Prelude.{[], ◌∷◌, ◌≡◌, ◌+◌, ◌%◌, ◌≤◌, ◌<◌, All, length, map, slice_index_or, true, false, None, is_some, IfOk, OnOk};
 ghost use Rattle.dk_config.specs.declared.TheConstants.{MAX_TICKS};
 ghost use Rattle.dk_cycle.specs.Own.{IsOwnSearch};
 ghost use Rattle.dk_cycle.specs.Seeking.{IsDone};
 ghost use Rattle.dk_kernel.specs.Booting.{IsLoaded};
-ghost use Rattle.dk_repeat_search.specs.Searching.{AreOwn, process_of};
+ghost use Rattle.dk_repeat_search.specs.Searching.{AreOwn, HasLookedBefore, LooksFor, MayPass, begun, process_of};
 
 use crate::states::{main_state, run_state};
 use dk_config::{MAX_TICKS, NoMemory};
-use dk_cycle::{OwnSearch, ProcessState, RunSearch, stretch_law};
+use dk_cycle::{OwnSearch, ProcessState, RunSearch, found_law, stretch_law};
 use dk_cycle_start::{SecondPass, go_quietly, programs_of, reader_of};
 use dk_kernel::Kernel;
 use dk_loader::{Code, Loaded};
@@ -39,7 +39,8 @@ fn program_of(loaded: &Loaded, process: usize) -> &[u8]
 /// The search for the cycle of each process, before the first tick.
 fn own_searches(alloc: Global, loaded: &Loaded) -> Result<Vec<OwnSearch>, NoMemory>
     requires { IsLoaded loaded.now }
-    ensures { IfOk result (λ own. AreOwn loaded.now.config loaded.now.programs 0 own.items) }
+    ensures is { IfOk result (λ own. AreOwn loaded.now.config loaded.now.programs 0 own.items) }
+    ensures looked { IfOk result (λ own. All (HasLookedBefore (begun loaded.now) 0) own.items) }
 {
     let mut own = Vec::new(alloc);
     for process in 0..loaded.config.processes.len() {
@@ -71,7 +72,10 @@ fn lesser(one: u32, other: u32) -> u32
 }
 
 /// Whether the process may be what it was at the tick that is kept, or is to be kept as it is now: nothing is copied for it.
-fn is_worth(search: &OwnSearch, kernel: &Kernel, tick: u32) -> bool {
+fn is_worth(search: &OwnSearch, kernel: &Kernel, tick: u32) -> bool
+    requires { tick ≡ kernel.now.ticks }
+    ensures { result ≡ false → MayPass kernel.now search.now }
+{
     let process = search.process;
     if search.is_due(tick) {
         return true;
@@ -95,16 +99,24 @@ fn look_now(
     requires own { IsOwnSearch kernel.now.config kernel.now.programs kernel.now.ticks search.old }
     requires tick { tick ≡ kernel.now.ticks }
     requires begins { tick % search.old.period ≡ 0 }
+    requires each { length kernel.now.programs ≡ length kernel.now.config.processes }
+    requires looked { HasLookedBefore kernel.now kernel.now.ticks search.old }
     ensures own { OnOk result (IsOwnSearch kernel.now.config kernel.now.programs kernel.now.ticks search.new) }
+    ensures looked { OnOk result (HasLookedBefore kernel.now (kernel.now.ticks + 1) search.new) }
     ensures same { OnOk result (search.new.process ≡ search.old.process) }
 {
+    found_law();
+    kernel.dispatcher();
     if !is_worth(search, kernel, tick) {
         return Ok(());
     }
-    if let Some(now) = main_state(alloc, kernel, search.process)? {
-        search.look(now);
+    match main_state(alloc, kernel, search.process)? {
+        None => Ok(()),
+        Some(now) => {
+            search.look(now);
+            Ok(())
+        }
     }
-    Ok(())
 }
 
 /// The same, where its cycle isn't found and one begins. Answers in how many ticks the next one begins, or many where nothing is
@@ -117,16 +129,21 @@ fn look_at(
 ) -> Result<u32, NoMemory>
     requires own { IsOwnSearch kernel.now.config kernel.now.programs kernel.now.ticks search.old }
     requires tick { tick ≡ kernel.now.ticks }
+    requires each { length kernel.now.programs ≡ length kernel.now.config.processes }
+    requires looked { HasLookedBefore kernel.now kernel.now.ticks search.old }
     ensures own { OnOk result (IsOwnSearch kernel.now.config kernel.now.programs kernel.now.ticks search.new) }
+    ensures looked { IfOk result (λ wait. LooksFor kernel.now wait search.new) }
     ensures same { OnOk result (search.new.process ≡ search.old.process) }
     ensures later { IfOk result (λ wait. 1 ≤ wait) }
 {
+    found_law();
     if search.is_done() {
         return Ok(MAX_TICKS);
     }
     let wait = search.wait(tick);
     if wait == search.period {
         look_now(search, alloc, kernel, tick)?;
+        return Ok(wait);
     }
     Ok(wait)
 }
@@ -141,7 +158,10 @@ fn look_all(
 ) -> Result<u32, NoMemory>
     requires own { All (IsOwnSearch kernel.now.config kernel.now.programs kernel.now.ticks) own.old.items }
     requires tick { tick ≡ kernel.now.ticks }
+    requires each { length kernel.now.programs ≡ length kernel.now.config.processes }
+    requires looked { All (HasLookedBefore kernel.now kernel.now.ticks) own.old.items }
     ensures own { OnOk result (All (IsOwnSearch kernel.now.config kernel.now.programs kernel.now.ticks) own.new.items) }
+    ensures looked { IfOk result (λ wait. All (LooksFor kernel.now wait) own.new.items) }
     ensures same { OnOk result (map process_of own.new.items ≡ map process_of own.old.items) }
     ensures later { IfOk result (λ wait. 1 ≤ wait) }
 {
@@ -177,13 +197,15 @@ fn all_may_be(states: &[ProcessState], kernel: &Kernel, processes: u8) -> bool {
 
 impl Searches {
     ghost use Rattle.dk_kernel.specs.Running.{trace_of};
-    ghost use Rattle.dk_repeat_search.specs.Searching.{HasSettled, HaveEnded, IsSearching, begun, loaded_of};
+    ghost use Rattle.std.specs.Prelude.{ℕ};
+    ghost use Rattle.dk_repeat_search.specs.Searching.{AllLookFor, HasSettled, HaveEnded, HaveLooked, IsSearching, begun, loaded_of};
     ghost use Rattle.dk_cycle_start.specs.Passes.{IsPass};
 
     /// The searches before the first tick.
     pub(crate) fn of(alloc: Global, loaded: &Loaded) -> Result<Searches, NoMemory>
         requires { IsLoaded loaded.now }
-        ensures { IfOk result (IsSearching (begun loaded.now)) }
+        ensures is { IfOk result (IsSearching (begun loaded.now)) }
+        ensures looked { IfOk result (HaveLooked (begun loaded.now) 0) }
     {
         Ok(Searches {
             run: RunSearch::new(&loaded.config),
@@ -210,7 +232,8 @@ impl Searches {
         requires is { IsSearching kernel.now self.old }
         requires tick { tick ≡ kernel.now.ticks }
         requires begins { tick % self.old.run.longest ≡ 0 }
-        ensures { OnOk result (IsSearching kernel.now self.new) }
+        ensures is { OnOk result (IsSearching kernel.now self.new) }
+        ensures own { OnOk result (self.new.own.items ≡ self.old.own.items) }
     {
         kernel.dispatcher();
         let processes = self.own.len() as u8;
@@ -229,6 +252,7 @@ impl Searches {
         requires is { IsSearching kernel.now self.old }
         requires tick { tick ≡ kernel.now.ticks }
         ensures is { OnOk result (IsSearching kernel.now self.new) }
+        ensures own { OnOk result (self.new.own.items ≡ self.old.own.items) }
         ensures later { IfOk result (λ wait. 1 ≤ wait) }
     {
         if self.run.is_done() {
@@ -243,8 +267,10 @@ impl Searches {
 
     /// Looks at the present tick. Answers in how many ticks the next one comes at which something is looked for.
     pub(crate) fn look(&mut self, alloc: Global, kernel: &Kernel) -> Result<u32, NoMemory>
-        requires { IsSearching kernel.now self.old }
+        requires is { IsSearching kernel.now self.old }
+        requires looked { HaveLooked kernel.now kernel.now.ticks self.old }
         ensures is { OnOk result (IsSearching kernel.now self.new) }
+        ensures looked { IfOk result (λ wait. AllLookFor kernel.now wait self.new) }
         ensures later { IfOk result (λ wait. 1 ≤ wait) }
     {
         let tick = kernel.now();
@@ -269,6 +295,7 @@ impl Searches {
         ensures next { kernel.new ≡ record kernel.old { ticks = kernel.old.ticks + 1 } }
         ensures entry { trace_of kernel.new ≡ result ∷ trace_of kernel.old }
         ensures is { IsSearching kernel.new self.new }
+        ensures looked { (n : ℕ) → HaveLooked kernel.old n self.old → HaveLooked kernel.new n self.new }
     {
         let tick = kernel.now();
         let entry = kernel.tick(steps);
@@ -288,6 +315,7 @@ impl Searches {
         ensures few { result ≤ most }
         ensures next { kernel.new ≡ record kernel.old { ticks = kernel.old.ticks + result } }
         ensures is { IsSearching kernel.new self.new }
+        ensures looked { (n : ℕ) → HaveLooked kernel.old n self.old → HaveLooked kernel.new n self.new }
     {
         stretch_law();
         let quiet = go_quietly(kernel, most, steps);
@@ -304,6 +332,7 @@ impl Searches {
         requires is { IsSearching kernel.old self.old }
         ensures next { kernel.new ≡ record kernel.old { ticks = kernel.old.ticks + ticks } }
         ensures is { IsSearching kernel.new self.new }
+        ensures looked { (n : ℕ) → HaveLooked kernel.old n self.old → HaveLooked kernel.new n self.new }
     {
         let mut left = ticks;
         while left > 0 {
@@ -321,7 +350,9 @@ impl Searches {
     ) -> Result<(), NoMemory>
         requires room { kernel.old.ticks + ticks ≤ MAX_TICKS }
         requires is { IsSearching kernel.old self.old }
+        requires looked { HaveLooked kernel.old kernel.old.ticks self.old }
         ensures is { OnOk result (IsSearching kernel.new self.new) }
+        ensures looked { OnOk result (HaveLooked kernel.new (kernel.old.ticks + ticks + 1) self.new) }
         ensures same { kernel.new ≡ record kernel.old { ticks = kernel.new.ticks } }
         ensures ticks { kernel.new.ticks ≤ kernel.old.ticks + ticks }
         ensures all { OnOk result (self.new.run.cycle ≡ None → kernel.new.ticks ≡ kernel.old.ticks + ticks) }

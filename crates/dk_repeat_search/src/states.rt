@@ -1,5 +1,5 @@
 //! What a kernel's run is at its tick.
-ghost use Rattle.std.specs.Prelude.{◌≡◌, ◌<◌, ◌++◌, length, IfOk, IfSome, OnOk};
+ghost use Rattle.std.specs.Prelude.{◌≡◌, ◌<◌, ◌++◌, length, true, is_some, IfOk, IfSome, OnOk};
 ghost use Rattle.dk_config.specs.declared.TheConstants.{MAX_THREADS};
 ghost use Rattle.dk_threads.specs.Rows.{is_stopped};
 ghost use Rattle.dk_alone.specs.Again.{main_is_stopped};
@@ -15,7 +15,6 @@ use dk_cycle::{MainState, ProcessState, RunState, ThreadState};
 use dk_inspect::row_at;
 use dk_kernel::Kernel;
 use dk_threads::State;
-use dk_trace::ThreadId;
 use std::alloc::Global;
 
 fn is_stopped(state: State) -> bool
@@ -27,7 +26,8 @@ fn is_stopped(state: State) -> bool
 /// Whether the main of the process was stopped.
 fn main_is_stopped(kernel: &Kernel, process: u8) -> Option<bool>
     requires { process < length kernel.now.config.processes }
-    ensures { IfSome result (λ b. b ≡ main_is_stopped kernel.now.config process (trace_of kernel.now)) }
+    ensures is { IfSome result (λ b. b ≡ main_is_stopped kernel.now.config process (trace_of kernel.now)) }
+    ensures there { is_some result ≡ true }
 {
     rows_law();
     kernel.dispatcher();
@@ -39,14 +39,22 @@ fn main_is_stopped(kernel: &Kernel, process: u8) -> Option<bool>
 
 /// The context of the main of the process.
 fn main_context(kernel: &Kernel, process: u8) -> Option<Context>
-    ensures { IfSome result (λ context. context ≡ ((world_of kernel.now).images process).contexts 0) }
+    requires { process < length kernel.now.config.processes }
+    ensures is { IfSome result (λ context. context ≡ ((world_of kernel.now).images process).contexts 0) }
+    ensures there { is_some result ≡ true }
 {
-    kernel.context(ThreadId { process, serial: 0 })
+    rows_law();
+    kernel.dispatcher();
+    match row_at(kernel, process, 0) {
+        None => None,
+        Some(row) => kernel.context(row.id),
+    }
 }
 
 /// A copy of the process's memory. None where it has no program.
 fn memory_of(alloc: Global, kernel: &Kernel, process: u8) -> Result<Option<Vec<u32>>, NoMemory>
-    ensures { IfOk result (λ o. IfSome o (λ words. words.items ≡ ((world_of kernel.now).images process).memory)) }
+    ensures is { IfOk result (λ o. IfSome o (λ words. words.items ≡ ((world_of kernel.now).images process).memory)) }
+    ensures there { process < length kernel.now.programs → IfOk result (λ o. is_some o ≡ true) }
 {
     match kernel.memory(process) {
         None => Ok(None),
@@ -62,6 +70,7 @@ pub(crate) fn main_state(
 ) -> Result<Option<MainState>, NoMemory>
     requires { process < length kernel.now.config.processes }
     ensures is { IfOk result (λ o. IfSome o (IsMainState kernel.now.config kernel.now.programs process)) }
+    ensures there { process < length kernel.now.programs → IfOk result (λ o. is_some o ≡ true) }
     ensures tick { IfOk result (λ o. IfSome o (λ now. now.tick ≡ kernel.now.ticks)) }
 {
     let Some(stopped) = main_is_stopped(kernel, process) else {

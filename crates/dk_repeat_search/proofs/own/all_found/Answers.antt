@@ -1,6 +1,6 @@
-use Rattle.dk_repeat_search.proofs.Names.{◌≡◌, ◌∙◌, List, length, get_or, map, ap, sym, subst, arith, All, All-push, Running, IsOwnSearch, MainShare, share_at, IsOneFound, process_of}
+use Rattle.dk_repeat_search.proofs.Names.{◌≡◌, ◌∙◌, List, length, get_or, map, ap, sym, subst, arith, All, All-push, Running, IsOwnSearch, MainShare, share_at, IsOneFound, own_told, process_of, told_of}
 use Rattle.dk_repeat_report.specs.Lines as lines
-use Rattle.dk_repeat_search.proofs.Owning.{found-more, many-shares, share-there}
+use Rattle.dk_repeat_search.proofs.Owning.{found-more, many-shares, share-there, told-all-of, told-more-of}
 use Rattle.dk_repeat_search.proofs.own.all_found.Goals as goal
 
 pub bounds-shares-search : goal.bounds-shares-search
@@ -41,7 +41,12 @@ loop-search-preserved g c =
       all = subst (All holds) (sym c.in_ok-push.ensures.items) (All-push holds all found c.loop-search.invariant.all is);
       processes = ap (map lines.process_of) c.in_ok-push.ensures.items
           ∙ found-more all found c.args.own.now i item c.loop-search-test.true c.loop-search.invariant.processes (c.in_ok-found_of.ensures.process ∙ ap process_of c.search-item.is);
+      told = ap (map told_of) c.in_ok-push.ensures.items
+          ∙ told-more-of all found c.args.own.now i item c.loop-search-test.true c.loop-search.invariant.told (c.in_ok-found_of.ensures.told ∙ ap own_told c.search-item.is);
       same = c.in_ok-found_of.ensures.same ∙ ap (λ (r : Running). record r { ticks = c.found_of.new.kernel.ticks }) c.loop-search.invariant.same;
       low = omega (arith, low, lower);
       high = omega (arith, high, higher);
     }
+
+pub returns-clause-told : goal.returns-clause-told
+returns-clause-told g c = told-all-of c.loop-search.all.items c.args.own.now c.loop-search.search-index c.loop-search.invariant.told c.loop-search-test.false

@@ -1,6 +1,6 @@
-use Rattle.dk_repeat_search.proofs.Names.{◌∙◌, length, sym, ap, subst, arith, Workload, Running, shares_of, AreOwn, loaded_of}
+use Rattle.dk_repeat_search.proofs.Names.{◌∙◌, length, sym, ap, subst, arith, Workload, Running, shares_of, AreOwn, HaveLooked, IsLoaded, own_told, map, ◌≡◌, ◌+◌, loaded_of}
 use Rattle.dk_repeat_search.proofs.Places.{many-own}
-use Rattle.dk_repeat_search.proofs.Told.{found-all, knows-last}
+use Rattle.dk_repeat_search.proofs.Told.{found-all, knows-last, none-was}
 use Rattle.dk_repeat_search.proofs.report.found_by.Goals as goal
 
 pub settle-requires-clause-of : goal.settle-requires-clause-of
@@ -34,9 +34,23 @@ all_found-requires-clause-many g c =
 pub returns-clause-found : goal.returns-clause-found
 returns-clause-found g c =
     found-all (loaded_of c.args.kernel.now) c.search.new.kernel c.count_run.new.kernel c.search.new.self c.settle.new.self c.in_ok-counts.counts c.in_ok-own.own.items
-    (ap loaded_of c.search.ensures.same) c.in_ok-counts.ensures.same c.in_ok-settle.ensures c.in_ok-counts.ensures.counted c.in_ok-own.ensures
+    (ap loaded_of c.search.ensures.same) c.in_ok-counts.ensures.same c.in_ok-settle.ensures c.in_ok-counts.ensures.counted c.in_ok-own.ensures.found
 
 pub returns-clause-last : goal.returns-clause-last
 returns-clause-last g c =
     knows-last (loaded_of c.args.kernel.now) c.search.new.kernel c.args.ticks c.search.new.self c.settle.new.self (ap loaded_of c.search.ensures.same) c.in_ok-settle.ensures
     (λ none. let all = c.in_ok-search.ensures.all none in omega (arith, all, c.requires.begun))
+
+pub search-requires-clause-looked : goal.search-requires-clause-looked
+search-requires-clause-looked g c = subst (λ n. HaveLooked c.args.kernel.now n c.args.searches) (sym c.requires.begun) c.requires.looked
+
+pub returns-clause-none : goal.returns-clause-none
+returns-clause-none g c =
+    let k = c.search.new.kernel in
+    let begun = c.requires.begun in
+    let high = c.search.ensures.ticks in
+    let all : c.args.kernel.now.ticks + c.args.ticks + 1 ≡ c.args.ticks + 1 = omega (arith, begun) in
+    none-was c.found_law.ensures.own (loaded_of c.args.kernel.now) k c.args.ticks c.search.new.self c.settle.new.self c.in_ok-own.own.items (ap loaded_of c.search.ensures.same)
+    (subst (λ (w : Workload). IsLoaded w) c.requires.of c.requires.pass.loaded) c.in_ok-settle.ensures
+    (subst (λ n. HaveLooked k n c.search.new.self) all c.in_ok-search.ensures.looked) (omega (arith, high, begun))
+    (c.in_ok-own.ensures.told ∙ ap (map own_told) c.as_slice.ensures.value)

@@ -1,6 +1,10 @@
-use Rattle.dk_repeat_search.proofs.Names.{subst, IfOk, Found, KnowsLast}
+use Rattle.dk_repeat_search.proofs.Names.{subst, IfOk, Found, KnowsLast, NoneWasToFind}
 use Rattle.dk_repeat_search.proofs.report.searched.Goals as goal
 
 pub returns-clause-last : goal.returns-clause-last
 returns-clause-last c =
     subst (λ n. IfOk c.searched_by.result (λ (f : Found). KnowsLast c.args.loaded n f.run)) c.searched_ticks.ensures.is c.searched_by.ensures.last
+
+pub returns-clause-none : goal.returns-clause-none
+returns-clause-none c =
+    subst (λ n. IfOk c.searched_by.result (λ (f : Found). NoneWasToFind c.args.loaded n f.own.items)) c.searched_ticks.ensures.is c.searched_by.ensures.none

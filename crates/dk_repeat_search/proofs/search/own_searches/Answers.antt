@@ -1,4 +1,4 @@
-use Rattle.dk_repeat_search.proofs.Names.{◌≡◌, ◌∙◌, ℕ, List, [], ◌∷◌, ◌++◌, map, ap, sym, subst, All, range_with_len, map-append, All-push, Configuration, Workload, IsOwnSearch, process_of}
+use Rattle.dk_repeat_search.proofs.Names.{◌≡◌, ◌∙◌, ℕ, List, [], ◌∷◌, ◌++◌, map, ap, sym, subst, All, range_with_len, map-append, All-push, Configuration, Workload, IsOwnSearch, HasLooked, HasLookedBefore, begun, process_of}
 use Rattle.dk_repeat_search.proofs.Places.{range-more}
 use Rattle.dk_repeat_search.proofs.search.own_searches.Goals as goal
 
@@ -11,7 +11,9 @@ loop-process-preserved c =
     let all = IsOwnSearch w.config w.programs 0 in
     let config : c.loaded.inside.config ≡ w.config = ap (λ (v : Workload). v.config) c.loaded.view_is in
     let is : all new = subst (λ (z : Configuration). IsOwnSearch z w.programs 0 new) config (c.new-search.ensures.own w.programs (sym c.program_of-program.ensures)) in
+    let looked : HasLookedBefore (begun w) 0 new = subst (λ (z : Configuration). HasLooked z w.programs 0 new) config (c.new-search.ensures.looked w.programs) in
     record {
+      looked = subst (All (HasLookedBefore (begun w) 0)) (sym c.in_ok-push.ensures.items) (All-push (HasLookedBefore (begun w) 0) own new c.loop-process.invariant.looked looked);
       all = subst (All all) (sym c.in_ok-push.ensures.items) (All-push all own new c.loop-process.invariant.all is);
       processes = ap (map process_of) c.in_ok-push.ensures.items ∙ map-append process_of own (new ∷ [])
           ∙ ap (λ (ms : List ℕ). ms ++ process_of new ∷ []) c.loop-process.invariant.processes

@@ -1,4 +1,4 @@
-use Rattle.dk_repeat_search.proofs.Names.{◌∙◌, sym, ap, subst, Running, Follows}
+use Rattle.dk_repeat_search.proofs.Names.{◌∙◌, sym, ap, subst, Running, Follows, HaveLooked}
 use Rattle.dk_repeat_search.proofs.Reading.{searching-next}
 use Rattle.dk_repeat_search.proofs.search.Searches.follow.Goals as goal
 
@@ -11,3 +11,7 @@ returns-clause-is g c =
     searching-next c.args.kernel.now c.tick-entry.new.self c.args.self.now c.tick-entry.result c.reader_of-reader.result c.follow.new.self
     c.tick-entry.ensures.next c.tick-entry.ensures.entry c.dispatcher.ensures.ruled.checked c.dispatcher.ensures.ruled.accepted c.requires.is c.reader_of-reader.ensures
     (subst (λ n. Follows c.args.self.now.run n c.tick-entry.result c.reader_of-reader.result c.follow.new.self) c.now-tick.ensures.ticks c.follow.ensures.run)
+
+pub returns-clause-looked : goal.returns-clause-looked
+returns-clause-looked g c n looked =
+    subst (λ (r : Running). HaveLooked r n (record c.args.self.now { run = c.follow.new.self })) (sym c.tick-entry.ensures.next) (record { own = looked.own })
