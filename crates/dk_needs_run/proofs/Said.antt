@@ -12,7 +12,7 @@ use Rattle.dk_window_report.specs.declared.row.Row.{Row}
 use Rattle.dk_window_report.specs.Owners.{Owner, numbers_of, owners}
 use Rattle.dk_window_report.specs.Report.{IsKeptIn, overruns_in}
 use Rattle.dk_window_report.specs.Rows.{Kept, row_of, rows_of}
-use Rattle.dk_window_report.specs.Text.{overruns}
+use Rattle.dk_window_report.specs.Clean.{overruns}
 use Rattle.dk_needs_run.specs.declared.found.RunFound.{RunFound}
 use Rattle.dk_needs_run.specs.Run.{IsRunIn, faults_in, finding_of, refused_in}
 

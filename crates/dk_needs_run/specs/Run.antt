@@ -10,7 +10,7 @@ use Rattle.dk_audit.specs.Findings.{IsFinding, whole_past}
 use Rattle.dk_audit.specs.Lines.{IsFoundIn}
 use Rattle.dk_window_report.specs.declared.account.Account.{Account}
 use Rattle.dk_window_report.specs.Accounts.{accounts_of}
-use Rattle.dk_window_report.specs.Text.{overruns as overruns_by}
+use Rattle.dk_window_report.specs.Clean.{overruns as overruns_by}
 use Rattle.dk_needs_check.specs.declared.row.Audit.{Audit}
 use Rattle.dk_needs_run.specs.declared.found.RunFault.{RunFault}
 use Rattle.dk_needs_run.specs.declared.found.RunFound.{RunFound}

@@ -1,3 +1,5 @@
+pub mod Growing
+pub mod Searching
 pub mod LastTicks
 pub mod Counting
 pub mod Rows

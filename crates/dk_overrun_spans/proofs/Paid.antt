@@ -14,7 +14,7 @@ use Rattle.dk_window_report.specs.declared.row.Row.{Row}
 use Rattle.dk_window_report.specs.Windows.{did_in, done_in, is_overrun, once, present_window}
 use Rattle.dk_window_report.specs.Owners.{Owner, numbers_of, own_entries, owners}
 use Rattle.dk_window_report.specs.Rows.{RowsStep, did_with, ended, raised_if, row_of, stepped}
-use Rattle.dk_window_overruns.specs.Overruns.{grown, overran_at}
+use Rattle.dk_overrun_spans.specs.Found.{grown, overran_at}
 use Rattle.dk_overrun_spans.specs.Laws.{AreLastPaid, IsLastPaid}
 use Rattle.dk_overrun_spans.specs.Overruns.{overrun_from, overruns_of}
 use Rattle.dk_overrun_spans.proofs.LastTicks.{paid}

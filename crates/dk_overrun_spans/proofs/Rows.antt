@@ -10,8 +10,8 @@ use Rattle.dk_window_report.specs.declared.row.Row.{Row}
 use Rattle.dk_window_report.specs.Owners.{Owner, numbers_of, owners}
 use Rattle.dk_window_report.specs.Report.{IsKeptIn}
 use Rattle.dk_window_report.specs.Rows.{Kept, row_of, rows_of}
-use Rattle.dk_window_overruns.specs.Laws.{AreAllTold}
-use Rattle.dk_window_overruns.specs.Overruns.{overran_at, owner_of}
+use Rattle.dk_overrun_spans.specs.Laws.{AreAllTold}
+use Rattle.dk_overrun_spans.specs.Found.{overran_at, owner_of}
 use Rattle.dk_overrun_spans.specs.Laws.{AreAllCounted}
 use Rattle.dk_overrun_spans.specs.Overruns.{overrun_from, overruns, overruns_of, row_overruns}
 

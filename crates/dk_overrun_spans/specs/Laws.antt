@@ -4,9 +4,14 @@ use Rattle.std.specs.Option.{option_map_or}
 use Rattle.dk_trace.specs.declared.Entry.{Entry}
 use Rattle.dk_trace.specs.Entries.{is_budget_of}
 use Rattle.dk_ledger.specs.Heading.{Heading}
-use Rattle.dk_window_report.specs.Owners.{numbers_of, owners}
+use Rattle.dk_window_report.specs.Owners.{Owner, numbers_of, owners}
 use Rattle.dk_overrun_spans.specs.declared.overrun.Overrun.{Overrun}
+use Rattle.dk_overrun_spans.specs.Found.{overran_at}
 use Rattle.dk_overrun_spans.specs.Overruns.{overruns}
+
+-- as many windows are told of a thread as it overran
+abbrev pub AreAllTold : Type 0
+AreAllTold = (o : Owner) (past : List Entry) → length past < 4294967295 → length (overran_at o past) ≡ (numbers_of past o).overran
 
 -- as many windows are told as the threads overran
 abbrev pub AreAllCounted : Type 0

@@ -1,3 +1,4 @@
+pub mod Found
 pub mod Overruns
 pub mod Marks
 pub mod Laws

@@ -7,7 +7,7 @@ use Rattle.dk_ledger.specs.Heading.{Heading}
 use Rattle.dk_window_report.specs.declared.row.Row.{Row}
 use Rattle.dk_window_report.specs.Owners.{Owner, owners}
 use Rattle.dk_window_report.specs.Windows.{done_in}
-use Rattle.dk_window_overruns.specs.Overruns.{found_of, overran_at, owner_of}
+use Rattle.dk_overrun_spans.specs.Found.{found_of, overran_at, owner_of}
 use Rattle.dk_overrun_spans.specs.declared.overrun.Overrun.{Overrun}
 
 -- The thread's last tick of its budget in the window of so many ticks that begins with tick s, or s where it had none.

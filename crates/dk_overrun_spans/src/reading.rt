@@ -3,15 +3,16 @@ ghost use Rattle.std.specs.Prelude.{◌≡◌, ◌≤◌, ◌++◌, flat_map, le
 ghost use Rattle.dk_config.specs.declared.TheConstants.{MAX_RUN_TICKS};
 ghost use Rattle.dk_ledger.specs.Readable.{Journal, IsReadable, text_of};
 ghost use Rattle.dk_window_report.specs.Report.{IsKeptIn};
-ghost use Rattle.dk_window_overruns.specs.Overruns.{owner_of};
+ghost use Rattle.dk_overrun_spans.specs.Found.{owner_of};
 ghost use Rattle.dk_overrun_spans.specs.Overruns.{overrun_from, overruns, row_overruns};
 
+use crate::all_told_law;
+use crate::finding::found_of;
 use crate::overrun::Overrun;
 use crate::scanning::last_in;
 use dk_config::NoMemory;
 use dk_ledger::{Ledger, one_to_one, read_ledger};
 use dk_trace::Entry;
-use dk_window_overruns::{all_told_law, found_of};
 use dk_window_report::{Row, WindowReport};
 use std::alloc::Global;
 
@@ -91,15 +92,19 @@ fn ledger_of(alloc: Global, bytes: &[u8]) -> Result<Ledger, NoMemory>
     }
 }
 
-/// The windows that the threads of the ledger in these bytes overran: the threads in the order of the report on its windows,
-/// and the windows of a thread in theirs. The entries are kept meanwhile, but not where nothing was overrun.
-pub fn read_overruns(alloc: Global, bytes: &[u8]) -> Result<Vec<Overrun>, NoMemory>
-    requires { (j : Journal) × IsReadable j × (text_of j ≡ bytes.now) }
+/// The windows that the threads of the ledger in these bytes overran, of which this is the report: the threads in the order
+/// of its rows, and the windows of a thread in theirs. The entries are kept meanwhile, but not where nothing was overrun.
+/// `Err` is want of memory.
+pub fn overruns_in(
+    alloc: Global,
+    bytes: &[u8],
+    report: &WindowReport,
+) -> Result<Vec<Overrun>, NoMemory>
+    requires { IsKeptIn bytes.now report.now.heading report.now.kept }
     ensures { IfOk result (λ v. (j : Journal) → IsReadable j → text_of j ≡ bytes.now → v.items ≡ overruns j.heading j.entries) }
 {
     all_told_law();
     one_to_one();
-    let report = report_of(alloc, bytes)?;
     let mut found = Vec::new(alloc);
     if report.overruns() == 0 {
         return Ok(found);
@@ -113,4 +118,13 @@ pub fn read_overruns(alloc: Global, bytes: &[u8]) -> Result<Vec<Overrun>, NoMemo
         rows.as_slice(),
     )?;
     Ok(found)
+}
+
+/// The same of a ledger of which no report is there yet.
+pub fn read_overruns(alloc: Global, bytes: &[u8]) -> Result<Vec<Overrun>, NoMemory>
+    requires { (j : Journal) × IsReadable j × (text_of j ≡ bytes.now) }
+    ensures { IfOk result (λ v. (j : Journal) → IsReadable j → text_of j ≡ bytes.now → v.items ≡ overruns j.heading j.entries) }
+{
+    let report = report_of(alloc, bytes)?;
+    overruns_in(alloc, bytes, &report)
 }

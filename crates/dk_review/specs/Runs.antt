@@ -10,10 +10,10 @@ use Rattle.dk_page.specs.declared.running.Drawing.{Drawing}
 use Rattle.dk_page.specs.declared.running.Drawing.TheVariants.{Drawn, TooMany}
 use Rattle.dk_page.specs.declared.running.Run.{Run}
 use Rattle.dk_picture.specs.Pictures.{IsTooMany, svg_text}
-use Rattle.dk_ledger_report.specs.Reports.{report_of}
 use Rattle.dk_report.specs.Report.{report_text}
-use Rattle.dk_window_table.specs.Table.{windows_csv}
-use Rattle.dk_window_tenths.specs.Table.{tenths_csv}
+use Rattle.show_ledger.specs.Reports.{report_of}
+use Rattle.show_ledger.specs.TenthsTable.{tenths_csv}
+use Rattle.show_ledger.specs.Threads.{windows_csv}
 use Rattle.dk_review.specs.declared.drawing.Range.{Range}
 use Rattle.dk_review.specs.declared.fault.RunFault.{RunFault}
 use Rattle.dk_review.specs.declared.fault.RunFault.TheVariants as why

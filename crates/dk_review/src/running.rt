@@ -3,22 +3,18 @@ ghost use Rattle.std.specs.Prelude.{ℕ, ◌≡◌, IfErr, IfOk, IsErrOf, false,
 ghost use Rattle.dk_config.specs.Checked.{IsAccepted, IsChecked, IsWithinLimits};
 ghost use Rattle.dk_audit.specs.Lines.{IsFoundIn};
 ghost use Rattle.dk_audit.specs.declared.finding.Finding.{Finding as Found};
-ghost use Rattle.dk_ledger.specs.Heading.{IsPrintable};
 ghost use Rattle.dk_ledger.specs.declared.ledger.LedgerFault.{LedgerFault as Fault};
 ghost use Rattle.dk_ledger.specs.Readable.{IsNoText, IsWrongLine};
-ghost use Rattle.dk_window_table.specs.Table.{kept_csv};
 ghost use Rattle.dk_review.specs.Runs.{AreTenthsOf, AreTotalsOf, AreWindowsOf, IsFaultOf, IsOfLedger, IsRunOf, IsToldBy, audit_text, has_passed, is_other, tick_text};
 
-use crate::drawing::{Range, drawing_of, text_bytes};
+use crate::drawing::{Range, drawing_of};
 use crate::fault::RunFault;
 use dk_audit::{Finding, audit_bytes};
 use dk_config::{Config, NoMemory};
 use dk_ledger::LedgerFault;
-use dk_ledger_report::{ReportTexts, report_texts};
 use dk_page::Run;
 use dk_window_report::WindowReport;
-use dk_window_table::windows_csv;
-use dk_window_tenths::tenths_csv;
+use show_ledger::{ReportTexts, report_texts, tenths_csv, windows_csv};
 use std::alloc::{AllocError, Global};
 
 fn tick_text(alloc: Global, tick: u32, part: &str) -> Result<String, AllocError>
@@ -63,20 +59,12 @@ fn audit_bytes_of(alloc: Global, finding: Finding) -> Result<Vec<u8>, NoMemory>
     Ok(text.into_bytes())
 }
 
-fn table_of(alloc: Global, report: &WindowReport) -> Result<Vec<u8>, NoMemory>
-    requires { IsPrintable report.now.heading }
-    ensures { IfOk result (λ v. v.items ≡ kept_csv report.now.heading report.now.kept) }
-{
-    let text = windows_csv(alloc, report)?;
-    Ok(text.into_bytes())
-}
-
 fn windows_of(alloc: Global, bytes: &[u8]) -> Result<Vec<u8>, LedgerFault>
     ensures told { IfOk result (λ v. IsOfLedger (AreWindowsOf v.items) bytes.now) }
     ensures line { (n : ℕ) → IsErrOf result (Fault.Line n) → IsWrongLine n bytes.now × IsNoText bytes.now }
 {
     let report = WindowReport::of(alloc, bytes)?;
-    let table = table_of(alloc, &report)?;
+    let table = windows_csv(alloc, &report)?;
     Ok(table)
 }
 
@@ -98,7 +86,7 @@ fn tenths_in(alloc: Global, bytes: &[u8], range: Option<Range>) -> Result<Vec<u8
 {
     let _range = range;
     match tenths_csv(alloc, bytes) {
-        Ok(table) => Ok(text_bytes(table)),
+        Ok(table) => Ok(table),
         Err(LedgerFault::Line(line)) => Err(RunFault::Line(line)),
         Err(LedgerFault::NoMemory) => Err(RunFault::NoMemory),
     }

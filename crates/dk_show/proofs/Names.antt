@@ -43,7 +43,7 @@ pub use Rattle.dk_show.specs.Pictured.{IsCrowded, IsOfOwnPicture, IsOfPicture, I
 pub use Rattle.dk_show.specs.Repeats.{IsOfRepeats}
 pub use Rattle.dk_show.specs.Replays.{IsOfProfile}
 pub use Rattle.dk_show.specs.Sources.{IsOfSource, is_source_name}
-pub use Rattle.dk_show.specs.Windowed.{AreTold, IsOfPage, IsOfWindows, done_end, sound_end, windows_end}
+pub use Rattle.dk_show.specs.Windowed.{AreTold, IsOfPage, IsOfWindows, done_end, lines_end, sound_end, windows_end}
 pub use Rattle.dk_show.specs.Works.{ComesTo, HasText, IsReady, IsWhole, ended_of}
 pub use Rattle.dk_show.specs.declared.refusal.Refusal.{Refusal}
 pub use Rattle.dk_show.specs.declared.status.Status.{Status}
@@ -57,9 +57,8 @@ pub use Rattle.dk_show_request.specs.declared.request.RangeRequest.{RangeRequest
 pub use Rattle.dk_show_request.specs.declared.request.Request.{Request}
 pub use Rattle.dk_show_request.specs.declared.request.WindowsForm.{WindowsForm}
 pub use Rattle.dk_trace.specs.declared.Entry.{Entry}
-pub use Rattle.dk_window_lines.proofs.KeptForms.{kept_lines_are, kept_sound_is}
-pub use Rattle.dk_window_table.proofs.KeptTable.{kept_csv_is}
-pub use Rattle.dk_window_table.specs.Table.{windows_csv}
+pub use Rattle.show_ledger.specs.Lines.{windows_lines}
+pub use Rattle.show_ledger.specs.Threads.{windows_csv}
 pub use Rattle.std.proofs.Common.{List, [], ap, arith, inl, inr, length, map, refl, reverse, rules, string_bytes, subst, sym, ℕ, ◌*◌, ◌+◌, ◌<◌, ◌^◌, ◌∙◌, ◌∷◌, ◌≡◌, ◌≢◌, ◌≤◌, ◌⊎◌}
 pub use Rattle.std.proofs.lemmas.List.{length-take}
 pub use Rattle.std.proofs.lemmas.List.Sums.{sum_by-le}

@@ -5,7 +5,5 @@ use Rattle.dk_show.specs.declared.work.Work.TheVariants as work
 pub whole_ready : (result : Result Work Refusal) → IfOk result IsWhole → IfOk result IsReady
 whole_ready (Err e) is = tt
 whole_ready (Ok (work.Draw w)) is = absurd is
-whole_ready (Ok (work.Windows report strictness ended)) is = is
-whole_ready (Ok (work.AllWindows windows)) is = tt
 whole_ready (Ok (work.Page page ended)) is = is
 whole_ready (Ok (work.Bytes bytes ended)) is = is

@@ -5,7 +5,7 @@ use Rattle.dk_config.specs.Mutex.{Mutex}
 use Rattle.dk_config.specs.declared.TheConstants.{MAX_LEDGER_BYTES}
 use Rattle.dk_ledger.specs.Readable.{Journal, IsReadable, text_of}
 use Rattle.dk_audit.specs.Findings.{IsOwnHeading}
-use Rattle.dk_hold_report.specs.Text.{holds_text}
+use Rattle.show_ledger.specs.Holds.{holds_text}
 use Rattle.dk_show.specs.declared.refusal.Refusal.TheVariants as why
 use Rattle.dk_show.specs.declared.status.Status.{Status}
 use Rattle.dk_show.specs.declared.status.Status.TheVariants as status

@@ -3,12 +3,12 @@ use Rattle.std.specs.Prelude.{ℕ, ◌≡◌, ◌⊎◌, Bool, true, false, List
 use Rattle.dk_trace.specs.declared.Entry.{Entry}
 use Rattle.dk_ledger.specs.Heading.{Heading}
 use Rattle.dk_ledger.specs.Readable.{Journal, IsReadable, text_of}
-use Rattle.dk_window_lines.specs.declared.lines.Strictness.{Strictness}
-use Rattle.dk_window_lines.specs.declared.lines.Strictness.TheVariants as strictness
-use Rattle.dk_window_lines.specs.Lines.{is_sound, windows_lines}
-use Rattle.dk_window_overruns.specs.Overruns.{all_windows}
-use Rattle.dk_window_table.specs.Table.{windows_csv}
-use Rattle.dk_window_tenths.specs.Table.{tenths_csv}
+use Rattle.show_ledger.specs.declared.lines.Strictness.{Strictness}
+use Rattle.show_ledger.specs.declared.lines.Strictness.TheVariants as strictness
+use Rattle.show_ledger.specs.Lines.{is_sound, windows_lines}
+use Rattle.show_ledger.specs.Overruns.{all_windows}
+use Rattle.show_ledger.specs.TenthsTable.{tenths_csv}
+use Rattle.show_ledger.specs.Threads.{windows_csv}
 use Rattle.dk_show_request.specs.declared.request.WindowsForm.{WindowsForm}
 use Rattle.dk_show_request.specs.declared.request.WindowsForm.TheVariants as form
 use Rattle.dk_show.specs.declared.status.Status.{Status}

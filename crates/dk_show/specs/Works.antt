@@ -1,8 +1,6 @@
 -- What is ready to be written.
 use Rattle.std.specs.Prelude.{ℕ, ◌≡◌, ◌≢◌, ◌<◌, ◌⊎◌, false, length, List, Some, Result, Ok, Err, IfOk, IfErr}
 use Rattle.dk_ledger.specs.Readable.{Journal, IsReadable, text_of}
-use Rattle.dk_ledger.specs.Heading.{IsPrintable}
-use Rattle.dk_window_lines.specs.Lines.{kept_lines}
 use Rattle.dk_show.specs.declared.work.RangeWork.{RangeWork}
 use Rattle.dk_show.specs.declared.work.Work.{Work}
 use Rattle.dk_show.specs.declared.work.Work.TheVariants as work
@@ -20,15 +18,11 @@ IsRangeReady w = (j : Journal) × IsReadable j × (text_of j ≡ w.bytes.items)
 -- nothing of it is to be read or made any more
 abbrev pub IsWhole : Work → Type 0
 IsWhole (work.Draw w) = ⊥
-IsWhole (work.Windows report strictness ended) = IsPrintable report.heading × IsEnd ended
-IsWhole (work.AllWindows windows) = Unit {0}
 IsWhole (work.Page page ended) = IsEnd ended
 IsWhole (work.Bytes bytes ended) = IsEnd ended
 
 abbrev pub IsReady : Work → Type 0
 IsReady (work.Draw w) = IsRangeReady w
-IsReady (work.Windows report strictness ended) = IsPrintable report.heading × IsEnd ended
-IsReady (work.AllWindows windows) = Unit {0}
 IsReady (work.Page page ended) = IsEnd ended
 IsReady (work.Bytes bytes ended) = IsEnd ended
 
@@ -36,16 +30,12 @@ IsReady (work.Bytes bytes ended) = IsEnd ended
 abbrev pub HasText : Work → List ℕ → Type 0
 HasText (work.Draw w) text =
     (j : Journal) × IsReadable j × (text_of j ≡ w.bytes.items) × (text ≡ drawn_text w.drawing w.from w.to j)
-HasText (work.Windows report strictness ended) text = text ≡ kept_lines strictness report.heading report.kept
-HasText (work.AllWindows windows) text = text ≡ windows
 HasText (work.Page page ended) text = text ≡ page
 HasText (work.Bytes bytes ended) text = text ≡ bytes.items
 
 -- how it ends once that is written
 abbrev pub ended_of : Work → Status
 ended_of (work.Draw w) = status.Done
-ended_of (work.Windows report strictness ended) = ended
-ended_of (work.AllWindows windows) = status.Done
 ended_of (work.Page page ended) = ended
 ended_of (work.Bytes bytes ended) = ended
 

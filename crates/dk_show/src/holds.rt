@@ -17,10 +17,9 @@ use crate::work::Work;
 use crate::{Refusal, Status};
 use dk_audit::is_own_heading;
 use dk_config::{Config, MAX_LEDGER_BYTES, MutexRow, Text};
-use dk_config_report::Page;
-use dk_hold_report::holds_report;
 use dk_ledger::{Ledger, LedgerFault, read_ledger};
 use dk_outside::Depot;
+use show_ledger::holds;
 use std::alloc::Global;
 
 /// How long each mutex was held in the ledger that was read of these bytes, where the mutexes have these rows.
@@ -35,8 +34,8 @@ fn told_holds(
     ensures comes { ComesTo (AreHoldsTold rows.now ledger.now) result }
     ensures made { IsMade IsWhole result }
 {
-    let text = holds_report(alloc, bytes, ledger, rows)?;
-    Ok(Work::Page(Page::new(text), Status::Done))
+    let rows = holds(alloc, bytes, ledger, rows)?;
+    Ok(Work::Bytes(rows, Status::Done))
 }
 
 /// How long each mutex was held in the ledger in these bytes.

@@ -1,8 +1,6 @@
 //! The top call.
 ghost use Rattle.std.specs.Prelude.{ℕ, List, ◌≡◌, ◌≢◌, ◌⊎◌, ◌^◌, ◌<◌, ◌≤◌, IfSome, map, string_bytes, true, ◌+◌, ◌++◌, IfOk, Some};
 ghost use Rattle.dk_outside.specs.Counts.{Rises};
-ghost use Rattle.dk_ledger.specs.Heading.{IsPrintable};
-ghost use Rattle.dk_window_lines.specs.Lines.{kept_lines};
 ghost use Rattle.dk_show.specs.Answers.{IsAnswer, IsEnd, IsFault, IsFaulty, is_silent, refusal_status};
 ghost use Rattle.dk_show.specs.Asking.{Misses, WordsMiss, handed_for, handed_for_words};
 ghost use Rattle.dk_show.specs.Leaves.{Leaves};
@@ -19,9 +17,6 @@ use dk_config_report::Page;
 use dk_groups::WriteFault;
 use dk_outside::{Depot, Sink, write_all_to};
 use dk_show_request::{Request, meaning, usage, wrong_words};
-use dk_window_lines::{Strictness, write_lines};
-use dk_window_overruns::AllWindows;
-use dk_window_report::WindowReport;
 use std::alloc::{AllocError, Global};
 
 /// Writes a line.
@@ -97,36 +92,6 @@ fn put_bytes<S: Sink>(bytes: &[u8], ended: Status, sink: &mut S) -> Status
     }
 }
 
-/// Writes what threads did in their windows.
-fn put_windows<S: Sink>(
-    report: &WindowReport,
-    strictness: Strictness,
-    ended: Status,
-    sink: &mut S,
-) -> Status
-    requires printable { IsPrintable report.now.heading }
-    requires ends { IsEnd ended }
-    ensures left { Leaves S.seen (λ text s. (text ≡ kept_lines strictness report.now.heading report.now.kept)
-        × (s ≡ ended)) sink.old sink.new result }
-    ensures only { (result ≡ ended) ⊎ (result ≡ Status.SinkFault) }
-{
-    match write_lines(report, strictness, sink) {
-        Ok(()) => ended,
-        Err(_) => Status::SinkFault,
-    }
-}
-
-/// Writes that, and each window that they overran.
-fn put_all<S: Sink>(windows: &AllWindows, sink: &mut S) -> Status
-    ensures left { Leaves S.seen (λ text s. (text ≡ windows.now) × (s ≡ Status.Done)) sink.old sink.new result }
-    ensures only { (result ≡ Status.Done) ⊎ (result ≡ Status.SinkFault) }
-{
-    match windows.write(sink) {
-        Ok(()) => Status::Done,
-        Err(_) => Status::SinkFault,
-    }
-}
-
 /// Writes what is ready.
 fn put<S: Sink>(alloc: Global, work: &Work, sink: &mut S) -> Status
     requires { IsReady work.now }
@@ -138,8 +103,6 @@ fn put<S: Sink>(alloc: Global, work: &Work, sink: &mut S) -> Status
 {
     match work {
         Work::Draw(work) => put_drawing(alloc, work, sink),
-        Work::Windows(report, strictness, ended) => put_windows(report, *strictness, *ended, sink),
-        Work::AllWindows(windows) => put_all(windows, sink),
         Work::Page(page, ended) => put_page(page, *ended, sink),
         Work::Bytes(bytes, ended) => put_bytes(bytes.as_slice(), *ended, sink),
     }

@@ -8,25 +8,21 @@ ghost use Rattle.dk_show.specs.Asking.{Asks, handed_out};
 ghost use Rattle.dk_show.specs.Leaves.{Reads};
 ghost use Rattle.dk_show.specs.Output.{IsOfNamed};
 ghost use Rattle.dk_show.specs.Windowed.{AreTold, IsOfPage, IsOfWindows, done_end, lines_end, sound_end};
-ghost use Rattle.dk_show.specs.Works.{ComesTo, HasText, IsMade, IsWhole, ended_of};
-ghost use Rattle.dk_window_lines.specs.Lines.{windows_lines};
-ghost use Rattle.dk_window_overruns.specs.Overruns.{all_windows};
-ghost use Rattle.dk_window_table.specs.Table.{windows_csv};
-ghost use Rattle.dk_window_tenths.specs.Table.{tenths_csv};
+ghost use Rattle.dk_show.specs.Works.{ComesTo, IsMade, IsWhole};
+ghost use Rattle.show_ledger.specs.Lines.{windows_lines};
+ghost use Rattle.show_ledger.specs.Overruns.{all_windows};
+ghost use Rattle.show_ledger.specs.TenthsTable.{tenths_csv};
+ghost use Rattle.show_ledger.specs.Threads.{windows_csv};
 
 use crate::files::file_at;
 use crate::work::Work;
 use crate::{Refusal, Status};
 use dk_config::MAX_LEDGER_BYTES;
-use dk_config_report::Page;
 use dk_ledger::LedgerFault;
 use dk_outside::Depot;
 use dk_show_request::WindowsForm;
-use dk_window_lines::{Strictness, is_sound};
-use dk_window_overruns::AllWindows;
 use dk_window_report::WindowReport;
-use dk_window_table::windows_csv;
-use dk_window_tenths::tenths_csv;
+use show_ledger::{Strictness, all_windows, is_sound, tenths_csv, windows_csv, windows_lines};
 use std::alloc::Global;
 
 /// How the call ends.
@@ -38,14 +34,15 @@ fn sound_end(sound: bool) -> Status
 }
 
 /// What is told of a report as lines.
-fn lines_work(report: WindowReport, strictness: Strictness) -> Work
-    requires { IsPrintable report.heading }
-    ensures told { (past : List Entry) (text : List ℕ) → IsKeptOf report.heading past report.kept → HasText result text
-        → AreTold (windows_lines strictness) (lines_end strictness) report.heading past text (ended_of result) }
-    ensures whole { IsWhole result }
+fn lines_work(alloc: Global, report: &WindowReport, strictness: Strictness) -> Result<Work, Refusal>
+    requires { IsPrintable report.now.heading }
+    ensures comes { (past : List Entry) → IsKeptOf report.now.heading past report.now.kept
+        → ComesTo (AreTold (windows_lines strictness) (lines_end strictness) report.now.heading past) result }
+    ensures made { IsMade IsWhole result }
 {
-    let ended = sound_end(is_sound(&report, strictness));
-    Work::Windows(report, strictness, ended)
+    let lines = windows_lines(alloc, report, strictness)?;
+    let ended = sound_end(is_sound(report, strictness));
+    Ok(Work::Bytes(lines, ended))
 }
 
 /// What the threads of the ledger in these bytes did, as lines.
@@ -54,7 +51,7 @@ fn of_lines(alloc: Global, strictness: Strictness, bytes: &[u8]) -> Result<Work,
     ensures made { IsMade IsWhole result }
 {
     match WindowReport::of(alloc, bytes) {
-        Ok(report) => Ok(lines_work(report, strictness)),
+        Ok(report) => lines_work(alloc, &report, strictness),
         Err(LedgerFault::Line(line)) => Err(Refusal::LedgerLine(line)),
         Err(LedgerFault::NoMemory) => Err(Refusal::NoMemory),
     }
@@ -68,7 +65,7 @@ fn table_work(alloc: Global, report: &WindowReport) -> Result<Work, Refusal>
     ensures made { IsMade IsWhole result }
 {
     let table = windows_csv(alloc, report)?;
-    Ok(Work::Page(Page::new(table), Status::Done))
+    Ok(Work::Bytes(table, Status::Done))
 }
 
 /// What the threads of the ledger in these bytes did, as a table.
@@ -88,8 +85,8 @@ fn of_all(alloc: Global, bytes: &[u8]) -> Result<Work, Refusal>
     ensures comes { ComesTo (IsOfPage all_windows done_end bytes.now) result }
     ensures made { IsMade IsWhole result }
 {
-    match AllWindows::of(alloc, bytes) {
-        Ok(windows) => Ok(Work::AllWindows(windows)),
+    match all_windows(alloc, bytes) {
+        Ok(windows) => Ok(Work::Bytes(windows, Status::Done)),
         Err(LedgerFault::Line(line)) => Err(Refusal::LedgerLine(line)),
         Err(LedgerFault::NoMemory) => Err(Refusal::NoMemory),
     }
@@ -101,7 +98,7 @@ fn of_tenths(alloc: Global, bytes: &[u8]) -> Result<Work, Refusal>
     ensures made { IsMade IsWhole result }
 {
     match tenths_csv(alloc, bytes) {
-        Ok(table) => Ok(Work::Page(Page::new(table), Status::Done)),
+        Ok(table) => Ok(Work::Bytes(table, Status::Done)),
         Err(LedgerFault::Line(line)) => Err(Refusal::LedgerLine(line)),
         Err(LedgerFault::NoMemory) => Err(Refusal::NoMemory),
     }

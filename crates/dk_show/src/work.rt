@@ -13,9 +13,6 @@ use dk_outside::Sink;
 use dk_show_request::Drawing;
 use dk_trace_events::Trace;
 use dk_vcd::Dump;
-use dk_window_lines::Strictness;
-use dk_window_overruns::AllWindows;
-use dk_window_report::WindowReport;
 use std::alloc::Global;
 
 /// A ledger that can be read, in its bytes, and what is to be drawn of its ticks from `from` up to before `to`.
@@ -32,10 +29,6 @@ pub(crate) struct RangeWork {
 pub(crate) enum Work {
     /// A drawing of a ledger, which is read once more meanwhile.
     Draw(RangeWork),
-    /// What threads did in their windows, whether the ledger has to be clean, and the status of the call once it is written.
-    Windows(WindowReport, Strictness, Status),
-    /// That, and each window that they overran.
-    AllWindows(AllWindows),
     /// A whole page, and the status of the call once it is written.
     Page(Page, Status),
     /// The bytes of a whole text, and the same.

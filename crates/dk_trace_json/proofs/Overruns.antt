@@ -14,7 +14,7 @@ use Rattle.dk_ledger.specs.Heading.{Heading}
 use Rattle.dk_ledger.specs.Readable.{IsReadable, IsReadableHeading, size_in}
 use Rattle.dk_ledger.proofs.EntryLists.{all_both}
 use Rattle.dk_window_report.specs.Owners.{Owner, child_owner, made_in, made_of, main_owner, owners}
-use Rattle.dk_window_overruns.specs.Overruns.{overran_at}
+use Rattle.dk_overrun_spans.specs.Found.{overran_at}
 use Rattle.dk_overrun_spans.specs.declared.overrun.Overrun.{Overrun}
 use Rattle.dk_overrun_spans.specs.Overruns.{overrun_from, overruns, overruns_of}
 use Rattle.dk_trace_events.proofs.Behind.{all_reversed}

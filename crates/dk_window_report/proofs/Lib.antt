@@ -7,6 +7,6 @@ pub mod Found
 pub mod Stepping
 pub mod QuietTicks
 pub mod Tables
-pub mod Texts
+pub mod LateRows
 pub mod Reading
 pub mod Overruns

@@ -28,7 +28,7 @@ use Rattle.dk_trace.proofs.Whose.{of-thread}
 use Rattle.dk_ledger.specs.Heading.{Heading}
 use Rattle.dk_window_report.specs.Windows.{window_at, ended_windows, did_in, is_overrun, unstopped, stopped_once}
 use Rattle.dk_window_report.specs.Owners.{Owner, owners, main_owner, made_of, made_in, own_entries, did_of, numbers_of, child_owner, level_at, ticks_left}
-use Rattle.dk_window_report.specs.Text.{overruns}
+use Rattle.dk_window_report.specs.Clean.{overruns}
 use Rattle.dk_window_report.specs.Overruns.{IsHeadingOf, IsCounted, AllCounted, AllWaited, IsWaited, window_from, owner_of}
 
 -- ---- who is reported

@@ -5,7 +5,7 @@ pub mod Rows
 pub mod Passing
 pub mod Late
 pub mod Touched
-pub mod Text
+pub mod Clean
 pub mod Firsts
 pub mod Report
 pub mod Overruns

@@ -54,7 +54,7 @@ fn level_at(header: &Header, process: u8) -> u8
 }
 
 /// The row of the main of the process, before tick 0.
-fn main_row(header: &Header, process: u8) -> Row
+pub fn main_row(header: &Header, process: u8) -> Row
     ensures { result ≡ new_row (main_owner header.now process) }
 {
     let thread = ThreadId { process, serial: 0 };

@@ -6,7 +6,7 @@ ghost use Rattle.dk_trace.specs.Guarantees.{Received};
 ghost use Rattle.dk_ledger.specs.Heading.{Heading};
 ghost use Rattle.dk_window_report.specs.Rows.{RowsStart, RowsStep};
 ghost use Rattle.dk_window_report.specs.Passing.{RowsGoBy};
-ghost use Rattle.dk_window_report.specs.Text.{overruns};
+ghost use Rattle.dk_window_report.specs.Clean.{overruns};
 ghost use Rattle.dk_window_report.specs.Overruns.{IsHeadingOf, AllCounted, AllWaited};
 
 /// Each window that has ended and of which a thread has a share is among those that are counted of the thread.

@@ -1,29 +1,25 @@
 //! The report of a ledger's windows.
 ghost use Rattle.std.specs.Prelude.{ℕ, List, [], ◌≡◌, IfOk, IsErrOf, OnOk};
 ghost use Rattle.dk_trace.specs.declared.Entry.{Entry};
-ghost use Rattle.dk_outside.specs.Written.{Writes};
 ghost use Rattle.dk_ledger.specs.declared.ledger.LedgerFault.{LedgerFault as Fault};
 ghost use Rattle.dk_ledger.specs.Heading.{IsPrintable};
 ghost use Rattle.dk_ledger.specs.Readable.{IsNoText, IsWrongLine};
 ghost use Rattle.dk_window_report.specs.Rows.{IsKeptOf};
 ghost use Rattle.dk_window_report.specs.Touched.{IsPlaced};
-ghost use Rattle.dk_window_report.specs.Text.{windows_text, is_clean};
-ghost use Rattle.dk_window_report.specs.Firsts.{firsts_text, is_strictly_clean, reasons_text};
-ghost use Rattle.dk_window_report.specs.Report.{ComesNext, IsKeptIn, kept_firsts, kept_reasons, kept_text, overruns_in, is_kept_clean, is_kept_strictly_clean};
+ghost use Rattle.dk_window_report.specs.Clean.{is_clean, is_strictly_clean};
+ghost use Rattle.dk_window_report.specs.Report.{ComesNext, IsKeptIn, overruns_in, is_kept_clean, is_kept_strictly_clean};
 
 use crate::account::Account;
-use crate::firsts::{Wanted, any_counts, write_accounts, write_overruns, write_troubles};
+use crate::clean::{any_counts, overruns_in};
 use crate::kept::Table;
 use crate::late::rows_before;
-use crate::printing::{overruns_in, overruns_line, write_rows};
 use crate::row::Row;
 use dk_config::NoMemory;
 use dk_ledger::{Header, LedgerFault, LedgerLine, LedgerReader};
-use dk_outside::{Sink, SinkError};
 use std::alloc::Global;
 use std::marker::Model;
 
-/// What each thread of a ledger did in its windows that have ended, ready to be written.
+/// What each thread of a ledger did in its windows that have ended.
 #[derive(Drop)]
 pub struct WindowReport {
     header: Header,
@@ -119,21 +115,6 @@ impl WindowReport {
         self.overruns() == 0 && !self.table.is_troubled()
     }
 
-    /// Writes a line for each thread, and one for all. It needs no memory.
-    pub fn write<S: Sink>(&self, sink: &mut S) -> Result<(), SinkError>
-        requires { IsPrintable self.now.heading }
-
-        ensures wrote { Writes (S.seen sink.old) (S.seen sink.new) result
-            (kept_text self.now.heading self.now.kept) }
-
-        // It is the text of the entries of which this is kept.
-        ensures text { (past : List Entry) → IsKeptOf self.now.heading past self.now.kept
-            → kept_text self.now.heading self.now.kept ≡ windows_text self.now.heading past }
-    {
-        write_rows(&self.header, self.table.ticks(), self.table.lates(), sink)?;
-        overruns_line(self.overruns()).write_to(sink)
-    }
-
     /// Whether no call was refused, no thread faulted, and nothing overran; with `sparing` a thread that lives on slack
     /// may overrun: one that never waits, of a process that had slack.
     pub fn is_strictly_clean(&self, sparing: bool) -> bool
@@ -143,62 +124,5 @@ impl WindowReport {
     {
         let table = &self.table;
         !any_counts(sparing, table.accounts(), table.ticks(), table.lates()) && !table.is_troubled()
-    }
-
-    /// Writes a line for each process, with its budget, how many calls of it were refused, how many faults and how many
-    /// ticks of slack it had, each with the tick of the first; and one for each thread that overran, with the first
-    /// window. It needs no memory.
-    pub fn write_firsts<S: Sink>(&self, sink: &mut S) -> Result<(), SinkError>
-        requires { IsPrintable self.now.heading }
-
-        ensures wrote { Writes (S.seen sink.old) (S.seen sink.new) result
-            (kept_firsts self.now.heading self.now.kept) }
-
-        // It is the text of the entries of which this is kept.
-        ensures text { (past : List Entry) → IsKeptOf self.now.heading past self.now.kept
-            → kept_firsts self.now.heading self.now.kept ≡ firsts_text self.now.heading past }
-    {
-        let table = &self.table;
-        let wanted = Wanted {
-            strict: false,
-            sparing: false,
-        };
-        write_accounts(&self.header, table.accounts(), sink)?;
-        write_overruns(
-            &self.header,
-            table.accounts(),
-            table.ticks(),
-            table.lates(),
-            wanted,
-            sink,
-        )
-    }
-
-    /// Writes why it isn't strictly clean: a line for each thread that overran, but with `sparing` for none that lives on
-    /// slack, and for the refused calls and the faults of each process. It needs no memory.
-    pub fn write_reasons<S: Sink>(&self, sparing: bool, sink: &mut S) -> Result<(), SinkError>
-        requires { IsPrintable self.now.heading }
-
-        ensures wrote { Writes (S.seen sink.old) (S.seen sink.new) result
-            (kept_reasons sparing self.now.heading self.now.kept) }
-
-        // It is the text of the entries of which this is kept.
-        ensures text { (past : List Entry) → IsKeptOf self.now.heading past self.now.kept
-            → kept_reasons sparing self.now.heading self.now.kept ≡ reasons_text sparing self.now.heading past }
-    {
-        let table = &self.table;
-        let wanted = Wanted {
-            strict: true,
-            sparing,
-        };
-        write_overruns(
-            &self.header,
-            table.accounts(),
-            table.ticks(),
-            table.lates(),
-            wanted,
-            sink,
-        )?;
-        write_troubles(&self.header, table.accounts(), sink)
     }
 }

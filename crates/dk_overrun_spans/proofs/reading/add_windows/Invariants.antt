@@ -1,5 +1,5 @@
 use Rattle.std.proofs.Common.{◌≡◌, ◌++◌, drop, map}
-use Rattle.dk_window_overruns.specs.Overruns.{owner_of}
+use Rattle.dk_overrun_spans.specs.Found.{owner_of}
 use Rattle.dk_overrun_spans.specs.Overruns.{overrun_from}
 use Rattle.dk_overrun_spans.proofs.reading.add_windows.Given as goal
 

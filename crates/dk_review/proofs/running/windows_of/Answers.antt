@@ -1,7 +1,6 @@
 use Rattle.std.proofs.Common.{◌∙◌}
 use Rattle.std.specs.Prelude.{reverse}
 use Rattle.dk_ledger.specs.Readable.{Journal}
-use Rattle.dk_window_table.proofs.KeptTable.{kept_csv_is}
 use Rattle.dk_ledger.specs.declared.ledger.LedgerFault.{LedgerFault}
 use Rattle.dk_ledger.proofs.Readings.{passed_on}
 use Rattle.dk_review.proofs.running.windows_of.Goals as goal
@@ -13,7 +12,7 @@ returns-clause-told c =
     let es = all.0 in
     let read = all.1 in
     let j : Journal = record { heading = report.heading; entries = es } in
-    (j, read.readable, read.text, c.in_ok-table.ensures ∙ kept_csv_is report.heading (reverse es) report.kept all.2)
+    (j, read.readable, read.text, c.in_ok-table.ensures (reverse es) all.2)
 
 pub returns-in_err-report-clause-line : goal.returns-in_err-report-clause-line
 returns-in_err-report-clause-line c = λ n e.

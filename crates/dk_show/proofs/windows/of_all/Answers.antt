@@ -9,5 +9,5 @@ returns-in-Ok-clause-comes c = λ text has.
 pub returns-in-Err-Line-clause-comes : goal.returns-in-Err-Line-clause-comes
 returns-in-Err-Line-clause-comes c = λ told.
     let n = c.in-Err-Line.line in
-    let found = c.of.ensures.line n (cc) in
+    let found = c.all_windows.ensures.line n (cc) in
     inl (record { line = n; wrong = found.0; none = found.1; says = search rules })

@@ -4,7 +4,7 @@ use Rattle.dk_show.proofs.windows.of_tenths.Goals as goal
 pub returns-in-Ok-clause-comes : goal.returns-in-Ok-clause-comes
 returns-in-Ok-clause-comes c = λ text has.
     let all = c.in-Ok.ensures.told in
-    inr (record { ledger = all.0; readable = all.1; bytes_are = all.2; told = (has ∙ c.new.ensures ∙ all.3, refl) })
+    inr (record { ledger = all.0; readable = all.1; bytes_are = all.2; told = (has ∙ all.3, refl) })
 
 pub returns-in-Err-Line-clause-comes : goal.returns-in-Err-Line-clause-comes
 returns-in-Err-Line-clause-comes c = λ told.

@@ -1,6 +1,0 @@
-use Rattle.std.proofs.Common.{◌≡◌, map, take}
-use Rattle.dk_hold_report.specs.Measured.{measured}
-use Rattle.dk_hold_report.proofs.measuring.measure_all.Given as goal
-
-abbrev pub invariant-loop-hold : goal.invariant-loop-hold
-invariant-loop-hold l = l.all.items ≡ map (measured l.entries) (take l.hold-index l.holds)

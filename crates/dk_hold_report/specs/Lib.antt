@@ -1,4 +1,0 @@
-pub mod Measured
-pub mod Extremes
-pub mod Text
-pub mod Laws

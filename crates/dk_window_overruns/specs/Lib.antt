@@ -1,2 +1,0 @@
-pub mod Overruns
-pub mod Laws

@@ -1,2 +1,0 @@
-pub mod KeptTable
-pub mod Naming

@@ -1,4 +1,0 @@
-pub mod Tenths
-pub mod Laws
-pub mod Told
-pub mod Table

@@ -1,0 +1,9 @@
+pub mod Living
+pub mod Sums
+pub mod TenthCounts
+pub mod Idling
+pub mod Telling
+pub mod Placing
+pub mod Best
+pub mod Printable
+pub mod Counts

@@ -1,0 +1,13 @@
+pub mod Cells
+pub mod Threads
+pub mod Notes
+pub mod Lines
+pub mod Overruns
+pub mod Tenths
+pub mod Told
+pub mod TenthsTable
+pub mod Measured
+pub mod Extremes
+pub mod Holds
+pub mod Laws
+pub mod Reports
