@@ -119,6 +119,9 @@ unfolding HasAll
 has-names form.Deadline p ms (id, (process, rest)) = text-given key.Process is_name ms (λ d. refl) (given p key.Process _ process)
 has-names form.Chain p ms (id, (names, rest)) = names-given ms (given p key.Processes _ names)
 has-names form.Age p ms (id, (names, rest)) = names-given ms (given p key.Processes _ names)
+has-names form.Jitter p ms (id, (process, rest)) = text-given key.Process is_name ms (λ d. refl) (given p key.Process _ process)
+has-names form.DoneJitter p ms (id, (process, rest)) = text-given key.Process is_name ms (λ d. refl) (given p key.Process _ process)
+has-names form.ChainJitter p ms (id, (names, rest)) = names-given ms (given p key.Processes _ names)
 has-names form.Budget p ms (id, (process, rest)) = text-given key.Process is_name ms (λ d. refl) (given p key.Process _ process)
 has-names form.Hold p ms (id, (mutex, rest)) = text-given key.Mutex is_name ms (λ d. refl) (given p key.Mutex _ mutex)
 has-names form.Release p ms has = tt
@@ -132,6 +135,9 @@ unfolding HasAll
 has-id form.Deadline p ms has = has.0
 has-id form.Chain p ms has = has.0
 has-id form.Age p ms has = has.0
+has-id form.Jitter p ms has = has.0
+has-id form.DoneJitter p ms has = has.0
+has-id form.ChainJitter p ms has = has.0
 has-id form.Budget p ms has = has.0
 has-id form.Hold p ms has = has.0
 has-id form.Release p ms has = has.0

@@ -17,6 +17,8 @@ pub record AreNames (names : List (List ℕ)) : Type 0 where
 abbrev pub HasNames : What → Type 0
 HasNames (What.Deadline process within) = is_name process ≡ true
 HasNames (What.Chain processes reaction age) = AreNames processes
+HasNames (What.Jitter process begins whole) = is_name process ≡ true
+HasNames (What.ChainJitter processes reaction) = AreNames processes
 HasNames (What.Budget process budget) = is_name process ≡ true
 HasNames (What.Hold mutex hold) = is_name mutex ≡ true
 HasNames (What.Always process) = is_name process ≡ true

@@ -46,11 +46,19 @@ abbrev pub chain_in : Members → What
 chain_in ms =
     what.Chain (names_at (codes "processes") ms) (optional_at (codes "reaction") ms) (optional_at (codes "age") ms)
 
+abbrev pub jitter_of : Form → Members → What
+jitter_of form.ChainJitter ms = what.ChainJitter (names_at (codes "processes") ms) (number_at (codes "reaction") 0 ms)
+jitter_of _ ms =
+    what.Jitter (text_at (codes "process") ms) (optional_at (codes "begins") ms) (optional_at (codes "done") ms)
+
 -- what a row of this form asks for
 abbrev pub what_of : Form → Members → What
 what_of form.Deadline ms = what.Deadline (text_at (codes "process") ms) (number_at (codes "within") 0 ms)
 what_of form.Chain ms = chain_in ms
 what_of form.Age ms = chain_in ms
+what_of form.Jitter ms = jitter_of form.Jitter ms
+what_of form.DoneJitter ms = jitter_of form.DoneJitter ms
+what_of form.ChainJitter ms = jitter_of form.ChainJitter ms
 what_of form.Growth ms = what.Growth (number_at (codes "percent") 0 ms)
 what_of form.Spare ms = what.Spare (number_at (codes "level") 0 ms) (number_at (codes "ticks") 0 ms)
 what_of form.Always ms = what.Always (text_at (codes "process") ms)

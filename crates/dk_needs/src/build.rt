@@ -3,7 +3,7 @@ ghost use Rattle.std.specs.Prelude.{◌≡◌, ◌++◌, flat_map, map, IfOk, On
 ghost use Rattle.toml.specs.View.{view, table_view};
 ghost use Rattle.dk_loader.specs.Reading.{text_at, text_of};
 ghost use Rattle.dk_needs.specs.Keys.{key_name, sections};
-ghost use Rattle.dk_needs.specs.Reading.{is_there, names_at, need_in, need_row, needs_of, room_of, section_needs, tick_at, what_of};
+ghost use Rattle.dk_needs.specs.Reading.{is_there, jitter_of, names_at, need_in, need_row, needs_of, room_of, section_needs, tick_at, what_of};
 ghost use Rattle.dk_needs.specs.Shape.{from_row};
 
 use crate::fault::{Key, Place, Section};
@@ -109,6 +109,23 @@ fn chain_of(alloc: Global, table: &Table) -> Result<What, AllocError>
     })
 }
 
+/// The jitter of a process, or of a chain.
+fn jitter_of(alloc: Global, form: Form, table: &Table) -> Result<What, AllocError>
+    ensures { IfOk result (λ w. w ≡ jitter_of form (table_view table.now)) }
+{
+    match form {
+        Form::ChainJitter => Ok(What::ChainJitter {
+            processes: names_at(alloc, table, Key::Processes)?,
+            reaction: number_at(table, Key::Reaction),
+        }),
+        _ => Ok(What::Jitter {
+            process: text_at(alloc, table, Key::Process)?,
+            begins: optional_at(table, Key::Begins),
+            done: optional_at(table, Key::Done),
+        }),
+    }
+}
+
 /// What a row of this form asks for.
 fn what_of(alloc: Global, form: Form, table: &Table) -> Result<What, AllocError>
     ensures { IfOk result (λ w. w ≡ what_of form (table_view table.now)) }
@@ -119,6 +136,7 @@ fn what_of(alloc: Global, form: Form, table: &Table) -> Result<What, AllocError>
             within: number_at(table, Key::Within),
         }),
         Form::Chain | Form::Age => chain_of(alloc, table),
+        Form::Jitter | Form::DoneJitter | Form::ChainJitter => jitter_of(alloc, form, table),
         Form::Budget | Form::Hold | Form::Release => room_of(alloc, form, table),
         Form::Growth => Ok(What::Growth {
             percent: number_at(table, Key::Percent),

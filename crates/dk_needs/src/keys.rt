@@ -14,6 +14,12 @@ pub enum Form {
     Chain,
     /// A chain with an age alone.
     Age,
+    /// The jitter of a process's begin, and maybe of its end.
+    Jitter,
+    /// The jitter of a process's end alone.
+    DoneJitter,
+    /// The jitter of a chain.
+    ChainJitter,
     /// Room for a budget.
     Budget,
     /// Room for a hold.
@@ -52,6 +58,7 @@ pub(crate) fn sections() -> &'static [Section]
     &[
         Section::Deadline,
         Section::Chain,
+        Section::Jitter,
         Section::Room,
         Section::Growth,
         Section::Spare,
@@ -69,6 +76,7 @@ pub fn key_name(key: Key) -> &'static str
         Key::Tick => "tick",
         Key::Deadline => "deadline",
         Key::Chain => "chain",
+        Key::Jitter => "jitter",
         Key::Room => "room",
         Key::Growth => "growth",
         Key::Spare => "spare",
@@ -80,6 +88,8 @@ pub fn key_name(key: Key) -> &'static str
         Key::Processes => "processes",
         Key::Reaction => "reaction",
         Key::Age => "age",
+        Key::Begins => "begins",
+        Key::Done => "done",
         Key::Budget => "budget",
         Key::Mutex => "mutex",
         Key::Hold => "hold",
@@ -115,7 +125,7 @@ pub fn shape_of(key: Key) -> Shape
             most: MAX_TICKS,
         },
         Key::Level => Shape::Number { least: 0, most: 11 },
-        Key::Release => Shape::Number {
+        Key::Begins | Key::Done | Key::Release => Shape::Number {
             least: 0,
             most: MAX_SPAN,
         },
@@ -139,6 +149,7 @@ pub fn section_key(section: Section) -> Key
     match section {
         Section::Deadline => Key::Deadline,
         Section::Chain => Key::Chain,
+        Section::Jitter => Key::Jitter,
         Section::Room => Key::Room,
         Section::Growth => Key::Growth,
         Section::Spare => Key::Spare,
@@ -155,6 +166,7 @@ pub fn top_keys() -> &'static [Key]
         Key::Tick,
         Key::Deadline,
         Key::Chain,
+        Key::Jitter,
         Key::Room,
         Key::Growth,
         Key::Spare,
@@ -171,6 +183,9 @@ pub fn needed_keys(form: Form) -> &'static [Key]
         Form::Deadline => &[Key::Id, Key::Process, Key::Within],
         Form::Chain => &[Key::Id, Key::Processes, Key::Reaction],
         Form::Age => &[Key::Id, Key::Processes, Key::Age],
+        Form::Jitter => &[Key::Id, Key::Process, Key::Begins],
+        Form::DoneJitter => &[Key::Id, Key::Process, Key::Done],
+        Form::ChainJitter => &[Key::Id, Key::Processes, Key::Reaction],
         Form::Budget => &[Key::Id, Key::Process, Key::Budget],
         Form::Hold => &[Key::Id, Key::Mutex, Key::Hold],
         Form::Release => &[Key::Id, Key::Level, Key::Release],
@@ -187,6 +202,7 @@ pub fn other_keys(form: Form) -> &'static [Key]
 {
     match form {
         Form::Chain => &[Key::Age],
+        Form::Jitter => &[Key::Done],
         Form::Run => &[Key::Overruns, Key::Refused, Key::Faults, Key::Forever],
         _ => &[],
     }

@@ -64,6 +64,18 @@ pub enum What {
         reaction: Option<u32>,
         age: Option<u32>,
     },
+    /// From window to window the tick with which the main of the process begins varies by at most `begins`, and the one with
+    /// which it has its whole budget by at most `done`: each 0 to 1,000,000, and one of the two is there.
+    Jitter {
+        process: Text,
+        begins: Option<u32>,
+        done: Option<u32>,
+    },
+    /// The reaction time of the chain of processes varies by at most so many ticks, 1 to 4,000,000,000.
+    ChainJitter {
+        processes: Names,
+        reaction: u32,
+    },
     /// The budget of the process could be so great, 1 to 1,000,000, all else as it is.
     Budget {
         process: Text,

@@ -1,5 +1,5 @@
 -- A number that is told, and what is asked of it.
-use Rattle.std.proofs.Common.{ℕ, ◌≡◌, ◌≤◌, ◌<◌, ◌∙◌, ◌∷◌, true, false, List, Some, None, ap, sym, subst, refl, arith}
+use Rattle.std.proofs.Common.{ℕ, ◌≡◌, ◌+◌, ◌-◌, ◌≤◌, ◌<◌, ◌∙◌, ◌∷◌, true, false, List, Some, None, ap, sym, subst, refl, arith}
 use Rattle.std.specs.Prelude.{nat_le, Option, IsTrue, ◌↔◌}
 use Rattle.std.proofs.lemmas.Bool.Decides.{nat_tests}
 use Rattle.dk_config.specs.Configuration.{Configuration}
@@ -8,12 +8,15 @@ use Rattle.dk_config_report.specs.Pages.{IsLeast}
 use Rattle.dk_margins.specs.Margins.{IsGreatest}
 use Rattle.dk_chain.specs.Age.{IsAge}
 use Rattle.dk_chain.specs.Chain.{AreDone, IsReaction}
+use Rattle.dk_chain.specs.Least.{IsShortest}
+use Rattle.dk_config.specs.Ahead.{IsEnough}
+use Rattle.dk_when.specs.Earliest.{MayHave}
 use Rattle.dk_needs_check.specs.declared.row.Answer.{Answer}
 use Rattle.dk_needs_check.specs.declared.row.Answers.{Answers}
 use Rattle.dk_needs_check.specs.declared.row.Bound.{Bound}
 use Rattle.dk_needs_check.specs.declared.row.Measure.{Measure}
 use Rattle.dk_needs_check.specs.Bounds.{IsAtLeast, IsAtMost, Reaches, is_met, is_upper, keeps}
-use Rattle.dk_needs_check.specs.Meaning.{AreOne, HasAge, HasSpare, IfThere, IsAgeBound, IsReactionBound, tested_where}
+use Rattle.dk_needs_check.specs.Meaning.{AreOne, HasAge, HasSpare, IfThere, IsAgeBound, IsReactionBound, IsReactionJitter, ReactsWithin, VariesBy, tested_where}
 
 le-of : (a b : ℕ) → nat_le a b ≡ true → a ≤ b
 le-of a b is = grind (arith, nat_tests)
@@ -93,6 +96,50 @@ pub age_told : (c : Configuration) (first : ℕ) (rest : List ℕ) (r n : ℕ) (
 age_told c first rest r n None is age = refl
 age_told c first rest r n (Some asked) is age =
     (_, (λ done are. at_most (HasAge c done first rest) Measure.Age n asked _ refl (least-age c done first rest r n (is done are) (age done r are (is done are))) refl), refl)
+
+-- the least number by which a main's ticks vary is the difference of the two that are told
+least-varies : (c : Configuration) (p k from by : ℕ) → IsLeast (MayHave c p k) from → IsLeast (IsEnough c p k) by → from ≤ by
+    → IsLeast (VariesBy c p k) (by - from)
+least-varies c p k from by soonest latest le =
+    record {
+      reached = (from, by, soonest, latest, omega (arith, le));
+      least = λ m (from', by', soonest', latest', within). (
+          let early = soonest'.least from soonest.reached in
+          let late = latest.least by' latest'.reached in
+          omega (arith, early, late, within));
+    }
+
+pub varies_told : (c : Configuration) (p k from by n : ℕ) (m : Measure) (asked : Option ℕ) → is_upper m ≡ true → IsLeast (MayHave c p k) from → IsLeast (IsEnough c p k) by
+    → from ≤ by → n ≡ by - from → IfThere (IsAtMost (VariesBy c p k) m) asked (tested_where m n asked)
+varies_told c p k from by n m None upper soonest latest le is = refl
+varies_told c p k from by n m (Some asked) upper soonest latest le is =
+    (_, at_most (VariesBy c p k) m n asked _ upper (subst (IsLeast (VariesBy c p k)) (sym is) (least-varies c p k from by soonest latest le)) refl, refl)
+
+-- no chain has two shortest reaction times
+less-shortest : (c : Configuration) (p : ℕ) (rest : List ℕ) (n m : ℕ) → IsShortest c p rest n → IsShortest c p rest m → n ≤ m
+less-shortest c p rest n m is other =
+    let less = is.least other.from other.first in
+    let one = is.is in
+    let two = other.is in
+    omega (arith, less, one, two)
+
+pub least_jitter : (c : Configuration) (done : ℕ → ℕ) (first : ℕ) (rest : List ℕ) (r s : ℕ) → IsReaction c done (first ∷ rest) r → IsShortest c first rest s
+    → IsLeast (ReactsWithin c done first rest) (r - s)
+least_jitter c done first rest r s longest shortest =
+    record {
+      reached = (r, s, longest, shortest, omega arith);
+      least = λ m (r', s', longest', shortest', within). (
+          let late = less-reaction c done (first ∷ rest) r r' longest longest' in
+          let early = less-shortest c first rest s' s shortest' shortest in
+          omega (arith, late, early, within));
+    }
+
+pub jitter_told : (c : Configuration) (first : ℕ) (rest : List ℕ) (n : ℕ) (asked : Option ℕ)
+    → ((done : ℕ → ℕ) → AreDone c done → IsLeast (ReactsWithin c done first rest) n)
+    → IfThere (IsReactionJitter c first rest) asked (tested_where Measure.ReactionJitter n asked)
+jitter_told c first rest n None is = refl
+jitter_told c first rest n (Some asked) is =
+    (_, (λ done are. at_most (ReactsWithin c done first rest) Measure.ReactionJitter n asked _ refl (is done are) refl), refl)
 
 -- one answer is that of a need for one thing
 pub one_answer : (IsBound : ℕ → Bound → Type 0) (there named : Option ℕ) (a : Option Answer) (r : Answers) → there ≡ named

@@ -17,6 +17,9 @@ abbrev pub is_upper : Measure → Bool
 is_upper Measure.Done = true
 is_upper Measure.Reaction = true
 is_upper Measure.Age = true
+is_upper Measure.BeginsJitter = true
+is_upper Measure.DoneJitter = true
+is_upper Measure.ReactionJitter = true
 is_upper Measure.Overruns = true
 is_upper Measure.Refused = true
 is_upper Measure.Faults = true

@@ -1,16 +1,19 @@
 -- What each need means of a configuration.
-use Rattle.std.specs.Prelude.{ℕ, Bool, not, ◌||◌, is_some, ◌≤◌, nat_lt, if◌then◌else◌, length, List, [], ◌∷◌, ◌≡◌, position, Option, Some, None}
+use Rattle.std.specs.Prelude.{ℕ, ◌+◌, Bool, not, ◌||◌, is_some, ◌≤◌, nat_lt, if◌then◌else◌, length, List, [], ◌∷◌, ◌≡◌, position, Option, Some, None}
 use Rattle.std.specs.Str.{bytes_eq}
 use Rattle.dk_config.specs.Configuration.{Configuration}
 use Rattle.dk_config.specs.Mutex.{Mutex}
 use Rattle.dk_config.specs.Ahead.{IsEnough}
 use Rattle.dk_config.specs.Certification.{spare}
 use Rattle.dk_config.specs.Windows.{budget}
+use Rattle.dk_config_report.specs.Pages.{IsLeast}
+use Rattle.dk_when.specs.Earliest.{MayHave}
 use Rattle.dk_plan.specs.Budget.{with_budget}
 use Rattle.dk_margins.specs.Margins.{Stands, with_hold, with_release}
 use Rattle.dk_growth.specs.Growth.{grown}
 use Rattle.dk_chain.specs.Age.{IsAge}
 use Rattle.dk_chain.specs.Chain.{AreDone, IsReaction}
+use Rattle.dk_chain.specs.Least.{IsShortest}
 use Rattle.dk_chain_report.specs.Finding.{process_named, processes_named}
 use Rattle.dk_needs.specs.declared.needs.What.{What}
 use Rattle.dk_needs_check.specs.declared.row.Answer.{Answer}
@@ -34,6 +37,17 @@ IsDone c p n = IsEnough c p (budget c p) n
 -- the age of the data that the last process of the chain works with
 abbrev pub HasAge : Configuration → (ℕ → ℕ) → ℕ → List ℕ → ℕ → Type 0
 HasAge c done first rest n = (reaction : ℕ) × IsReaction c done (first ∷ rest) reaction × IsAge c first rest reaction n
+
+-- From window to window the tick with which the main of p has had k ticks varies by at most so many: from the least number with which
+-- it may have had them to the least that is enough.
+abbrev pub VariesBy : Configuration → ℕ → ℕ → ℕ → Type 0
+VariesBy c p k n =
+    (from : ℕ) × (by : ℕ) × IsLeast (MayHave c p k) from × IsLeast (IsEnough c p k) by × (by ≤ from + n)
+
+-- the reaction time of the chain varies by at most so many ticks
+abbrev pub ReactsWithin : Configuration → (ℕ → ℕ) → ℕ → List ℕ → ℕ → Type 0
+ReactsWithin c done first rest n =
+    (reaction : ℕ) × (shortest : ℕ) × IsReaction c done (first ∷ rest) reaction × IsShortest c first rest shortest × (reaction ≤ shortest + n)
 
 -- with so much of one number, all else as it is, the configuration breaks none of C4 to C13 and is certified
 abbrev pub HasBudget : Configuration → ℕ → ℕ → Type 0
@@ -61,6 +75,10 @@ abbrev pub IsAgeBound : Configuration → ℕ → List ℕ → ℕ → Bound →
 IsAgeBound c first rest within b =
     (done : ℕ → ℕ) → AreDone c done → IsAtMost (HasAge c done first rest) Measure.Age within b
 
+abbrev pub IsReactionJitter : Configuration → ℕ → List ℕ → ℕ → Bound → Type 0
+IsReactionJitter c first rest within b =
+    (done : ℕ → ℕ) → AreDone c done → IsAtMost (ReactsWithin c done first rest) Measure.ReactionJitter within b
+
 -- what is asked of a number, if anything is
 abbrev pub tested_where : Measure → ℕ → Option ℕ → Option Answer
 tested_where measure number None = None
@@ -85,6 +103,20 @@ AreOfChain c reaction age (Some []) a = AreNone a
 AreOfChain c reaction age (Some (first ∷ rest)) a =
     IfThere (IsReactionBound c first rest) reaction a.first × IfThere (IsAgeBound c first rest) age a.second
 
+-- by how much the begin and the end of a process vary, as far as they are asked for
+abbrev pub AreOfJitter : Configuration → Option ℕ → Option ℕ → Option ℕ → Answers → Type 0
+AreOfJitter c begins whole None a = AreNone a
+AreOfJitter c begins whole (Some p) a =
+    IfThere (IsAtMost (VariesBy c p 1) Measure.BeginsJitter) begins a.first
+    × IfThere (IsAtMost (VariesBy c p (budget c p)) Measure.DoneJitter) whole a.second
+
+-- by how much a chain's reaction time varies, as far as that is asked for
+abbrev pub AreOfChainJitter : Configuration → Option ℕ → Option (List ℕ) → Answers → Type 0
+AreOfChainJitter c asked None a = AreNone a
+AreOfChainJitter c asked (Some []) a = AreNone a
+AreOfChainJitter c asked (Some (first ∷ rest)) a =
+    IfThere (IsReactionJitter c first rest) asked a.first × (a.second ≡ None)
+
 -- of a run a ledger is asked for, unless that it repeats is all that is asked
 abbrev pub asks_ledger : Option ℕ → Option ℕ → Option ℕ → Bool → Bool
 asks_ledger overruns refused faults forever = ((not forever || is_some overruns) || is_some refused) || is_some faults
@@ -103,6 +135,8 @@ abbrev pub AreAnswers : Configuration → What → Answers → Type 0
 AreAnswers c (What.Deadline name within) a =
     AreOne (IfThere (λ p. IsAtMost (IsDone c p) Measure.Done within) (process_named c name)) a
 AreAnswers c (What.Chain names reaction age) a = AreOfChain c reaction age (processes_named c names) a
+AreAnswers c (What.Jitter name begins whole) a = AreOfJitter c begins whole (process_named c name) a
+AreAnswers c (What.ChainJitter names within) a = AreOfChainJitter c (Some within) (processes_named c names) a
 AreAnswers c (What.Budget name wanted) a =
     AreOne (IfThere (λ p. IsAtLeast (HasBudget c p) Measure.Budget wanted) (process_named c name)) a
 AreAnswers c (What.Hold name wanted) a =

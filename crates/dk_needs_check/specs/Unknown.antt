@@ -21,6 +21,8 @@ unknown_in_chain c i names = from_row (λ place name. unless (is_known c name) i
 abbrev pub unknown_in : Configuration → ℕ → What → List Unknown
 unknown_in c i (What.Deadline process within) = unless (is_known c process) i Key.Process 0
 unknown_in c i (What.Chain names reaction age) = unknown_in_chain c i names
+unknown_in c i (What.Jitter process begins whole) = unless (is_known c process) i Key.Process 0
+unknown_in c i (What.ChainJitter names reaction) = unknown_in_chain c i names
 unknown_in c i (What.Budget process budget) = unless (is_known c process) i Key.Process 0
 unknown_in c i (What.Hold mutex hold) = unless (is_some (mutex_named c mutex)) i Key.Mutex 0
 unknown_in c i (What.Release level release) = unless (is_some (level_numbered c level)) i Key.Level 0

@@ -6,10 +6,11 @@ ghost use Rattle.dk_chain_report.specs.Finding.{process_named, processes_named};
 ghost use Rattle.dk_needs.specs.Fit.{HasNames};
 ghost use Rattle.dk_needs_check.specs.declared.row.Measure.{Measure};
 ghost use Rattle.dk_needs_check.specs.Bounds.{IsAtLeast, IsAtMost};
-ghost use Rattle.dk_needs_check.specs.Meaning.{AreAnswers, AreOfChain, AreOfRun, HasBudget, HasHold, HasRelease, HasSpare, IfThere, IsDone, asks_ledger, level_numbered, mutex_named, open_where};
+ghost use Rattle.dk_needs_check.specs.Meaning.{AreAnswers, AreOfChain, AreOfChainJitter, AreOfJitter, AreOfRun, HasBudget, HasHold, HasRelease, HasSpare, IfThere, IsDone, asks_ledger, level_numbered, mutex_named, open_where};
 
 use crate::bounds::{
-    budget_bound, chain_bounds, done_bound, growth_bound, hold_bound, release_bound, spare_bound,
+    budget_bound, chain_bounds, chain_jitter_bounds, done_bound, growth_bound, hold_bound,
+    jitter_bounds, release_bound, spare_bound,
 };
 use crate::finding::{level_numbered, mutex_named, process_named};
 use crate::{Answer, Answers, Reason};
@@ -154,6 +155,39 @@ fn chain(
     }
 }
 
+/// Of a process: by how much its begin and its end vary, as far as they are asked for.
+fn jitter(config: &Config, name: &str, begins: Option<u32>, done: Option<u32>) -> Answers
+    requires checked { IsChecked config.now }
+    requires limits { IsWithinLimits config.now }
+    ensures { AreOfJitter config.now begins done (process_named config.now name.now) result }
+{
+    match process_named(config, name) {
+        Some(process) => jitter_bounds(config, process, begins, done),
+        None => one(None),
+    }
+}
+
+/// Of a chain: by how much its reaction time varies, as far as that is asked for.
+fn chain_jitter(
+    alloc: Global,
+    config: &Config,
+    names: &[Text],
+    asked: Option<u32>,
+) -> Result<Answers, NoMemory>
+    requires checked { IsChecked config.now }
+    requires limits { IsWithinLimits config.now }
+    requires few { length names.now ≤ MAX_PROCESSES }
+    ensures { IfOk result (AreOfChainJitter config.now asked (processes_named config.now names.now)) }
+{
+    match names {
+        [] => Ok(one(None)),
+        [first, rest @ ..] => match find_chain(alloc, config, first.as_str(), rest)? {
+            Some(chain) => Ok(chain_jitter_bounds(config, chain.first, &chain.rest, asked)),
+            None => Ok(one(None)),
+        },
+    }
+}
+
 /// What is told of a need.
 pub(crate) fn answers_of(alloc: Global, config: &Config, what: &What) -> Result<Answers, NoMemory>
     requires unbroken { BreaksNoRule config.now }
@@ -171,6 +205,15 @@ pub(crate) fn answers_of(alloc: Global, config: &Config, what: &What) -> Result<
             reaction,
             age,
         } => chain(alloc, config, processes.as_slice(), *reaction, *age),
+        What::Jitter {
+            process,
+            begins,
+            done,
+        } => Ok(jitter(config, process.as_str(), *begins, *done)),
+        What::ChainJitter {
+            processes,
+            reaction: within,
+        } => chain_jitter(alloc, config, processes.as_slice(), Some(*within)),
         What::Budget {
             process,
             budget: wanted,

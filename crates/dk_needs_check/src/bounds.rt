@@ -1,20 +1,21 @@
 //! The numbers of a configuration, beside what is asked of them.
-ghost use Rattle.std.specs.Prelude.{◌≡◌, ◌∷◌, ◌<◌, length};
+ghost use Rattle.std.specs.Prelude.{ℕ, ◌≡◌, ◌∷◌, ◌<◌, Some, length};
 ghost use Rattle.dk_config.specs.Certification.{spare};
 ghost use Rattle.dk_config.specs.Checked.{BreaksNoRule, IsChecked, IsWithinLimits};
 ghost use Rattle.dk_config.specs.declared.TheConstants.{MAX_PROCESSES};
-ghost use Rattle.dk_chain.specs.Chain.{AreThere};
+ghost use Rattle.dk_chain.specs.Chain.{AreDone, AreThere};
+ghost use Rattle.dk_config_report.specs.Pages.{IsLeast};
 ghost use Rattle.dk_needs_check.specs.Bounds.{IsAtLeast, IsAtMost};
-ghost use Rattle.dk_needs_check.specs.Meaning.{AreOfChain, HasBudget, HasGrowth, HasHold, HasRelease, HasSpare, IsDone, tested_where};
+ghost use Rattle.dk_needs_check.specs.Meaning.{AreOfChain, AreOfChainJitter, AreOfJitter, HasBudget, HasGrowth, HasHold, HasRelease, HasSpare, IsDone, ReactsWithin, tested_where};
 
 use crate::{Answer, Answers, Bound, Measure};
 use dk_certify::{demand_of, level_row, longest_delay};
-use dk_chain::{data_age, reaction};
+use dk_chain::{data_age, reaction, shortest_reaction};
 use dk_config::Config;
 use dk_growth::greatest_growth;
 use dk_margins::{greatest_hold, greatest_release};
 use dk_plan::greatest_budget;
-use dk_when::done_by;
+use dk_when::{begins_by, begins_from, done_by, done_from};
 
 fn bound(measure: Measure, number: Option<u32>, asked: u32) -> Bound
     ensures { result ≡ record { measure = measure; number = number; asked = asked } }
@@ -71,6 +72,59 @@ pub(crate) fn chain_bounds(
             data_age(config, first, rest) as u32,
             age_asked,
         ),
+    }
+}
+
+/// By how much the begin and the end of a main vary, as far as they are asked for.
+pub(crate) fn jitter_bounds(
+    config: &Config,
+    process: u32,
+    begins_asked: Option<u32>,
+    done_asked: Option<u32>,
+) -> Answers
+    requires checked { IsChecked config.now }
+    requires limits { IsWithinLimits config.now }
+    requires process { process < length config.now.processes }
+    ensures { AreOfJitter config.now begins_asked done_asked (Some process) result }
+{
+    let begins = begins_by(config, process) - begins_from(config, process);
+    let done = done_by(config, process) - done_from(config, process);
+    Answers {
+        first: bound_where(Measure::BeginsJitter, begins, begins_asked),
+        second: bound_where(Measure::DoneJitter, done, done_asked),
+    }
+}
+
+/// By how much a chain's reaction time varies.
+fn reaction_jitter(config: &Config, first: u32, rest: &[u32]) -> u32
+    requires checked { IsChecked config.now }
+    requires limits { IsWithinLimits config.now }
+    requires there { AreThere config.now (first ∷ rest.now) }
+    requires few { length rest.now < MAX_PROCESSES }
+    ensures { (done : ℕ → ℕ) → AreDone config.now done → IsLeast (ReactsWithin config.now done first rest.now) result }
+{
+    let longest = reaction(config, first, rest);
+    let shortest = shortest_reaction(config, first, rest);
+    longest.saturating_sub(shortest) as u32
+}
+
+/// That, as far as it is asked for.
+pub(crate) fn chain_jitter_bounds(
+    config: &Config,
+    first: u32,
+    rest: &[u32],
+    asked: Option<u32>,
+) -> Answers
+    requires checked { IsChecked config.now }
+    requires limits { IsWithinLimits config.now }
+    requires there { AreThere config.now (first ∷ rest.now) }
+    requires few { length rest.now < MAX_PROCESSES }
+    ensures { AreOfChainJitter config.now asked (Some (first ∷ rest.now)) result }
+{
+    let jitter = reaction_jitter(config, first, rest);
+    Answers {
+        first: bound_where(Measure::ReactionJitter, jitter, asked),
+        second: None,
     }
 }
 

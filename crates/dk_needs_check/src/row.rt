@@ -9,6 +9,12 @@ pub enum Measure {
     Reaction,
     /// So old is the data that the last process of a chain works with.
     Age,
+    /// By so many ticks the tick with which a main begins varies.
+    BeginsJitter,
+    /// By so many the tick with which it has its whole budget varies.
+    DoneJitter,
+    /// By so many a chain's reaction time varies.
+    ReactionJitter,
     /// So great a process's budget can be.
     Budget,
     /// So long a mutex's hold can be.
@@ -95,7 +101,8 @@ pub enum Answer {
     Open(Reason),
 }
 
-/// What is told of a need: of a chain its reaction time and the age of its data, of a run what a ledger says and whether it
+/// What is told of a need: of a chain its reaction time and the age of its data, of a process's jitter that of its begin
+/// and of its end, of a run what a ledger says and whether it
 /// repeats, as far as they are asked for; of any other one answer. There is none where the configuration hasn't got what is named.
 #[derive(Clone, Copy)]
 pub struct Answers {

@@ -121,6 +121,8 @@ fn add_unknown(
     match what {
         What::Deadline { process, .. } => add_process(found, config, need, process.as_str()),
         What::Chain { processes, .. } => add_chain(found, config, need, processes.as_slice()),
+        What::Jitter { process, .. } => add_process(found, config, need, process.as_str()),
+        What::ChainJitter { processes, .. } => add_chain(found, config, need, processes.as_slice()),
         What::Budget { process, .. } => add_process(found, config, need, process.as_str()),
         What::Hold { mutex, .. } => {
             add_unless(found, is_mutex(config, mutex.as_str()), need, Key::Mutex, 0)

@@ -10,6 +10,7 @@ pub fn is_upper(measure: Measure) -> bool
 {
     match measure {
         Measure::Done | Measure::Reaction | Measure::Age => true,
+        Measure::BeginsJitter | Measure::DoneJitter | Measure::ReactionJitter => true,
         Measure::Overruns | Measure::Refused | Measure::Faults => true,
         _ => false,
     }

@@ -93,6 +93,9 @@ measure_plain : (m : Measure) → NeedsNoEscape (measure_words m)
 measure_plain Measure.Done = refl
 measure_plain Measure.Reaction = refl
 measure_plain Measure.Age = refl
+measure_plain Measure.BeginsJitter = refl
+measure_plain Measure.DoneJitter = refl
+measure_plain Measure.ReactionJitter = refl
 measure_plain Measure.Budget = refl
 measure_plain Measure.Hold = refl
 measure_plain Measure.Release = refl
@@ -137,6 +140,8 @@ all_times_plain (Some t) b = either_plain (is_time b.measure) (times_of t b) [] 
 subject_plain : (w : What) → HasNames w → NeedsNoEscape (subject_of w)
 subject_plain (What.Deadline name within) is = name_plain name is
 subject_plain (What.Chain names reaction age) is = refl
+subject_plain (What.Jitter name begins whole) is = name_plain name is
+subject_plain (What.ChainJitter names reaction) is = refl
 subject_plain (What.Budget name budget) is = name_plain name is
 subject_plain (What.Hold name hold) is = name_plain name is
 subject_plain (What.Release level release) is = both (codes "level ") (decimal level) refl (digits_plain level)
@@ -198,6 +203,7 @@ answer_plain names tick w (Answer.Open r) are is = reason_plain r
 section_plain : (s : Section) → NeedsNoEscape (key_name (section_key s))
 section_plain Section.Deadline = refl
 section_plain Section.Chain = refl
+section_plain Section.Jitter = refl
 section_plain Section.Room = refl
 section_plain Section.Growth = refl
 section_plain Section.Spare = refl
@@ -208,6 +214,9 @@ tested_plain : (m : Measure) → NeedsNoEscape (behind_space (measure_word m))
 tested_plain Measure.Done = refl
 tested_plain Measure.Reaction = refl
 tested_plain Measure.Age = refl
+tested_plain Measure.BeginsJitter = refl
+tested_plain Measure.DoneJitter = refl
+tested_plain Measure.ReactionJitter = refl
 tested_plain Measure.Budget = refl
 tested_plain Measure.Hold = refl
 tested_plain Measure.Release = refl

@@ -27,6 +27,9 @@ abbrev pub measure_words : Measure → List ℕ
 measure_words Measure.Done = codes "done by"
 measure_words Measure.Reaction = codes "reaction"
 measure_words Measure.Age = codes "age"
+measure_words Measure.BeginsJitter = codes "begins jitter"
+measure_words Measure.DoneJitter = codes "done jitter"
+measure_words Measure.ReactionJitter = codes "reaction jitter"
 measure_words Measure.Budget = codes "budget up to"
 measure_words Measure.Hold = codes "hold up to"
 measure_words Measure.Release = codes "release up to"
@@ -43,6 +46,7 @@ reason_words Reason.NoLedger = codes "no ledger"
 -- whose number it is
 abbrev pub subject_of : What → List ℕ
 subject_of (What.Deadline name within) = name
+subject_of (What.Jitter name begins whole) = name
 subject_of (What.Budget name budget) = name
 subject_of (What.Hold name hold) = name
 subject_of (What.Release level release) = codes "level " ++ decimal level

@@ -10,6 +10,8 @@ use Rattle.dk_needs_check.specs.declared.unknown.Unknown.{Unknown}
 abbrev pub thing_text : What → ℕ → List ℕ
 thing_text (What.Deadline process within) place = codes "process " ++ process
 thing_text (What.Chain names reaction age) place = codes "process " ++ slice_index_or names place []
+thing_text (What.Jitter process begins whole) place = codes "process " ++ process
+thing_text (What.ChainJitter names reaction) place = codes "process " ++ slice_index_or names place []
 thing_text (What.Budget process budget) place = codes "process " ++ process
 thing_text (What.Hold mutex hold) place = codes "mutex " ++ mutex
 thing_text (What.Release level release) place = codes "level " ++ decimal level

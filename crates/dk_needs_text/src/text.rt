@@ -33,6 +33,9 @@ fn measure_words(measure: Measure) -> &'static str
         Measure::Done => "done by",
         Measure::Reaction => "reaction",
         Measure::Age => "age",
+        Measure::BeginsJitter => "begins jitter",
+        Measure::DoneJitter => "done jitter",
+        Measure::ReactionJitter => "reaction jitter",
         Measure::Budget => "budget up to",
         Measure::Hold => "hold up to",
         Measure::Release => "release up to",
@@ -75,6 +78,7 @@ pub(crate) fn subject_of(alloc: Global, what: &What) -> Result<String, AllocErro
 {
     match what {
         What::Deadline { process, .. } => name_text(alloc, process.as_str()),
+        What::Jitter { process, .. } => name_text(alloc, process.as_str()),
         What::Budget { process, .. } => name_text(alloc, process.as_str()),
         What::Hold { mutex, .. } => name_text(alloc, mutex.as_str()),
         What::Release { level, .. } => level_text(alloc, *level),

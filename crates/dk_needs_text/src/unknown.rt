@@ -41,6 +41,10 @@ fn thing_text(alloc: Global, what: &What, place: usize) -> Result<String, AllocE
     match what {
         What::Deadline { process, .. } => process_text(alloc, process.as_str()),
         What::Chain { processes, .. } => process_text(alloc, name_at(processes.as_slice(), place)),
+        What::Jitter { process, .. } => process_text(alloc, process.as_str()),
+        What::ChainJitter { processes, .. } => {
+            process_text(alloc, name_at(processes.as_slice(), place))
+        }
         What::Budget { process, .. } => process_text(alloc, process.as_str()),
         What::Hold { mutex, .. } => mutex_text(alloc, mutex.as_str()),
         What::Release { level, .. } => level_text(alloc, *level),

@@ -14,6 +14,7 @@ use Rattle.dk_page.specs.declared.chaining.ChainTold.{ChainTold}
 -- the names of the chain that is asked about
 abbrev pub chain_in : What → Option (List (List ℕ))
 chain_in (What.Chain processes reaction age) = Some processes
+chain_in (What.ChainJitter processes reaction) = Some processes
 chain_in _ = None
 
 abbrev pub is_same : List (List ℕ) → Option (List (List ℕ)) → Bool

@@ -35,6 +35,7 @@ fn chain_in(what: &What) -> Option<&[Text]>
 {
     match what {
         What::Chain { processes, .. } => Some(processes.as_slice()),
+        What::ChainJitter { processes, .. } => Some(processes.as_slice()),
         _ => None,
     }
 }
