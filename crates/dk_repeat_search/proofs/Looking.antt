@@ -1,5 +1,5 @@
 -- A search that has looked, and looks on.
-use Rattle.dk_repeat_search.proofs.Names.{ℕ, ◌≡◌, ◌+◌, ◌-◌, ◌*◌, ◌/◌, ◌%◌, ◌<◌, ◌≤◌, inl, inr, List, sym, subst, arith, cases_eq, cases_lt, div-add-mod, mod_below, mul-le-mul_left, Running, WindowBegins, OwnSearch, IsOwnSearch, HasLookedBefore, IsDone, LooksFor, LooksLater, LooksPast, MayPass, List, All, ap, main_level, period, ◌∙◌, ◌≢◌, get_or, set, length, length-set, get_or-set_other, get_or-set_same}
+use Rattle.dk_repeat_search.proofs.Names.{Bool, Option, None, Some, Configuration, RunSearch, RunState, IsLongest, WindowsBegin, RunSeeksFrom, HasLookedAtRun, HasLookedAtRunBefore, IsChecked, IsAccepted, IsOtherRun, IsYoungRun, LooksAtRunFor, LooksLaterAtRun, LooksPastProcess, LooksPastRun, MayPassRun, refl, false, is_some, true, ℕ, ◌≡◌, ◌+◌, ◌-◌, ◌*◌, ◌/◌, ◌%◌, ◌<◌, ◌≤◌, inl, inr, List, sym, subst, arith, cases_eq, cases_lt, div-add-mod, mod_below, mul-le-mul_left, Running, WindowBegins, OwnSearch, IsOwnSearch, HasLookedBefore, IsDone, LooksFor, LooksLater, LooksPast, MayPass, List, All, ap, main_level, period, ◌∙◌, ◌≢◌, get_or, set, length, length-set, get_or-set_other, get_or-set_same}
 
 -- no multiple of a period comes within the rest of it
 pub none-within : (d tick t : ℕ) → 0 < d → t % d ≡ 0 → tick ≤ t → t < tick + (d - tick % d) → t ≡ tick
@@ -83,3 +83,62 @@ wait-same k before after wait was is same wait-is =
     let periods : before.period ≡ after.period =
     was.period ∙ ap (λ p. period k.config (main_level k.config p)) (sym same) ∙ sym is.period in
     wait-is ∙ ap (λ d. d - k.ticks % d) periods
+
+-- ---- the run
+
+-- up to a later tick
+seeks-later : (c : Configuration) (programs : List (List ℕ)) (tick tick' n : ℕ) (kept : Bool) (o : Option RunState) → tick ≤ tick'
+    → RunSeeksFrom c programs tick n kept o → RunSeeksFrom c programs tick' n kept o
+seeks-later c programs tick tick' n kept None later is = is
+seeks-later c programs tick tick' n kept (Some s) later is = record {
+  whole = is.whole;
+  seeks = is.seeks;
+  loud = λ off. let l = is.loud off in let low = l.2 in (l.0, l.1, omega (arith, low, later), l.3);
+}
+
+pub run-later : (c : Configuration) (programs : List (List ℕ)) (tick tick' n : ℕ) (search : RunSearch) → tick ≤ tick' → HasLookedAtRun c programs tick n search
+    → HasLookedAtRun c programs tick' n search
+run-later c programs tick tick' n search later looked = λ none. seeks-later c programs tick tick' n search.kept search.saved later (looked none)
+
+-- it is done
+pub run-done : (k : Running) (n : ℕ) (search : RunSearch) → is_some search.cycle ≡ true → HasLookedAtRunBefore k n search
+run-done k n search some = λ none. let off : is_some search.cycle ≡ false = ap (λ o. is_some o) none in absurd (cc)
+
+-- the windows of all levels begin where the longest one does
+all-begin : (c : Configuration) (d t : ℕ) → IsLongest c d → WindowsBegin c t → t % d ≡ 0
+all-begin c d t longest begins = ap (λ n. t % n) longest.is ∙ begins longest.level longest.known
+
+module _ (k : Running) (law : LooksLaterAtRun) (d : ℕ) (longest : IsLongest k.config d) where
+  -- they don't begin now
+  pub run-waits-for : (search : RunSearch) (wait : ℕ) → wait ≡ d - k.ticks % d → (wait ≡ d → ⊥) → HasLookedAtRunBefore k k.ticks search → LooksAtRunFor k wait search
+  run-waits-for search wait wait-is not looked w some few =
+      law k.config k.programs k.ticks k.ticks k.ticks (k.ticks + w) search (omega arith) (omega arith)
+      (λ t begins low high.
+      let zero : t % d ≡ 0 = all-begin k.config d t longest begins in
+      let now = none-within d k.ticks t longest.some zero low (omega (arith, high, few, wait-is)) in
+      let here : k.ticks % d ≡ 0 = subst (λ n. n % d ≡ 0) now zero in
+      not (omega (arith, wait-is, here))) looked
+
+  -- they began, and it has looked
+  pub run-looked-for : (search : RunSearch) (wait : ℕ) → wait ≡ d - k.ticks % d → HasLookedAtRunBefore k (k.ticks + 1) search → LooksAtRunFor k wait search
+  run-looked-for search wait wait-is looked w some few =
+      law k.config k.programs k.ticks k.ticks (k.ticks + 1) (k.ticks + w) search (omega arith) (omega (arith, some))
+      (λ t begins low high.
+      let now = none-within d k.ticks t longest.some (all-begin k.config d t longest begins) (omega (arith, low)) (omega (arith, high, few, wait-is)) in
+      absurd (omega (arith, now, low))) looked
+
+-- it needn't look
+module _ (k : Running) (search : RunSearch) (process-law : LooksPastProcess) (young : IsYoungRun search.saved k.ticks) (looked : HasLookedAtRunBefore k k.ticks search) where
+  passes-other : (o : Option RunState) → search.saved ≡ o → IsOtherRun k o → HasLookedAtRunBefore k (k.ticks + 1) search
+  passes-other None is other = absurd other
+  passes-other (Some s) is other =
+      let at = other.is in
+      process-law k.config k.programs k.ticks search s other.process other.state at.context at.words young is other.known other.there at.other at.context_is at.words_are looked
+
+pub run-passes : (k : Running) (search : RunSearch) → LooksPastRun → LooksPastProcess → IsChecked k.config → IsAccepted k.config → MayPassRun k search
+    → HasLookedAtRunBefore k k.ticks search → HasLookedAtRunBefore k (k.ticks + 1) search
+run-passes k search run-law process-law checked accepted may looked =
+    elim may.why [
+      | inl loud ↦ run-law k.config k.programs k.ticks search checked accepted may.young loud looked
+      | inr other ↦ passes-other k search process-law may.young looked search.saved refl other
+    ]

@@ -1,6 +1,7 @@
 -- The names of other libraries and of this crate's specs that proofs here speak of.
 pub use Rattle.dk_alone.specs.Again.{ProcessStandsAgain, WindowBegins, main_is_stopped}
 pub use Rattle.dk_bound.specs.Rows.{FamilyStands}
+pub use Rattle.dk_config.proofs.Lists.{filter-twice}
 pub use Rattle.dk_config.specs.Checked.{IsAccepted, IsChecked}
 pub use Rattle.dk_config.specs.Configuration.{Configuration}
 pub use Rattle.dk_config.specs.Windows.{main_level, period}
@@ -8,8 +9,8 @@ pub use Rattle.dk_config.specs.declared.TheConstants.{MAX_RUN_TICKS, MAX_THREADS
 pub use Rattle.dk_cpu.specs.declared.Context.{Context}
 pub use Rattle.dk_cycle.specs.Made.{IsLastMade}
 pub use Rattle.dk_cycle.specs.Own.{IsMainState, IsOwnSearch}
-pub use Rattle.dk_cycle.specs.Run.{AreProcessStates, Follows, IsLastReader, IsProcessState, IsReader, IsRunSearch, IsRunState}
-pub use Rattle.dk_cycle.specs.Seeking.{HasLooked, HasNoOwnCycle, IsDone, IsYoung, LooksLater, LooksPast, OwnIsFound}
+pub use Rattle.dk_cycle.specs.Run.{AreProcessStates, Follows, IsLastReader, IsLongest, IsOtherProcess, IsProcessState, IsReader, IsRunSearch, IsRunState}
+pub use Rattle.dk_cycle.specs.Seeking.{FollowsOn, HasLooked, HasLookedAtRun, HasNoCycle, HasNoOwnCycle, HoldsAll, IsDone, IsWholeState, IsYoung, IsYoungRun, LooksLater, LooksLaterAtRun, LooksPast, LooksPastProcess, LooksPastRun, OwnIsFound, RunIsFound, RunSeeksFrom, runs_on, state_of}
 pub use Rattle.dk_cycle.specs.Start.{with_start}
 pub use Rattle.dk_cycle.specs.Stretching.{GoQuietly, SearchesStay}
 pub use Rattle.dk_cycle.specs.Told.{IsRunTold, OwnIsTold, RunIsTold, made_by, own_told, reader_by, run_told}
@@ -41,6 +42,7 @@ pub use Rattle.dk_kernel.specs.Running.{Running, trace_of, world_of}
 pub use Rattle.dk_kernel.specs.Stretches.{IsComputed}
 pub use Rattle.dk_kernel.specs.declared.stretch.Stretch.{Stretch}
 pub use Rattle.dk_loader.specs.Workload.{Workload}
+pub use Rattle.dk_repeat.specs.Repeat.{WindowsBegin}
 pub use Rattle.dk_repeat_report.proofs.Told.{repeats-text}
 pub use Rattle.dk_repeat_report.specs.Cycles.{CountsOne, CyclesAreAlike, IsOneCounted, entries_from, share_at, shares_of}
 pub use Rattle.dk_repeat_report.specs.Found.{AreOf, found_text}
@@ -49,12 +51,12 @@ pub use Rattle.dk_repeat_report.specs.OwnUses.{IsOneFound, IsOneUse, IsSameOwn, 
 pub use Rattle.dk_repeat_report.specs.declared.own.OwnFound.{OwnFound}
 pub use Rattle.dk_repeat_search.specs.Always.{AreTold, AreWaits, AreWatches, IsAlways, IsWatching, watched_process}
 pub use Rattle.dk_repeat_search.specs.Counting.{AreOwnFound, CountsSome, IsFound, StartsCycle, told_of}
-pub use Rattle.dk_repeat_search.specs.Repeats.{AreLast, HasNoneToFind, IsRepeatsOf, KnowsLast, NoneWasToFind, repeats, searched_ticks}
-pub use Rattle.dk_repeat_search.specs.Searching.{AllLookFor, AreOwn, HasLookedBefore, HasSettled, HaveEnded, HaveLooked, IsSearching, LooksFor, MayPass, begun, loaded_of, process_of}
-pub use Rattle.dk_repeat_search.specs.States.{AreThreads, HasContext, IsThreadAt, listed}
+pub use Rattle.dk_repeat_search.specs.Repeats.{AreLast, HasNoneToFind, IsRepeatsOf, KnowsLast, NoneWasToFind, RunHasNoneToFind, repeats, searched_ticks}
+pub use Rattle.dk_repeat_search.specs.Searching.{AllLookFor, AreOwn, HasLookedAtRunBefore, HasLookedBefore, HasOtherNow, HasSettled, HaveEnded, HaveLooked, IsOtherNow, IsOtherRun, IsSearching, LooksAtRunFor, LooksFor, MayPass, MayPassRun, begun, loaded_of, process_of}
+pub use Rattle.dk_repeat_search.specs.States.{AreThreads, AreWhole, IsThreadAt, IsWholeProcess, going_on, listed}
 pub use Rattle.dk_repeat_search.specs.declared.count.Found.{Found}
 pub use Rattle.dk_repeat_search.specs.declared.search.Searches.{Searches}
-pub use Rattle.dk_threads.specs.Recount.{counted_row, state_of, unplaced}
+pub use Rattle.dk_threads.specs.Recount.{counted_row, unplaced}
 pub use Rattle.dk_threads.specs.Rows.{is_stopped}
 pub use Rattle.dk_threads.specs.declared.row.ThreadRow.{ThreadRow}
 pub use Rattle.dk_trace.proofs.Members.{has-filter}
@@ -66,16 +68,16 @@ pub use Rattle.dk_trace.specs.declared.Event.{Event}
 pub use Rattle.dk_trace.specs.declared.Label.{Label}
 pub use Rattle.dk_trace.specs.declared.ThreadId.{ThreadId}
 pub use Rattle.dk_world.specs.Run.{trace, world}
-pub use Rattle.std.proofs.Common.{Bool, List, None, Option, Some, [], ap, arith, false, get_or, inl, inr, length, map, refl, rules, set, subst, suc, sym, take, true, zero, ℕ, ◌%◌, ◌*◌, ◌++◌, ◌+◌, ◌-◌, ◌/◌, ◌<◌, ◌==◌, ◌∙◌, ◌∷◌, ◌≡◌, ◌≢◌, ◌≤◌, ◌⊎◌}
+pub use Rattle.std.proofs.Common.{Bool, List, None, Option, Some, [], ap, arith, false, get_or, inl, inr, length, map, refl, rules, set, subst, suc, sym, take, true, zero, ℕ, ◌&&◌, ◌%◌, ◌*◌, ◌++◌, ◌+◌, ◌-◌, ◌/◌, ◌<◌, ◌==◌, ◌∙◌, ◌∷◌, ◌≡◌, ◌≢◌, ◌≤◌, ◌⊎◌}
 pub use Rattle.std.proofs.Math.Bool.{or-true}
 pub use Rattle.std.proofs.Math.Nat.{div-add-mod, mul-le-mul_left}
 pub use Rattle.std.proofs.Math.Seq.{get_or-append_seam, take-append-add}
 pub use Rattle.std.proofs.lemmas.Bool.{cases_Bool, cases_eq, cases_lt}
 pub use Rattle.std.proofs.lemmas.Bool.Decides.{nat_tests}
-pub use Rattle.std.proofs.lemmas.List.{append-nil, length-replicate, get_or-set_other, get_or-set_same, get_or_append_left, get_or_default, length-map, length-set, length_push, map-append, map-id, map_more, take_all}
+pub use Rattle.std.proofs.lemmas.List.{length-replicate, get_or-set_other, get_or-set_same, get_or_append_left, get_or_default, length-map, length-set, length_push, map-append, map-id, map_more, take_all}
 pub use Rattle.std.proofs.lemmas.List.Elements.{All-push, All-set}
 pub use Rattle.std.proofs.lemmas.List.FromFn.{get_or-map-range_with_len, get_or-range_with_len, length-map-range_with_len, length-range_with_len, map-range_with_len_more}
 pub use Rattle.std.proofs.lemmas.Nat.{mod_below}
-pub use Rattle.std.proofs.lemmas.Option.{get_or_from_slice_get, slice_get_within}
+pub use Rattle.std.proofs.lemmas.Option.{get_or_from_slice_get, slice_get_read, slice_get_within}
 pub use Rattle.std.specs.List.{range_with_len}
-pub use Rattle.std.specs.Prelude.{All, IfOk, IfSome, is_some, nat_lt, option_map, replicate, slice_get, slice_index_or}
+pub use Rattle.std.specs.Prelude.{All, IfOk, IfSome, IsSomeAnd, filter, is_none, is_some, nat_lt, option_map, replicate, slice_get, slice_index_or}

@@ -1,5 +1,5 @@
 -- Lists, place by place.
-use Rattle.dk_repeat_search.proofs.Names.{ℕ, zero, suc, ◌≡◌, ◌+◌, ◌<◌, ◌∙◌, inl, inr, List, [], ◌∷◌, ◌++◌, length, get_or, set, map, Some, refl, ap, sym, subst, arith, slice_get, range_with_len, length-map, map-id, length-range_with_len, map-range_with_len_more, Configuration, Has, OwnSearch, AreOwn, process_of}
+use Rattle.dk_repeat_search.proofs.Names.{ℕ, zero, suc, ◌≡◌, ◌+◌, ◌<◌, ◌∙◌, ◌⊎◌, inl, inr, List, [], ◌∷◌, ◌++◌, length, get_or, set, map, Some, refl, ap, sym, arith, slice_get, range_with_len, length-map, map-id, length-range_with_len, map-range_with_len_more, Configuration, Has, OwnSearch, AreOwn, process_of}
 
 pub has-place : {X : Type 0} (xs : List X) (x : X) → Has xs x → (i : ℕ) × (i < length xs) × (slice_get xs i ≡ Some x)
 has-place [] x h = absurd h
@@ -15,13 +15,16 @@ pub get-last : {X : Type 0} (xs : List X) (x : X) → slice_get (xs ++ x ∷ [])
 get-last [] x = refl
 get-last (y ∷ xs) x = get-last xs x
 
--- each item with one more is an item, or the one
-pub each-more : {X : Type 0} (P : X → Type 0) (xs : List X) (x : X) → ((i : ℕ) (y : X) → slice_get xs i ≡ Some y → P y) → P x
-    → (i : ℕ) (y : X) → slice_get (xs ++ x ∷ []) i ≡ Some y → P y
-each-more P [] x each here zero y is = let same : x ≡ y = cc in subst P same here
-each-more P [] x each here (suc i) y is = absurd (cc)
-each-more P (z ∷ xs) x each here zero y is = each zero y is
-each-more P (z ∷ xs) x each here (suc i) y is = each-more P xs x (λ j w at. each (suc j) w at) here i y is
+-- what stands at a place of a list with one more is the one, at the end, or stood there
+pub get-more : {X : Type 0} (xs : List X) (x : X) (i : ℕ) (y : X) → slice_get (xs ++ x ∷ []) i ≡ Some y → ((i ≡ length xs) × (x ≡ y)) ⊎ (slice_get xs i ≡ Some y)
+get-more [] x zero y is = let same : x ≡ y = cc in inl (refl, same)
+get-more [] x (suc i) y is = absurd (cc)
+get-more (z ∷ xs) x zero y is = inr is
+get-more (z ∷ xs) x (suc i) y is =
+    elim (get-more xs x i y is) [
+      | inl new ↦ let long : suc i ≡ suc (length xs) = ap (λ n. suc n) new.0 in inl (long, new.1)
+      | inr old ↦ inr old
+    ]
 
 -- an item in place of one with the same value leaves the values
 pub set-same : {X : Type 0} (f : X → ℕ) (xs : List X) (i : ℕ) (old new : X) → i < length xs → f new ≡ f (get_or xs i old) → map f (set xs i new) ≡ map f xs

@@ -1,5 +1,6 @@
 -- The searches of a kernel's run after more ticks.
-use Rattle.dk_repeat_search.proofs.Names.{ℕ, ◌≡◌, ◌+◌, ◌∙◌, ◌∷◌, Option, sym, ap, subst, Configuration, IsChecked, IsAccepted, Entry, trace, Running, trace_of, RunSearch, Follows, IsReader, GoQuietly, SearchesStay, Searches, IsSearching}
+use Rattle.dk_repeat_search.proofs.Names.{ℕ, ◌≡◌, ◌+◌, ◌∙◌, ◌∷◌, Option, sym, ap, subst, arith, Configuration, IsChecked, IsAccepted, Entry, trace, Running, trace_of, RunSearch, Follows, FollowsOn, HaveLooked, IsReader, GoQuietly, SearchesStay, Searches, IsSearching}
+use Rattle.dk_repeat_search.proofs.Looking.{run-later}
 use Rattle.dk_repeat_search.proofs.Owning.{searches-later}
 
 -- the searches after one more tick
@@ -36,3 +37,22 @@ searching-quiet k l s n law next checked accepted go is =
       programs = is.programs;
       each = is.each;
     })
+
+-- what they have looked at, after one more tick
+pub looked-next : (k l : Running) (s : Searches) (e : Entry) (reader : Option ℕ) (run : RunSearch) (n : ℕ) → l ≡ record k { ticks = k.ticks + 1 } → trace_of l ≡ e ∷ trace_of k
+    → IsSearching k s → ((n : ℕ) → l.ticks ≡ n + 1 → trace l.config l.programs (n + 1) ≡ e ∷ trace l.config l.programs n → IsReader l.config l.programs n e reader)
+    → FollowsOn s.run k.ticks e reader run → HaveLooked k n s → HaveLooked l n (record s { run = run })
+looked-next k l s e reader run n next adds is reads follows looked =
+    let ticks : l.ticks ≡ k.ticks + 1 = ap (λ (r : Running). r.ticks) next in
+    let more : trace k.config k.programs (k.ticks + 1) ≡ e ∷ trace k.config k.programs k.ticks = ap (λ (r : Running). trace_of r) (sym next) ∙ adds in
+    let read : IsReader k.config k.programs k.ticks e reader =
+    subst (λ (r : Running). trace r.config r.programs (k.ticks + 1) ≡ e ∷ trace r.config r.programs k.ticks → IsReader r.config r.programs k.ticks e reader) next
+    (reads k.ticks ticks) more in
+    subst (λ (r : Running). HaveLooked r n (record s { run = run })) (sym next)
+    (record { run = follows k.config k.programs n is.run more read looked.run; own = looked.own })
+
+-- and after some in which nothing is looked at
+pub looked-quiet : (k l : Running) (s : Searches) (more n : ℕ) → l ≡ record k { ticks = k.ticks + more } → HaveLooked k n s → HaveLooked l n s
+looked-quiet k l s more n next looked =
+    subst (λ (r : Running). HaveLooked r n s) (sym next)
+    (record { run = run-later k.config k.programs k.ticks (k.ticks + more) n s.run (omega arith) looked.run; own = looked.own })

@@ -1,5 +1,5 @@
 -- What was found, told as text.
-use Rattle.dk_repeat_search.proofs.Names.{ℕ, ◌≡◌, ◌∙◌, Bool, List, Option, Some, None, refl, ap, sym, subst, option_map, Workload, IsLoaded, Running, Cycle, RunTold, RunSearch, IsRunSearch, OwnIsTold, RunIsTold, reader_by, run_told, with_start, CycleCounts, OwnFound, CyclesAreAlike, IsOneCounted, OwnCyclesAreAlike, names_of, AreOf, found_text, repeats-text, Found, IsSettled, Searches, HasSettled, IsSearching, loaded_of, AreOwnFound, IsFound, IsRepeatsOf, repeats, searched_ticks, AreLast, KnowsLast, Made, made_by, arith, get_or, map, All, ◌+◌, ◌-◌, ◌≤◌, IsChecked, IsAccepted, OwnSearch, OwnTold, IsOwnSearch, HasLookedBefore, HasNoOwnCycle, OwnIsFound, HaveLooked, HasNoneToFind, NoneWasToFind, own_told, told_of}
+use Rattle.dk_repeat_search.proofs.Names.{ℕ, ◌≡◌, ◌∙◌, Bool, List, Option, Some, None, refl, ap, sym, subst, option_map, Workload, IsLoaded, Running, Cycle, RunTold, RunSearch, IsRunSearch, OwnIsTold, RunIsTold, reader_by, run_told, with_start, CycleCounts, OwnFound, CyclesAreAlike, IsOneCounted, OwnCyclesAreAlike, names_of, AreOf, found_text, repeats-text, Found, IsSettled, Searches, HasSettled, IsSearching, loaded_of, AreOwnFound, IsFound, IsRepeatsOf, repeats, searched_ticks, AreLast, KnowsLast, Made, made_by, arith, get_or, map, All, ◌+◌, ◌-◌, ◌≤◌, IsChecked, IsAccepted, OwnSearch, OwnTold, IsOwnSearch, HasLookedBefore, HasNoOwnCycle, OwnIsFound, HaveLooked, HasLookedAtRun, HasNoCycle, HasNoneToFind, NoneWasToFind, RunHasNoneToFind, RunIsFound, own_told, told_of}
 use Rattle.dk_cycle.specs.declared.keeping.Keeping.TheVariants as kind
 use Rattle.dk_repeat_search.proofs.Owning.{search-later}
 use Rattle.dk_repeat_search.proofs.Places.{same-at}
@@ -71,6 +71,19 @@ none-was law w k ticks before after own of loaded settled looked few told =
     subst (λ (t : OwnTold). HasNoneToFind (loaded_of k) ticks t) (sym r.1)
     (λ keeps none. no-cycle law k ticks s checked accepted few (settled.is.own.all i no_own r.0) (seen i no_own r.0) keeps none))
 
+-- and none is told of the run only where none was to be found
+pub no-run-cycle : RunIsFound → (w : Workload) (k : Running) (ticks : ℕ) (before after : Searches) → loaded_of k ≡ w → IsLoaded w → IsSearching k before → HasSettled k before after
+    → (before.run.cycle ≡ None → k.ticks ≡ ticks) → HaveLooked k (ticks + 1) before → RunHasNoneToFind w ticks after.run.cycle
+no-run-cycle law w k ticks before after of loaded is settled all looked = λ none.
+    let checked : IsChecked k.config = subst (λ (v : Workload). IsChecked v.config) (sym of) loaded.checked in
+    let accepted : IsAccepted k.config = subst (λ (v : Workload). IsAccepted v.config) (sym of) loaded.accepted in
+    let was = settled.had none in
+    let reached : k.ticks ≡ ticks = all was in
+    let seen : HasLookedAtRun k.config k.programs k.ticks (k.ticks + 1) before.run =
+    subst (λ n. HasLookedAtRun k.config k.programs k.ticks (n + 1) before.run) (sym reached) looked.run in
+    subst (λ (v : Workload). HasNoCycle v.config v.programs ticks) of
+    (subst (λ n. HasNoCycle k.config k.programs n) reached (law k.config k.programs k.ticks before.run checked accepted is.run seen was))
+
 told-last : (w : Workload) (ticks : ℕ) (o : Option Cycle) (reader : Option ℕ) (made : Option Made) → (o ≡ None → AreLast w ticks reader made)
     → o ≡ None → AreLast w ticks (reader_by o reader) (made_by o made)
 told-last w ticks None reader made is = is
@@ -78,9 +91,10 @@ told-last w ticks (Some y) reader made is = λ none. absurd (cc)
 
 -- the text of what was found tells what repeats for ever
 pub repeats-of : (w : Workload) (ticks : ℕ) (text : List ℕ) (whole : Bool) (f : Found) → RunIsTold → OwnIsTold → CyclesAreAlike → OwnCyclesAreAlike → IsLoaded w
-    → IsFound w f → KnowsLast w (searched_ticks ticks) f.run → NoneWasToFind w (searched_ticks ticks) f.own.items → text ≡ found_text (names_of w.config) ticks f.run f.counts f.own.items → whole ≡ repeats (run_told f.run)
+    → IsFound w f → KnowsLast w (searched_ticks ticks) f.run → NoneWasToFind w (searched_ticks ticks) f.own.items
+    → RunHasNoneToFind w (searched_ticks ticks) f.run.cycle → text ≡ found_text (names_of w.config) ticks f.run f.counts f.own.items → whole ≡ repeats (run_told f.run)
     → IsRepeatsOf w ticks text whole
-repeats-of w ticks text whole f run-law own-law cycles-law own-cycles-law loaded found knows none is whole-is =
+repeats-of w ticks text whole f run-law own-law cycles-law own-cycles-law loaded found knows none no-cycles is whole-is =
     let told = repeats-text w.config w.programs ticks f.run f.counts f.own.items text run-law own-law cycles-law own-cycles-law loaded.checked loaded.accepted found is in
     record {
       is = told.0;
@@ -88,4 +102,5 @@ repeats-of w ticks text whole f run-law own-law cycles-law own-cycles-law loaded
       last = subst (λ (t : RunTold). t.cycle ≡ None → AreLast w (searched_ticks ticks) t.reader t.made) (sym told.1)
           (told-last w (searched_ticks ticks) f.run.cycle f.run.reader f.run.made knows);
       none = subst (NoneWasToFind w (searched_ticks ticks)) (sym told.2) none;
+      no_cycle = subst (λ (t : RunTold). RunHasNoneToFind w (searched_ticks ticks) t.cycle) (sym told.1) no-cycles;
     }

@@ -11,6 +11,7 @@ use Rattle.dk_cycle.specs.declared.waiting.WaitWatch.{WaitWatch}
 use Rattle.dk_cycle.specs.Seeking.{HasNoOwnCycle}
 use Rattle.dk_cycle.specs.Told.{IsRunTold}
 use Rattle.dk_cycle.specs.Waiting.{IsWaitWatch, IsWaits, waits_told}
+use Rattle.dk_repeat_search.specs.Repeats.{RunHasNoneToFind}
 use Rattle.dk_repeat_search.specs.declared.always.Always.{Always}
 use Rattle.dk_repeat_search.specs.declared.always.Watching.{Watching}
 use Rattle.dk_repeat_search.specs.Searching.{IsSearching}
@@ -45,3 +46,5 @@ pub record IsAlways (w : Workload) (ticks : ℕ) (a : Always) : Type 0 where
   pub waits : AreWaits w.config w.programs ticks a.waits.items
   -- where it isn't known of a process that keeps to itself, no cycle of it was to be found
   pub none : (p : ℕ) → slice_get a.waits.items p ≡ Some what.NotWithin → HasNoOwnCycle w.config w.programs p ticks
+  -- where none is told of the run, none was to be found
+  pub no_cycle : RunHasNoneToFind w ticks a.run.cycle

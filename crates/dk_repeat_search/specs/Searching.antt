@@ -1,14 +1,17 @@
 -- The searches of a run and of each of its processes.
-use Rattle.std.specs.Prelude.{ℕ, ◌≡◌, ◌⊎◌, ◌+◌, ◌≤◌, List, None, length, map, All, IfSome}
+use Rattle.std.specs.Prelude.{ℕ, ◌≡◌, ◌⊎◌, ◌+◌, ◌<◌, ◌≤◌, false, List, Option, Some, None, length, map, slice_get, All, IfSome, IsSomeAnd}
 use Rattle.std.specs.List.{range_with_len}
 use Rattle.dk_config.specs.Configuration.{Configuration}
 use Rattle.dk_loader.specs.Workload.{Workload}
 use Rattle.dk_cpu.specs.declared.Context.{Context}
 use Rattle.dk_kernel.specs.Running.{Running, world_of}
 use Rattle.dk_cycle.specs.declared.own.OwnSearch.{OwnSearch}
+use Rattle.dk_cycle.specs.declared.run.ProcessState.{ProcessState}
+use Rattle.dk_cycle.specs.declared.run.RunSearch.{RunSearch}
+use Rattle.dk_cycle.specs.declared.run.RunState.{RunState}
 use Rattle.dk_cycle.specs.Own.{IsGone, IsOwnSearch}
-use Rattle.dk_cycle.specs.Run.{IsRunSearch}
-use Rattle.dk_cycle.specs.Seeking.{HasLooked, IsDone, IsYoung}
+use Rattle.dk_cycle.specs.Run.{IsOtherProcess, IsRunSearch}
+use Rattle.dk_cycle.specs.Seeking.{HasLooked, HasLookedAtRun, IsDone, IsYoung, IsYoungRun}
 use Rattle.dk_cycle.specs.Start.{StartsFirst}
 use Rattle.dk_repeat_search.specs.declared.search.Searches.{Searches}
 
@@ -47,8 +50,42 @@ HasLookedBefore k n search = HasLooked k.config k.programs n search
 abbrev pub LooksFor : Running → ℕ → OwnSearch → Type 0
 LooksFor k wait search = (w : ℕ) → 1 ≤ w → w ≤ wait → HasLookedBefore k (k.ticks + w) search
 
+-- the process has another memory than then, or another context of its main, where it ran on
+pub record IsOtherNow (k : Running) (p : ℕ) (s : ProcessState) : Type 0 where
+  pub context : Context
+  pub words : List ℕ
+  pub context_is : context ≡ ((world_of k).images p).contexts 0
+  pub words_are : words ≡ ((world_of k).images p).memory
+  pub other : IsOtherProcess s context words
+
+-- one of the processes has
+pub record HasOtherNow (k : Running) (states : List ProcessState) : Type 0 where
+  pub process : ℕ
+  pub state : ProcessState
+  pub known : process < length k.config.processes
+  pub there : slice_get states process ≡ Some state
+  pub is : IsOtherNow k process state
+
+abbrev pub IsOtherRun : Running → Option RunState → Type 0
+IsOtherRun k saved = IsSomeAnd saved (λ s. HasOtherNow k s.processes.items)
+
+-- The search of the run needn't look now: what it keeps is young, and a thread was made or stopped since, or the tick was read;
+-- or a process is another than then.
+pub record MayPassRun (k : Running) (search : RunSearch) : Type 0 where
+  pub young : IsYoungRun search.saved k.ticks
+  pub why : (search.kept ≡ false) ⊎ IsOtherRun k search.saved
+
+-- it has looked at each tick before n at which the windows of all levels begin
+abbrev pub HasLookedAtRunBefore : Running → ℕ → RunSearch → Type 0
+HasLookedAtRunBefore k n search = HasLookedAtRun k.config k.programs k.ticks n search
+
+-- and it needn't look in so many ticks from now on
+abbrev pub LooksAtRunFor : Running → ℕ → RunSearch → Type 0
+LooksAtRunFor k wait search = (w : ℕ) → 1 ≤ w → w ≤ wait → HasLookedAtRunBefore k (k.ticks + w) search
+
 -- each search has looked at each tick before n at which a window begins in which it looks
 pub record HaveLooked (k : Running) (n : ℕ) (s : Searches) : Type 0 where
+  pub run : HasLookedAtRunBefore k n s.run
   pub own : All (HasLookedBefore k n) s.own.items
 
 -- and none needs to in so many ticks from now on

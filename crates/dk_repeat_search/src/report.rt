@@ -5,7 +5,7 @@ ghost use Rattle.dk_kernel.specs.Booting.{IsLoaded};
 ghost use Rattle.dk_cycle_start.specs.Passes.{IsPass};
 ghost use Rattle.dk_repeat_report.specs.Cycles.{shares_of};
 ghost use Rattle.dk_repeat_report.specs.Lines.{names_of};
-ghost use Rattle.dk_repeat_search.specs.Repeats.{IsRepeatsOf, KnowsLast, NoneWasToFind, repeats, searched_ticks};
+ghost use Rattle.dk_repeat_search.specs.Repeats.{IsRepeatsOf, KnowsLast, NoneWasToFind, RunHasNoneToFind, repeats, searched_ticks};
 ghost use Rattle.dk_repeat_search.specs.Searching.{HaveLooked, IsSearching, loaded_of};
 ghost use Rattle.dk_repeat_search.specs.Counting.{IsFound};
 
@@ -71,6 +71,7 @@ fn found_by<L: Ledger>(
     ensures found { IfOk result (IsFound (loaded_of kernel.old)) }
     ensures last { IfOk result (λ found. KnowsLast (loaded_of kernel.old) ticks found.run) }
     ensures none { IfOk result (λ found. NoneWasToFind (loaded_of kernel.old) ticks found.own.items) }
+    ensures no_cycle { IfOk result (λ found. RunHasNoneToFind (loaded_of kernel.old) ticks found.run.cycle) }
 {
     found_law();
     searches.search(alloc, kernel, ticks, steps)?;
@@ -107,6 +108,7 @@ fn searched_by<L: Ledger>(
     ensures found { IfOk result (IsFound loaded) }
     ensures last { IfOk result (λ found. KnowsLast loaded ticks found.run) }
     ensures none { IfOk result (λ found. NoneWasToFind loaded ticks found.own.items) }
+    ensures no_cycle { IfOk result (λ found. RunHasNoneToFind loaded ticks found.run.cycle) }
 {
     let searches = Searches::of(alloc, &loaded)?;
     let shares = shares_of(alloc, &loaded)?;
@@ -144,6 +146,7 @@ fn searched(alloc: Global, loaded: Loaded, ticks: u32) -> Result<Found, NoMemory
     ensures found { IfOk result (IsFound loaded) }
     ensures last { IfOk result (λ found. KnowsLast loaded (searched_ticks ticks) found.run) }
     ensures none { IfOk result (λ found. NoneWasToFind loaded (searched_ticks ticks) found.own.items) }
+    ensures no_cycle { IfOk result (λ found. RunHasNoneToFind loaded (searched_ticks ticks) found.run.cycle) }
 {
     searched_by::<Brand>(alloc, loaded, searched_ticks(ticks), Blank::new(1))
 }

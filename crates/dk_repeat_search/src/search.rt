@@ -4,7 +4,7 @@ ghost use Rattle.dk_config.specs.declared.TheConstants.{MAX_TICKS};
 ghost use Rattle.dk_cycle.specs.Own.{IsOwnSearch};
 ghost use Rattle.dk_cycle.specs.Seeking.{IsDone};
 ghost use Rattle.dk_kernel.specs.Booting.{IsLoaded};
-ghost use Rattle.dk_repeat_search.specs.Searching.{AreOwn, HasLookedBefore, LooksFor, MayPass, begun, process_of};
+ghost use Rattle.dk_repeat_search.specs.Searching.{AreOwn, HasLookedBefore, HasOtherNow, IsOtherNow, LooksFor, MayPass, begun, process_of};
 
 use crate::states::{main_state, run_state};
 use dk_config::{MAX_TICKS, NoMemory};
@@ -173,7 +173,9 @@ fn look_all(
 }
 
 /// Whether the process may be what it was then: its memory, and the context of its main.
-fn may_be(state: &ProcessState, kernel: &Kernel, process: u8) -> bool {
+fn may_be(state: &ProcessState, kernel: &Kernel, process: u8) -> bool
+    ensures { result ≡ false → IsOtherNow kernel.now process state.now }
+{
     let Some(context) = kernel.context(ThreadId { process, serial: 0 }) else {
         return true;
     };
@@ -184,7 +186,10 @@ fn may_be(state: &ProcessState, kernel: &Kernel, process: u8) -> bool {
 }
 
 /// Whether each process may be what it was then.
-fn all_may_be(states: &[ProcessState], kernel: &Kernel, processes: u8) -> bool {
+fn all_may_be(states: &[ProcessState], kernel: &Kernel, processes: u8) -> bool
+    requires { processes ≡ length kernel.now.config.processes }
+    ensures { result ≡ false → HasOtherNow kernel.now states.now }
+{
     for process in 0..processes {
         if let Some(state) = states.get(process as usize) {
             if !may_be(state, kernel, process) {
@@ -198,7 +203,7 @@ fn all_may_be(states: &[ProcessState], kernel: &Kernel, processes: u8) -> bool {
 impl Searches {
     ghost use Rattle.dk_kernel.specs.Running.{trace_of};
     ghost use Rattle.std.specs.Prelude.{ℕ};
-    ghost use Rattle.dk_repeat_search.specs.Searching.{AllLookFor, HasSettled, HaveEnded, HaveLooked, IsSearching, begun, loaded_of};
+    ghost use Rattle.dk_repeat_search.specs.Searching.{AllLookFor, HasLookedAtRunBefore, HasSettled, HaveEnded, HaveLooked, IsSearching, LooksAtRunFor, MayPassRun, begun, loaded_of};
     ghost use Rattle.dk_cycle_start.specs.Passes.{IsPass};
 
     /// The searches before the first tick.
@@ -215,7 +220,11 @@ impl Searches {
     }
 
     /// Whether the run may be what it was at the tick that is kept, or is to be kept as it is now: nothing is copied for it.
-    fn is_worth(&self, kernel: &Kernel, tick: u32, processes: u8) -> bool {
+    fn is_worth(&self, kernel: &Kernel, tick: u32, processes: u8) -> bool
+        requires tick { tick ≡ kernel.now.ticks }
+        requires all { processes ≡ length kernel.now.config.processes }
+        ensures { result ≡ false → MayPassRun kernel.now self.now.run }
+    {
         if self.run.is_due(tick) {
             return true;
         }
@@ -232,18 +241,24 @@ impl Searches {
         requires is { IsSearching kernel.now self.old }
         requires tick { tick ≡ kernel.now.ticks }
         requires begins { tick % self.old.run.longest ≡ 0 }
+        requires looked { HasLookedAtRunBefore kernel.now kernel.now.ticks self.old.run }
         ensures is { OnOk result (IsSearching kernel.now self.new) }
+        ensures looked { OnOk result (HasLookedAtRunBefore kernel.now (kernel.now.ticks + 1) self.new.run) }
         ensures own { OnOk result (self.new.own.items ≡ self.old.own.items) }
     {
+        found_law();
         kernel.dispatcher();
         let processes = self.own.len() as u8;
         if !self.is_worth(kernel, tick, processes) {
             return Ok(());
         }
-        if let Some(now) = run_state(alloc, kernel, processes)? {
-            self.run.look(now);
+        match run_state(alloc, kernel, processes)? {
+            None => Ok(()),
+            Some(now) => {
+                self.run.look(now);
+                Ok(())
+            }
         }
-        Ok(())
     }
 
     /// The same, where its cycle isn't found and they begin. Answers in how many ticks they begin next, or many where nothing is
@@ -251,16 +266,20 @@ impl Searches {
     fn look_at_run(&mut self, alloc: Global, kernel: &Kernel, tick: u32) -> Result<u32, NoMemory>
         requires is { IsSearching kernel.now self.old }
         requires tick { tick ≡ kernel.now.ticks }
+        requires looked { HasLookedAtRunBefore kernel.now kernel.now.ticks self.old.run }
         ensures is { OnOk result (IsSearching kernel.now self.new) }
+        ensures looked { IfOk result (λ wait. LooksAtRunFor kernel.now wait self.new.run) }
         ensures own { OnOk result (self.new.own.items ≡ self.old.own.items) }
         ensures later { IfOk result (λ wait. 1 ≤ wait) }
     {
+        found_law();
         if self.run.is_done() {
             return Ok(MAX_TICKS);
         }
         let wait = self.run.wait(tick);
         if wait == self.run.longest {
             self.look_now(alloc, kernel, tick)?;
+            return Ok(wait);
         }
         Ok(wait)
     }

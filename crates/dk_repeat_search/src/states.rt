@@ -1,12 +1,12 @@
 //! What a kernel's run is at its tick.
-ghost use Rattle.std.specs.Prelude.{◌≡◌, ◌<◌, ◌++◌, length, true, is_some, IfOk, IfSome, OnOk};
+ghost use Rattle.std.specs.Prelude.{◌≡◌, ◌<◌, ◌≤◌, ◌++◌, length, true, is_some, IfOk, IfSome, OnOk};
 ghost use Rattle.dk_config.specs.declared.TheConstants.{MAX_THREADS};
 ghost use Rattle.dk_threads.specs.Rows.{is_stopped};
 ghost use Rattle.dk_alone.specs.Again.{main_is_stopped};
 ghost use Rattle.dk_cycle.specs.Own.{IsMainState};
-ghost use Rattle.dk_cycle.specs.Run.{AreProcessStates, IsProcessState, IsRunState};
+ghost use Rattle.dk_cycle.specs.Seeking.{IsWholeState};
 ghost use Rattle.dk_kernel.specs.Running.{trace_of, world_of};
-ghost use Rattle.dk_repeat_search.specs.States.{IsThreadAt, AreThreads, listed};
+ghost use Rattle.dk_repeat_search.specs.States.{AreThreads, AreWhole, IsThreadAt, IsWholeProcess, listed};
 
 use dk_bound::rows_law;
 use dk_config::{MAX_THREADS, NoMemory};
@@ -90,12 +90,15 @@ pub(crate) fn main_state(
     }
 }
 
-/// The thread at the place of the process, where there is one, and its context.
+/// The thread at the place of the process, where there is one and it runs on, and its context.
 fn thread_at(kernel: &Kernel, process: u8, place: u8) -> Option<ThreadState>
     requires { process < length kernel.now.config.processes }
     ensures { IsThreadAt kernel.now process place result }
 {
     let row = row_at(kernel, process, place)?;
+    if is_stopped(row.state) {
+        return None;
+    }
     let context = kernel.context(row.id)?;
     Some(ThreadState {
         serial: row.id.serial,
@@ -116,7 +119,7 @@ fn add_thread(threads: &mut Vec<ThreadState>, thread: Option<ThreadState>) -> Re
     }
 }
 
-/// The threads of the process that have a row.
+/// The threads of the process that run on.
 fn threads_of(alloc: Global, kernel: &Kernel, process: u8) -> Result<Vec<ThreadState>, NoMemory>
     requires { process < length kernel.now.config.processes }
     ensures { IfOk result (λ threads. AreThreads kernel.now process threads.items MAX_THREADS) }
@@ -135,7 +138,8 @@ fn process_state(
     process: u8,
 ) -> Result<Option<ProcessState>, NoMemory>
     requires { process < length kernel.now.config.processes }
-    ensures { IfOk result (λ o. IfSome o (IsProcessState kernel.now.config (world_of kernel.now) process)) }
+    ensures is { IfOk result (λ o. IfSome o (IsWholeProcess kernel.now process)) }
+    ensures there { process < length kernel.now.programs → IfOk result (λ o. is_some o ≡ true) }
 {
     kernel.dispatcher().rows_are_few();
     let threads = threads_of(alloc, kernel, process)?;
@@ -152,8 +156,8 @@ fn process_states(
     processes: u8,
 ) -> Result<Option<Vec<ProcessState>>, NoMemory>
     requires { processes ≡ length kernel.now.config.processes }
-    ensures { IfOk result (λ o. IfSome o
-        (λ states. AreProcessStates kernel.now.config (world_of kernel.now) processes states.items)) }
+    ensures are { IfOk result (λ o. IfSome o (λ states. AreWhole kernel.now processes states.items)) }
+    ensures there { processes ≤ length kernel.now.programs → IfOk result (λ o. is_some o ≡ true) }
 {
     let mut states = Vec::new(alloc);
     for process in 0..processes {
@@ -172,7 +176,8 @@ pub(crate) fn run_state(
     processes: u8,
 ) -> Result<Option<RunState>, NoMemory>
     requires { processes ≡ length kernel.now.config.processes }
-    ensures is { IfOk result (λ o. IfSome o (IsRunState kernel.now.config kernel.now.programs)) }
+    ensures is { IfOk result (λ o. IfSome o (IsWholeState kernel.now.config kernel.now.programs)) }
+    ensures there { processes ≤ length kernel.now.programs → IfOk result (λ o. is_some o ≡ true) }
     ensures tick { IfOk result (λ o. IfSome o (λ now. now.tick ≡ kernel.now.ticks)) }
 {
     match process_states(alloc, kernel, processes)? {

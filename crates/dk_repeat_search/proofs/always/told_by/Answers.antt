@@ -1,5 +1,6 @@
-use Rattle.dk_repeat_search.proofs.Names.{◌≡◌, ◌+◌, arith, ◌∙◌, List, length, sym, ap, subst, OwnSearch, WaitWatch, Workload, IsLoaded, HaveEnded, HaveLooked, loaded_of, AreTold}
+use Rattle.dk_repeat_search.proofs.Names.{◌≡◌, ◌+◌, arith, ◌∙◌, List, length, sym, ap, subst, OwnSearch, WaitWatch, Workload, IsLoaded, HaveEnded, HaveLooked, loaded_of, AreTold, RunHasNoneToFind, RunTold}
 use Rattle.dk_repeat_search.proofs.Places.{many-own}
+use Rattle.dk_repeat_search.proofs.Told.{no-run-cycle}
 use Rattle.dk_repeat_search.proofs.Watching.{always-of, many-watches}
 use Rattle.dk_repeat_search.proofs.always.told_by.Goals as goal
 
@@ -32,4 +33,14 @@ returns g c =
     always-of (loaded_of c.args.kernel.now) c.args.ticks k watches c.watch.new.self.searches s c.run_told.result waits c.told_law.ensures.run c.waits_law.ensures
     (ap loaded_of c.watch.ensures.same) (subst (λ (w : Workload). IsLoaded w) c.requires.of c.requires.pass.loaded) c.in_ok-settle.ensures
     (λ none. let all = c.in_ok-watch.ensures.all none in omega (arith, all, c.requires.begun)) ended c.in_ok-watch.ensures.is.watches c.run_told.ensures told c.found_law.ensures.own (omega (arith, high, c.requires.begun)) (subst (λ n. HaveLooked k n c.watch.new.self.searches) looked-to c.in_ok-watch.ensures.looked) in
-    record { run = both.0; waits = both.1; none = both.2 }
+    let no-cycles =
+    no-run-cycle c.found_law.ensures.run (loaded_of c.args.kernel.now) k c.args.ticks c.watch.new.self.searches s (ap loaded_of c.watch.ensures.same)
+    (subst (λ (w : Workload). IsLoaded w) c.requires.of c.requires.pass.loaded) c.in_ok-watch.ensures.is.searches c.in_ok-settle.ensures
+    (λ none. let all = c.in_ok-watch.ensures.all none in omega (arith, all, c.requires.begun))
+    (subst (λ n. HaveLooked k n c.watch.new.self.searches) looked-to c.in_ok-watch.ensures.looked) in
+    record {
+      run = both.0;
+      waits = both.1;
+      none = both.2;
+      no_cycle = subst (λ (t : RunTold). RunHasNoneToFind (loaded_of c.args.kernel.now) c.args.ticks t.cycle) (sym c.run_told.ensures) no-cycles;
+    }

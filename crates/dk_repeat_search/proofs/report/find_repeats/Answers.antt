@@ -12,4 +12,4 @@ returns c =
     ∙ ap (λ ns. found_text ns ticks f.run f.counts c.as_slice-2.result.now) (c.as_slice.ensures.value ∙ c.in_ok-names.ensures ∙ ap names_of config)
     ∙ ap (λ own. found_text (names_of w.config) ticks f.run f.counts own) c.as_slice-2.ensures.value in
     repeats-of w ticks c.new.result c.repeats_whole.result f c.told_law.ensures.run c.told_law.ensures.own c.cycles_law.ensures c.own_cycles_law.ensures c.requires
-    c.in_ok-found.ensures.found c.in_ok-found.ensures.last c.in_ok-found.ensures.none text (c.repeats_whole.ensures ∙ ap repeats c.run_told.ensures)
+    c.in_ok-found.ensures.found c.in_ok-found.ensures.last c.in_ok-found.ensures.none c.in_ok-found.ensures.no_cycle text (c.repeats_whole.ensures ∙ ap repeats c.run_told.ensures)

@@ -1,6 +1,6 @@
 use Rattle.dk_repeat_search.proofs.Names.{◌∙◌, length, sym, ap, subst, arith, Workload, Running, shares_of, AreOwn, HaveLooked, IsLoaded, own_told, map, ◌≡◌, ◌+◌, loaded_of}
 use Rattle.dk_repeat_search.proofs.Places.{many-own}
-use Rattle.dk_repeat_search.proofs.Told.{found-all, knows-last, none-was}
+use Rattle.dk_repeat_search.proofs.Told.{found-all, knows-last, no-run-cycle, none-was}
 use Rattle.dk_repeat_search.proofs.report.found_by.Goals as goal
 
 pub settle-requires-clause-of : goal.settle-requires-clause-of
@@ -54,3 +54,13 @@ returns-clause-none g c =
     (subst (λ (w : Workload). IsLoaded w) c.requires.of c.requires.pass.loaded) c.in_ok-settle.ensures
     (subst (λ n. HaveLooked k n c.search.new.self) all c.in_ok-search.ensures.looked) (omega (arith, high, begun))
     (c.in_ok-own.ensures.told ∙ ap (map own_told) c.as_slice.ensures.value)
+
+pub returns-clause-no_cycle : goal.returns-clause-no_cycle
+returns-clause-no_cycle g c =
+    let k = c.search.new.kernel in
+    let begun = c.requires.begun in
+    let all : c.args.kernel.now.ticks + c.args.ticks + 1 ≡ c.args.ticks + 1 = omega (arith, begun) in
+    no-run-cycle c.found_law.ensures.run (loaded_of c.args.kernel.now) k c.args.ticks c.search.new.self c.settle.new.self (ap loaded_of c.search.ensures.same)
+    (subst (λ (w : Workload). IsLoaded w) c.requires.of c.requires.pass.loaded) c.in_ok-search.ensures.is c.in_ok-settle.ensures
+    (λ none. let ended = c.in_ok-search.ensures.all none in omega (arith, ended, begun))
+    (subst (λ n. HaveLooked k n c.search.new.self) all c.in_ok-search.ensures.looked)

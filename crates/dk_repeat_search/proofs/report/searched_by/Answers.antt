@@ -1,4 +1,4 @@
-use Rattle.dk_repeat_search.proofs.Names.{◌∙◌, sym, ap, subst, IfOk, Workload, Running, shares_of, Found, IsSearching, loaded_of, IsFound, HaveLooked, KnowsLast, NoneWasToFind}
+use Rattle.dk_repeat_search.proofs.Names.{◌∙◌, sym, ap, subst, IfOk, Workload, Running, shares_of, Found, IsSearching, loaded_of, IsFound, HaveLooked, KnowsLast, NoneWasToFind, RunHasNoneToFind}
 use Rattle.dk_repeat_search.proofs.report.searched_by.Goals as goal
 
 pub found_by-requires-clause-is : goal.found_by-requires-clause-is
@@ -24,3 +24,7 @@ found_by-requires-clause-looked g c = subst (λ (r : Running). HaveLooked r 0 c.
 pub returns-in-Ok-clause-none : goal.returns-in-Ok-clause-none
 returns-in-Ok-clause-none g c =
     subst (λ (w : Workload). IfOk c.found_by.result (λ (f : Found). NoneWasToFind w c.args.ticks f.own.items)) (ap loaded_of c.in-Ok.ensures.ok) c.found_by.ensures.none
+
+pub returns-in-Ok-clause-no_cycle : goal.returns-in-Ok-clause-no_cycle
+returns-in-Ok-clause-no_cycle g c =
+    subst (λ (w : Workload). IfOk c.found_by.result (λ (f : Found). RunHasNoneToFind w c.args.ticks f.run.cycle)) (ap loaded_of c.in-Ok.ensures.ok) c.found_by.ensures.no_cycle

@@ -2,8 +2,8 @@ use Rattle.dk_repeat_search.proofs.Names.{few-shown}
 use Rattle.dk_repeat_search.proofs.Shown.{process-state}
 use Rattle.dk_repeat_search.proofs.states.process_state.Goals as goal
 
-pub returns-in-Some : goal.returns-in-Some
-returns-in-Some c =
+pub returns-in-Some-clause-is : goal.returns-in-Some-clause-is
+returns-in-Some-clause-is c =
     let k = c.args.kernel.now in
     let p = c.args.process in
     let few = few-shown k c.dispatcher.result.now.past p c.dispatcher.ensures.config c.dispatcher.ensures.entries c.rows_are_few.ensures c.requires in

@@ -1,11 +1,9 @@
 use Rattle.dk_repeat_search.proofs.Names.{ℕ, ◌≡◌, ◌+◌, List, sym, subst, arith, MAX_THREADS, ThreadState, AreThreads}
-use Rattle.dk_repeat_search.proofs.Shown.{no-threads, place-more}
+use Rattle.dk_repeat_search.proofs.Shown.{place-more}
 use Rattle.dk_repeat_search.proofs.states.threads_of.Goals as goal
 
 pub loop-place-init : goal.loop-place-init
-loop-place-init c =
-    let k = c.args.kernel.now in
-    subst (λ (xs : List ThreadState). AreThreads k c.args.process xs 0) (sym c.new-threads.ensures.items) (no-threads k c.args.process)
+loop-place-init c = c.new-threads.ensures.items
 
 pub loop-place-preserved : goal.loop-place-preserved
 loop-place-preserved c =

@@ -1,5 +1,4 @@
-use Rattle.dk_repeat_search.proofs.Names.{sym, subst, Running, HaveLooked}
-use Rattle.dk_repeat_search.proofs.Reading.{searching-quiet}
+use Rattle.dk_repeat_search.proofs.Reading.{looked-quiet, searching-quiet}
 use Rattle.dk_repeat_search.proofs.search.Searches.advance.Goals as goal
 
 pub returns-then-quiet-gt0-clause-is : goal.returns-then-quiet-gt0-clause-is
@@ -9,8 +8,8 @@ returns-then-quiet-gt0-clause-is g c =
 
 pub returns-then-quiet-gt0-clause-looked : goal.returns-then-quiet-gt0-clause-looked
 returns-then-quiet-gt0-clause-looked g c n looked =
-    subst (λ (r : Running). HaveLooked r n c.args.self.now) (sym c.go_quietly-quiet.ensures.next) (record { own = looked.own })
+    looked-quiet c.args.kernel.now c.go_quietly-quiet.new.kernel c.args.self.now c.go_quietly-quiet.result n c.go_quietly-quiet.ensures.next looked
 
 pub returns-clause-looked : goal.returns-clause-looked
 returns-clause-looked g c n looked =
-    c.follow.ensures.looked n (subst (λ (r : Running). HaveLooked r n c.args.self.now) (sym c.go_quietly-quiet.ensures.next) (record { own = looked.own }))
+    c.follow.ensures.looked n (looked-quiet c.args.kernel.now c.go_quietly-quiet.new.kernel c.args.self.now c.go_quietly-quiet.result n c.go_quietly-quiet.ensures.next looked)

@@ -1,5 +1,5 @@
-use Rattle.dk_repeat_search.proofs.Names.{◌∙◌, sym, ap, subst, Running, Follows, HaveLooked}
-use Rattle.dk_repeat_search.proofs.Reading.{searching-next}
+use Rattle.dk_repeat_search.proofs.Names.{◌∙◌, sym, ap, subst, Running, Follows, FollowsOn}
+use Rattle.dk_repeat_search.proofs.Reading.{looked-next, searching-next}
 use Rattle.dk_repeat_search.proofs.search.Searches.follow.Goals as goal
 
 pub reader_of-reader-requires : goal.reader_of-reader-requires
@@ -14,4 +14,6 @@ returns-clause-is g c =
 
 pub returns-clause-looked : goal.returns-clause-looked
 returns-clause-looked g c n looked =
-    subst (λ (r : Running). HaveLooked r n (record c.args.self.now { run = c.follow.new.self })) (sym c.tick-entry.ensures.next) (record { own = looked.own })
+    looked-next c.args.kernel.now c.tick-entry.new.self c.args.self.now c.tick-entry.result c.reader_of-reader.result c.follow.new.self n
+    c.tick-entry.ensures.next c.tick-entry.ensures.entry c.requires.is c.reader_of-reader.ensures
+    (subst (λ n. FollowsOn c.args.self.now.run n c.tick-entry.result c.reader_of-reader.result c.follow.new.self) c.now-tick.ensures.ticks c.follow.ensures.looked) looked

@@ -8,5 +8,9 @@ look_all-requires-clause-looked c =
 
 pub returns-clause-looked : goal.returns-clause-looked
 returns-clause-looked c = λ w some few.
+    let one = c.lesser.ensures.one in
     let other = c.lesser.ensures.other in
-    record { own = λ i d there. c.in_ok-own.ensures.looked i d there w some (omega (arith, few, other)) }
+    record {
+      run = c.in_ok-run.ensures.looked w some (omega (arith, few, one));
+      own = λ i d there. c.in_ok-own.ensures.looked i d there w some (omega (arith, few, other));
+    }

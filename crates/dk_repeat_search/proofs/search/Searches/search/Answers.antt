@@ -1,4 +1,5 @@
 use Rattle.dk_repeat_search.proofs.Names.{◌≡◌, ◌+◌, ◌≤◌, ap, arith, sym, subst, Running, HaveLooked}
+use Rattle.dk_repeat_search.proofs.Looking.{all-done, run-done}
 use Rattle.dk_repeat_search.proofs.search.Searches.search.Goals as goal
 
 pub look-requires-in-loop-left-clause-looked : goal.look-requires-in-loop-left-clause-looked
@@ -18,3 +19,10 @@ returns-clause-looked g c =
     let over = c.loop-left-test.false in
     let all : l.kernel.ticks + 1 ≡ c.args.kernel.now.ticks + c.args.ticks + 1 = omega (arith, count, over) in
     subst (λ n. HaveLooked l.kernel n l.self) all (l.invariant.looked 1 (omega arith) l.invariant.later)
+
+pub returns-then-is_done-clause-looked : goal.returns-then-is_done-clause-looked
+returns-then-is_done-clause-looked g c =
+    let l = c.loop-left in
+    let end = c.args.kernel.now.ticks + c.args.ticks + 1 in
+    let done = c.if-is_done.true in
+    record { run = run-done l.kernel end l.self.run (c.is_done.ensures.run done); own = all-done l.kernel end l.self.own.items (c.is_done.ensures.own done) }
