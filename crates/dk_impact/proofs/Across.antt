@@ -393,6 +393,13 @@ plain-alone c p program positive keeps n =
     record { switch = refl; call = refl; memory = refl; mutexes = inl (record { users = λ m. refl; holds = λ m is. refl }); levels = inl (refl, refl) } in
     (at c c p p program sees positive positive keeps keeps refl (λ k. inl refl) n).plain
 
+-- and its code stays the program
+pub code-alone : (c : Configuration) (p : ℕ) (program : List ℕ) → 0 < period c (main_level c p) → KeepsToItself c p program → (n : ℕ) → ((alone c p program n).images p).code ≡ program
+code-alone c p program positive keeps n =
+    let sees : SeesTheSameButTime c p c p program =
+    record { switch = refl; call = refl; memory = refl; mutexes = inl (record { users = λ m. refl; holds = λ m is. refl }); levels = inl (refl, refl) } in
+    (at c c p p program sees positive positive keeps keeps refl (λ k. inl refl) n).code
+
 pub any-period : (c c' : Configuration) (p p' : ℕ) (program : List ℕ) → IsChecked c → IsAccepted c → IsChecked c' → IsAccepted c' → KeepsToItself c p program → KeepsToItself c' p' program
     → SeesTheSameButTime c p c' p' program → budget c p ≤ budget c' p' → (k : ℕ)
     → ((i : ℕ) → i < k → (j : ℕ) → suc j ≤ budget c p → Budgets c p c' p' program (on j (start_of (period c (main_level c p)) i)))

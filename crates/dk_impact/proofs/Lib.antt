@@ -6,6 +6,7 @@ pub mod Spent
 pub mod Room
 pub mod Across
 pub mod Greater
+pub mod Wants
 pub mod Joined
 pub mod Windows
 pub mod Told

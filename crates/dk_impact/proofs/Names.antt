@@ -6,7 +6,9 @@ pub use Rattle.dk_alone.proofs.Premises.{call_of, earlier-call, program, shown, 
 pub use Rattle.dk_alone.proofs.Same.{row-at}
 pub use Rattle.dk_alone.proofs.Steps.{alone-rests, alone-works, turn-label}
 pub use Rattle.dk_alone.proofs.Ties.{alone-long, tail}
-pub use Rattle.dk_alone.specs.Again.{ProcessStandsAgain, own_window, overruns}
+pub use Rattle.dk_alone.proofs.Cycles.{begins-sum}
+pub use Rattle.dk_alone.specs.Again.{ProcessStandsAgain, WindowBegins, own_window, overruns, window_from}
+pub use Rattle.dk_alone.specs.Laws.{WindowsAsAlone}
 pub use Rattle.dk_alone.specs.Alone.{IsSameFor, KeepsToItself, ReadsNoTick, alone, choice_alone, entries_of, is_of_process, step_alone}
 pub use Rattle.dk_bound.proofs.Accepted.{accepted}
 pub use Rattle.dk_config.proofs.CheckedConfig.{checked}
@@ -25,6 +27,7 @@ pub use Rattle.dk_cpu.specs.declared.Context.{Context}
 pub use Rattle.dk_cpu.specs.declared.Outcome.{Outcome}
 pub use Rattle.dk_cpu.specs.declared.kernel_call.KernelCall.{KernelCall}
 pub use Rattle.dk_impact.specs.Changes.{IsFirst, IsSight, Tells, TellsCall, TellsOf, but_time_change, cost_change, differs, first_change, level_change, mutex_change, mutexes_change, seen, use_change, use_of}
+pub use Rattle.dk_impact.specs.Enough.{AlwaysHasEnough, IsSameForEver, NeverOverrunsWith}
 pub use Rattle.dk_impact.specs.Greater.{GivesNoLess, ReadsNoBudget, has_enough, is_for_want}
 pub use Rattle.dk_impact.specs.GreaterLaws.{FirstWindowsTellWithMore, GreaterBudgetsHaveNoImpact}
 pub use Rattle.dk_impact.specs.Impact.{IsSameAcross, LocksNothing, MakesNoThread, SeesTheSame, SeesTheSameButPeriod, SeesTheSameButTime, SeesTheSameMutexes, renamed, renamed_label}

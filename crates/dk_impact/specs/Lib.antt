@@ -3,3 +3,4 @@ pub mod Laws
 pub mod Changes
 pub mod Greater
 pub mod GreaterLaws
+pub mod Enough

@@ -5,6 +5,7 @@
 //! project's own.
 #![tactic(auto)]
 
+ghost use Rattle.dk_impact.specs.Enough.{EnoughIsTheSameForEver, LocksNothingHasEnough};
 ghost use Rattle.dk_impact.specs.GreaterLaws.{AloneIsTheSameWithMore, FirstWindowsTellWithMore, GreaterBudgetsHaveNoImpact, WindowsAreTheSameWithMore};
 ghost use Rattle.dk_impact.specs.Laws.{AloneIsTheSameAcross, AloneIsTheSameAtAnyPeriod, ChangesOfOthersHaveNoImpact, ChangesOfPeriodHaveNoImpact, FirstWindowsTellAcross, FirstWindowsTellAtAnyPeriod, WindowsAreTheSameAcross, WindowsAreTheSameAtAnyPeriod};
 
@@ -111,4 +112,21 @@ pub fn first_windows_with_more_law()
 {
     windows_with_more_law();
     first_windows_law();
+}
+
+/// A process that locks nothing and overruns in none of its windows, in any run, has enough in each of them.
+pub fn enough_law()
+    ensures { LocksNothingHasEnough }
+{
+    windows_law();
+}
+
+/// And a process that has enough in each of its windows is the same, for ever, in any run of every configuration that gives it
+/// no smaller budget: where its k-th window begins its entries, its memory and its contexts are the same, and so are its
+/// entries in that window.
+pub fn for_ever_law()
+    ensures { EnoughIsTheSameForEver }
+{
+    greater_budget_law();
+    windows_with_more_law();
 }
