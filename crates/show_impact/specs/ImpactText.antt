@@ -15,12 +15,12 @@ use Rattle.show_impact.specs.declared.told.Fate.{Fate}
 use Rattle.show_impact.specs.declared.whole.TheConstants.{COUNTED, COUNTS}
 use Rattle.show_impact.specs.Impacts.{is_same, is_there}
 use Rattle.show_impact.specs.Forms.{told_text}
-use Rattle.show_impact.specs.Told.{key_text, told_name, told_of}
+use Rattle.show_impact.specs.Told.{key_text, told_name, told_of, waits_text}
 
 -- process q of the new configuration, by its row, and a change that it sees, if it sees one
 abbrev pub one_text : Form → Configuration → Configuration → Row → ℕ → Option Change → List ℕ
 one_text form old new row q change =
-    told_text form (process_name new q) (key_text old new row.impact change) (told_of old new row q change)
+    told_text form (process_name new q) (waits_text row.impact) (key_text old new row.impact change) (told_of old new row q change)
 
 -- once for each change that it sees, and where there is none once
 abbrev pub row_text : Form → Configuration → Configuration → Row → ℕ → List Change → List ℕ
@@ -34,7 +34,7 @@ IsProcessLine form old new rows q line =
 -- process p of the old configuration, if it is gone
 abbrev pub IsGoneLine : Form → Configuration → Configuration → ℕ → List ℕ → Type 0
 IsGoneLine form old new p line =
-    line ≡ (if is_there new (process_name old p) then [] else told_text form (process_name old p) [] (told_name Fate.Gone))
+    line ≡ (if is_there new (process_name old p) then [] else told_text form (process_name old p) [] [] (told_name Fate.Gone))
 
 -- no process of either configuration has the name
 abbrev pub is_unknown : Configuration → Configuration → List ℕ → Bool
@@ -42,7 +42,7 @@ is_unknown old new name = not (is_there new name) && not (is_there old name)
 
 -- a name that is that of no process
 abbrev pub name_text : Form → Configuration → Configuration → List ℕ → List ℕ
-name_text form old new name = if is_unknown old new name then told_text form name [] (told_name Fate.Unknown) else []
+name_text form old new name = if is_unknown old new name then told_text form name [] [] (told_name Fate.Unknown) else []
 
 abbrev pub is_changed : Impact → Bool
 is_changed Impact.Program = true
@@ -62,7 +62,7 @@ is_alone Impact.PeriodAlone = true
 is_alone _ = false
 
 abbrev pub is_if_it_waits : Impact → Bool
-is_if_it_waits Impact.IfItWaits = true
+is_if_it_waits (Impact.IfItWaits waiting) = true
 is_if_it_waits _ = false
 
 -- no process of the new configuration has its name

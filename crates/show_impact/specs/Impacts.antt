@@ -1,19 +1,25 @@
 -- What a change of the configuration does to each process.
-use Rattle.std.specs.Prelude.{ℕ, zero, suc, ◌≡◌, ◌≢◌, ◌<◌, ◌≤◌, ◌⊎◌, Bool, true, false, List, [], ◌∷◌, ◌++◌, position, slice_index_or, Option, Some, None, length}
+use Rattle.std.specs.Prelude.{ℕ, zero, suc, ◌≡◌, ◌≢◌, ◌<◌, ◌≤◌, ◌⊎◌, Bool, true, false, List, [], ◌∷◌, ◌++◌, position, slice_get, slice_index_or, Option, Some, None, length}
 use Rattle.std.specs.List.{list_any}
+use Rattle.std.specs.Option.{option_map_or}
 use Rattle.std.specs.Str.{bytes_eq}
 use Rattle.dk_config.specs.Configuration.{Configuration}
-use Rattle.dk_config.specs.Windows.{budget, may_ask, process_name, slots}
+use Rattle.dk_config.specs.Windows.{budget, main_level, may_ask, period, process_name, slots}
 use Rattle.dk_config.specs.Ahead.{IsEnough}
 use Rattle.dk_loader.specs.Workload.{Workload}
 use Rattle.dk_alone.specs.Alone.{KeepsToItself, ReadsNoTick}
 use Rattle.dk_impact.specs.declared.change.Change.{Change}
+use Rattle.dk_cycle.specs.Waiting.{WaitsFirstNot, WaitsSoFar}
 use Rattle.dk_impact.specs.Changes.{AreAll}
+use Rattle.dk_impact.specs.Enough.{AlwaysHasEnough}
 use Rattle.dk_impact.specs.Greater.{GivesNoLess}
-use Rattle.dk_impact.specs.Impact.{SeesTheSame, SeesTheSameButPeriod}
+use Rattle.dk_impact.specs.Impact.{LocksNothing, SeesTheSame, SeesTheSameButPeriod}
+use Rattle.dk_repeat_search.specs.Repeats.{searched_ticks}
+use Rattle.show_impact.specs.declared.waiting.TheConstants.{WAIT_TICKS}
 use Rattle.show_impact.specs.declared.row.Cause.{Cause}
 use Rattle.show_impact.specs.declared.row.Impact.{Impact}
 use Rattle.show_impact.specs.declared.row.Row.{Row}
+use Rattle.show_impact.specs.declared.row.Waiting.{Waiting}
 
 -- the program of the process
 abbrev pub program_of : Workload → ℕ → List ℕ
@@ -58,6 +64,19 @@ pub record IsGivenNoLess (old : Workload) (p : ℕ) (new : Workload) (q : ℕ) :
   pub gives : GivesNoLess old.config p new.config q (program_of old p)
   pub differs : ¬ SeesTheSameButPeriod old.config p new.config q (program_of old p)
 
+-- what is known of whether each of its windows has enough, in every run in which it has this program
+abbrev pub IsWaiting : Workload → ℕ → Waiting → Type 0
+IsWaiting w p Waiting.Always = AlwaysHasEnough w.config p (program_of w p)
+IsWaiting w p (Waiting.NotFrom tick) = WaitsFirstNot w.config w.programs p tick
+IsWaiting w p Waiting.NotWithin = WaitsSoFar w.config w.programs p (searched_ticks WAIT_TICKS)
+IsWaiting w p Waiting.Locks = ¬ LocksNothing (program_of w p)
+
+-- or it is given a greater budget in windows of the same length, each of which has enough
+pub record IsSameAsItWaits (old : Workload) (p : ℕ) (new : Workload) (q : ℕ) : Type 0 where
+  pub given : IsGivenNoLess old p new q
+  pub period : period old.config (main_level old.config p) ≡ period new.config (main_level new.config q)
+  pub enough : AlwaysHasEnough old.config p (program_of old p)
+
 -- or none of these
 pub record IsChanged (old : Workload) (p : ℕ) (new : Workload) (q : ℕ) : Type 0 where
   pub keeps : KeepsInBoth old p new q
@@ -68,7 +87,8 @@ pub record IsChanged (old : Workload) (p : ℕ) (new : Workload) (q : ℕ) : Typ
 abbrev pub IsFound : Workload → ℕ → Workload → ℕ → Impact → Type 0
 IsFound old p new q Impact.Same = IsSame old p new q
 IsFound old p new q Impact.PeriodAlone = IsPeriodAlone old p new q
-IsFound old p new q Impact.IfItWaits = IsGivenNoLess old p new q
+IsFound old p new q Impact.Waits = IsSameAsItWaits old p new q
+IsFound old p new q (Impact.IfItWaits waiting) = IsGivenNoLess old p new q × IsWaiting old p waiting
 IsFound old p new q Impact.Program = KeepsInBoth old p new q × (program_of old p ≢ program_of new q)
 IsFound old p new q Impact.Changed = IsChanged old p new q
 IsFound old p new q (Impact.Open cause) = IsOpen old p new q cause
@@ -77,7 +97,8 @@ IsFound old p new q Impact.New = ⊥
 -- what is listed of what it sees change: all, where it keeps to itself, has the same program and doesn't see the same
 abbrev pub AreChanges : Impact → Workload → ℕ → Workload → ℕ → List Change → Type 0
 AreChanges Impact.PeriodAlone old p new q changes = AreAll old.config p new.config q (program_of old p) changes
-AreChanges Impact.IfItWaits old p new q changes = AreAll old.config p new.config q (program_of old p) changes
+AreChanges Impact.Waits old p new q changes = AreAll old.config p new.config q (program_of old p) changes
+AreChanges (Impact.IfItWaits waiting) old p new q changes = AreAll old.config p new.config q (program_of old p) changes
 AreChanges Impact.Changed old p new q changes = AreAll old.config p new.config q (program_of old p) changes
 AreChanges Impact.Same old p new q changes = changes ≡ []
 AreChanges Impact.Program old p new q changes = changes ≡ []
@@ -121,9 +142,14 @@ AreRows old new zero rows = rows ≡ []
 AreRows old new (suc n) rows =
     (before : List Row) × (row : Row) × AreRows old new n before × IsRow old new n row × (rows ≡ before ++ row ∷ [])
 
+-- it sees the same, or it is given more and waits in each of its windows
 abbrev pub is_same : Impact → Bool
 is_same Impact.Same = true
+is_same Impact.Waits = true
 is_same _ = false
+
+abbrev pub is_same_at : List Row → ℕ → Bool
+is_same_at rows q = option_map_or (λ (row : Row). is_same row.impact) (slice_get rows q) false
 
 abbrev pub is_there : Configuration → List ℕ → Bool
 is_there c name = list_any (λ row. bytes_eq row.name name) c.processes
@@ -131,13 +157,22 @@ is_there c name = list_any (λ row. bytes_eq row.name name) c.processes
 abbrev pub is_named : List (List ℕ) → List ℕ → Bool
 is_named names name = list_any (bytes_eq name) names
 
+-- what is told to be the same is one of these
+abbrev pub IsTheSame : Workload → ℕ → Workload → ℕ → Type 0
+IsTheSame old p new q = IsSame old p new q ⊎ IsSameAsItWaits old p new q
+
 -- process q of the new configuration was there, and is the same
 abbrev pub IsKept : Workload → Workload → ℕ → Type 0
-IsKept old new q = (p : ℕ) × (place_of old.config (process_name new.config q) ≡ Some p) × IsSame old p new q
+IsKept old new q = (p : ℕ) × (place_of old.config (process_name new.config q) ≡ Some p) × IsTheSame old p new q
 
--- The change touches none but the processes of these names: every other one of the new configuration was there and is the
--- same, and every other one of the old is there still.
-pub record TouchesOnly (names : List (List ℕ)) (old new : Workload) : Type 0 where
-  pub kept : (q : ℕ) → q < length new.config.processes → is_named names (process_name new.config q) ≡ false → IsKept old new q
-  pub there : (p : ℕ) → p < length old.config.processes → is_named names (process_name old.config p) ≡ false
-      → is_there new.config (process_name old.config p) ≡ true
+-- By these rows the change touches none but the processes of these names: every other one of the new configuration was there and
+-- is told to be the same, and every other one of the old is there still.
+pub record TouchesOnly (names : List (List ℕ)) (old new : Configuration) (rows : List Row) : Type 0 where
+  pub kept : (q : ℕ) → q < length new.processes → is_named names (process_name new q) ≡ false → is_same_at rows q ≡ true
+  pub there : (p : ℕ) → p < length old.processes → is_named names (process_name old p) ≡ false → is_there new (process_name old p) ≡ true
+
+-- What rows tell to be the same is kept, and each process that sees the same is told so.
+pub record AreSound (old new : Workload) (rows : List Row) : Type 0 where
+  pub kept : (q : ℕ) → q < length new.config.processes → is_same_at rows q ≡ true → IsKept old new q
+  pub told : (p q : ℕ) → q < length new.config.processes → place_of old.config (process_name new.config q) ≡ Some p
+      → IsSame old p new q → is_same_at rows q ≡ true

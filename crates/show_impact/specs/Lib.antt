@@ -1,3 +1,4 @@
+pub mod Loads
 pub mod Impacts
 pub mod Evidence
 pub mod Told

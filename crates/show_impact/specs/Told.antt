@@ -1,5 +1,5 @@
 -- What is told of a process.
-use Rattle.std.specs.Prelude.{ℕ, List, [], ◌++◌, Option, Some, None, option_map, slice_get, codes}
+use Rattle.std.specs.Prelude.{ℕ, List, [], ◌++◌, Option, Some, None, option_map, slice_get, codes, decimal}
 use Rattle.std.specs.Option.{option_map_or}
 use Rattle.dk_config.specs.Configuration.{Configuration}
 use Rattle.dk_config.specs.Windows.{budget, longest_hold, main_level, memory, period, process_name}
@@ -7,6 +7,8 @@ use Rattle.dk_impact.specs.declared.change.Change.{Change}
 use Rattle.show_impact.specs.declared.row.Cause.{Cause}
 use Rattle.show_impact.specs.declared.row.Impact.{Impact}
 use Rattle.show_impact.specs.declared.row.Row.{Row}
+use Rattle.show_impact.specs.declared.row.Waiting.{Waiting}
+use Rattle.show_impact.specs.declared.waiting.TheConstants.{WAIT_TICKS}
 use Rattle.show_impact.specs.declared.told.Fate.{Fate}
 use Rattle.show_impact.specs.declared.told.Told.{Told}
 use Rattle.show_impact.specs.Impacts.{place_of}
@@ -70,7 +72,8 @@ change_text old new Change.Levels = codes "level"
 abbrev pub impact_word : Impact → List ℕ
 impact_word Impact.Same = codes "same"
 impact_word Impact.PeriodAlone = codes "period alone"
-impact_word Impact.IfItWaits = codes "same if it waits"
+impact_word Impact.Waits = codes "same"
+impact_word (Impact.IfItWaits waiting) = codes "same if it waits"
 impact_word Impact.Program = codes "changed"
 impact_word Impact.Changed = codes "changed"
 impact_word (Impact.Open cause) = codes "open"
@@ -85,6 +88,18 @@ abbrev pub reason_word : Impact → List ℕ
 reason_word Impact.Program = codes "program"
 reason_word (Impact.Open cause) = cause_word cause
 reason_word _ = []
+
+abbrev pub waiting_text : Waiting → List ℕ
+waiting_text Waiting.Always = codes "waits in each window"
+waiting_text (Waiting.NotFrom tick) = codes "no wait in the window from " ++ decimal tick
+waiting_text Waiting.NotWithin = codes "not within " ++ decimal WAIT_TICKS
+waiting_text Waiting.Locks = codes "may want for a lock"
+
+-- what is known of its windows, where that is told
+abbrev pub waits_text : Impact → List ℕ
+waits_text Impact.Waits = waiting_text Waiting.Always
+waits_text (Impact.IfItWaits waiting) = waiting_text waiting
+waits_text _ = []
 
 -- and by what, if by anything: a change that it sees, or the reason
 abbrev pub key_text : Configuration → Configuration → Impact → Option Change → List ℕ

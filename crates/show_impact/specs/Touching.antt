@@ -1,13 +1,9 @@
 -- Which process is touched beside those named.
-use Rattle.std.specs.Prelude.{ℕ, ◌&&◌, Bool, false, not, List, slice_get}
-use Rattle.std.specs.Option.{option_map_or}
+use Rattle.std.specs.Prelude.{ℕ, ◌&&◌, Bool, not, List}
 use Rattle.dk_config.specs.Configuration.{Configuration}
 use Rattle.dk_config.specs.Windows.{process_name}
 use Rattle.show_impact.specs.declared.row.Row.{Row}
-use Rattle.show_impact.specs.Impacts.{is_named, is_same, is_there}
-
-abbrev pub is_same_at : List Row → ℕ → Bool
-is_same_at rows q = option_map_or (λ row. is_same row.impact) (slice_get rows q) false
+use Rattle.show_impact.specs.Impacts.{is_named, is_same_at, is_there}
 
 -- process q of the new configuration is neither named nor told to be the same
 abbrev pub is_touched : Configuration → List Row → List (List ℕ) → ℕ → Bool

@@ -2,18 +2,19 @@
 ghost use Rattle.std.specs.Prelude.{ℕ, ◌≡◌, ◌↔◌, ◌<◌, IfOk, IfSome, IsTrue, length, position};
 ghost use Rattle.std.specs.Str.{bytes_eq};
 ghost use Rattle.dk_config.specs.declared.rows.ProcessRow.{ProcessRow as Process};
-ghost use Rattle.dk_config.specs.Windows.{process_name};
+ghost use Rattle.dk_config.specs.Windows.{main_level, period, process_name};
 ghost use Rattle.dk_impact.specs.Changes.{AreAll, Tells};
 ghost use Rattle.dk_impact.specs.Greater.{GivesNoLess};
 ghost use Rattle.dk_impact.specs.Impact.{SeesTheSame, SeesTheSameButPeriod};
 ghost use Rattle.show_impact.specs.Evidence.{EvidenceOutlives, EvidenceStands, WindowsStand};
-ghost use Rattle.show_impact.specs.Impacts.{AreChanges, AreRows, IsCause, IsDone, IsFound, IsGivenNoLess, IsPeriodAlone, IsRow, IsRowThere, IsSame, Keeps, place_of, program_of};
+ghost use Rattle.show_impact.specs.Impacts.{AreChanges, AreRows, IsCause, IsDone, IsFound, IsGivenNoLess, IsPeriodAlone, IsRow, IsRowThere, IsSame, IsSameAsItWaits, IsTheSame, Keeps, place_of, program_of};
 
-use crate::{Cause, CertifiedLoad, Impact, Row};
-use dk_config::{NoMemory, ProcessRow};
+use crate::waiting::waiting_of;
+use crate::{Cause, CertifiedLoad, Impact, Row, Waiting};
+use dk_config::{Config, NoMemory, ProcessRow};
 use dk_impact::{
     Change, all_changes, first_change, first_windows_across_law, first_windows_any_period_law,
-    first_windows_with_more_law, gives_no_less, impact_law, sees_the_same_but_period,
+    first_windows_with_more_law, for_ever_law, gives_no_less, impact_law, sees_the_same_but_period,
 };
 use dk_isa::holds_call;
 use dk_when::done_by;
@@ -86,41 +87,104 @@ fn has_no_less(old: &CertifiedLoad, process: u32, new: &CertifiedLoad, same: u32
     )
 }
 
+fn level_of(config: &Config, process: u32) -> u32
+    ensures { result ≡ main_level config.now process }
+{
+    match config.processes.get(process as usize) {
+        Some(row) => row.level,
+        None => 0,
+    }
+}
+
+fn period_at(config: &Config, level: u32) -> u32
+    ensures { result ≡ period config.now level }
+{
+    match config.levels.get(level as usize) {
+        Some(row) => row.period,
+        None => 0,
+    }
+}
+
+/// The length of the windows of the process's main.
+fn period_of(load: &CertifiedLoad, process: u32) -> u32
+    ensures { result ≡ period load.now.config (main_level load.now.config process) }
+{
+    let config = load.config();
+    period_at(config, level_of(config, process))
+}
+
+/// What becomes of a process that is given no less.
+fn given_impact(
+    alloc: Global,
+    old: &CertifiedLoad,
+    process: u32,
+    new: &CertifiedLoad,
+    same: u32,
+) -> Result<Impact, NoMemory>
+    requires known { process < length old.now.config.processes }
+    requires given { IsGivenNoLess old.now process new.now same }
+    ensures { IfOk result (IsFound old.now process new.now same) }
+{
+    match waiting_of(alloc, old, process)? {
+        Waiting::Always => {
+            if period_of(old, process) == period_of(new, same) {
+                Ok(Impact::Waits)
+            } else {
+                Ok(Impact::IfItWaits(Waiting::Always))
+            }
+        }
+        waiting => Ok(Impact::IfItWaits(waiting)),
+    }
+}
+
 /// What a process with one program sees change, which keeps to itself before and now.
-fn seen_change(old: &CertifiedLoad, process: u32, new: &CertifiedLoad, same: u32) -> Impact
+fn seen_change(
+    alloc: Global,
+    old: &CertifiedLoad,
+    process: u32,
+    new: &CertifiedLoad,
+    same: u32,
+) -> Result<Impact, NoMemory>
+    requires known { process < length old.now.config.processes }
     requires before { Keeps old.now process }
     requires now { Keeps new.now same }
     requires program { program_of old.now process ≡ program_of new.now same }
-    ensures { IsFound old.now process new.now same result }
+    ensures { IfOk result (IsFound old.now process new.now same) }
 {
     if sees_the_same(old, process, new, same) {
-        return Impact::Same;
+        return Ok(Impact::Same);
     }
     if sees_a_period_alone(old, process, new, same) {
-        return Impact::PeriodAlone;
+        return Ok(Impact::PeriodAlone);
     }
     if has_no_less(old, process, new, same) {
-        return Impact::IfItWaits;
+        return given_impact(alloc, old, process, new, same);
     }
-    Impact::Changed
+    Ok(Impact::Changed)
 }
 
 /// What becomes of the process of the old configuration, which is the process `same` of the new.
-fn found(old: &CertifiedLoad, process: u32, new: &CertifiedLoad, same: u32) -> Impact
+fn found(
+    alloc: Global,
+    old: &CertifiedLoad,
+    process: u32,
+    new: &CertifiedLoad,
+    same: u32,
+) -> Result<Impact, NoMemory>
     requires old_known { process < length old.now.config.processes }
     requires new_known { same < length new.now.config.processes }
-    ensures { IsFound old.now process new.now same result }
+    ensures { IfOk result (IsFound old.now process new.now same) }
 {
     if let Some(cause) = cause_of(old, process) {
-        return Impact::Open(cause);
+        return Ok(Impact::Open(cause));
     }
     if let Some(cause) = cause_of(new, same) {
-        return Impact::Open(cause);
+        return Ok(Impact::Open(cause));
     }
     if old.program(process) != new.program(same) {
-        return Impact::Program;
+        return Ok(Impact::Program);
     }
-    seen_change(old, process, new, same)
+    seen_change(alloc, old, process, new, same)
 }
 
 fn row_named(rows: &[ProcessRow], name: &str) -> Option<usize>
@@ -191,7 +255,7 @@ fn changes_of(
     ensures { IfOk result (λ changes. AreChanges impact old.now process new.now same changes.items) }
 {
     match impact {
-        Impact::PeriodAlone | Impact::IfItWaits | Impact::Changed => {
+        Impact::PeriodAlone | Impact::Waits | Impact::IfItWaits(_) | Impact::Changed => {
             changes_between(alloc, old, process, new, same)
         }
         Impact::Same | Impact::Program | Impact::Open(_) | Impact::New => Ok(Vec::new(alloc)),
@@ -210,7 +274,7 @@ fn row_there(
     requires new_known { same < length new.now.config.processes }
     ensures { IfOk result (IsRowThere old.now process new.now same) }
 {
-    let impact = found(old, process, new, same);
+    let impact = found(alloc, old, process, new, same)?;
     let changes = changes_of(alloc, impact, old, process, new, same)?;
     Ok(Row {
         impact,
@@ -292,6 +356,16 @@ fn evidence_outlives(old: &CertifiedLoad, new: &CertifiedLoad)
     first_windows_with_more_law();
 }
 
+/// What is given more in windows of the same length, and waits in each, is the same for ever: its evidence stands too.
+fn evidence_stays(old: &CertifiedLoad, new: &CertifiedLoad)
+    ensures { (p q : ℕ) → IsSameAsItWaits old.now p new.now q → EvidenceStands old.now p new.now q }
+{
+    let _before = old.config();
+    let _after = new.config();
+    for_ever_law();
+    first_windows_with_more_law();
+}
+
 /// What a change of the configuration, and of programs, does to each process of the new configuration, in the order of its
 /// rows. `Err` is want of memory.
 pub fn impacts(
@@ -301,13 +375,14 @@ pub fn impacts(
 ) -> Result<Vec<Row>, NoMemory>
     ensures rows { IfOk result (λ rows. AreRows old.now new.now (length new.now.config.processes) rows.items) }
     // What is told to be the same is: its evidence stands.
-    ensures stands { (p q : ℕ) → IsSame old.now p new.now q → EvidenceStands old.now p new.now q }
+    ensures stands { (p q : ℕ) → IsTheSame old.now p new.now q → EvidenceStands old.now p new.now q }
     // Of what sees a period alone change, it stands window by window.
     ensures windows { (p q : ℕ) → IsPeriodAlone old.now p new.now q → WindowsStand old.now p new.now q }
     // Of what is given no less, it does as long as each window has enough.
     ensures outlives { (p q : ℕ) → IsGivenNoLess old.now p new.now q → EvidenceOutlives old.now p new.now q }
 {
     evidence_stands(old, new);
+    evidence_stays(old, new);
     windows_stand(old, new);
     evidence_outlives(old, new);
     rows_of(alloc, old, new)

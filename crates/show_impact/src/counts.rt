@@ -9,7 +9,7 @@ use dk_config::{Config, ProcessRow, Text, has_process};
 pub(crate) fn is_same(row: &Row) -> bool
     ensures { result ≡ is_same row.now.impact }
 {
-    matches!(row.impact, Impact::Same)
+    matches!(row.impact, Impact::Same | Impact::Waits)
 }
 
 fn is_changed(row: &Row) -> bool
@@ -39,7 +39,7 @@ fn is_alone(row: &Row) -> bool
 fn is_if_it_waits(row: &Row) -> bool
     ensures { result ≡ is_if_it_waits row.now.impact }
 {
-    matches!(row.impact, Impact::IfItWaits)
+    matches!(row.impact, Impact::IfItWaits(_))
 }
 
 pub(crate) fn how_many_alone(rows: &[Row]) -> usize

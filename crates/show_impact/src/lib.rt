@@ -4,16 +4,19 @@
 #![tactic(auto)]
 
 mod comparing;
+mod copies;
 mod counts;
 mod forms;
 mod load;
 mod row;
 mod told;
 mod touching;
+mod waiting;
 mod whole;
 
 pub use comparing::impacts;
 pub use load::CertifiedLoad;
-pub use row::{Cause, Impact, Row};
+pub use row::{Cause, Impact, Row, Waiting};
 pub use touching::touches_only;
+pub use waiting::WAIT_TICKS;
 pub use whole::impact_text;

@@ -1,11 +1,16 @@
 //! A certified configuration with its programs, as a type: whoever has one needs no condition on it.
-ghost use Rattle.std.specs.Prelude.{◌≡◌};
+ghost use Rattle.std.specs.Prelude.{◌≡◌, ◌≤◌, All, IfOk, length};
+ghost use Rattle.dk_config.specs.declared.TheConstants.{MAX_PROGRAM_BYTES};
 ghost use Rattle.dk_config.specs.Checked.{BreaksNoRule, IsAccepted, IsChecked, IsWithinLimits};
+ghost use Rattle.dk_kernel.specs.Booting.{IsLoaded};
 ghost use Rattle.show_impact.specs.Impacts.{program_of};
 
+use crate::copies::config_of;
 use dk_certify::Certified;
-use dk_config::Config;
-use dk_loader::Code;
+use dk_config::{Config, NoMemory};
+use dk_cycle_start::programs_of;
+use dk_loader::{Code, Loaded};
+use std::alloc::Global;
 use std::marker::Model;
 
 /// A certified configuration with the programs of its processes, in the order of the rows. It is seen as the two together.
@@ -17,15 +22,20 @@ pub struct CertifiedLoad {
 
 impl Model for CertifiedLoad {
     ghost use Rattle.dk_loader.specs.Workload.{Workload};
+    ghost use Rattle.show_impact.specs.Loads.{HasPrograms};
 
     ghost Value = { Workload };
 
     ghost view = { λ l. record { config = l.certified; programs = l.programs.items } };
+
+    ghost invariant = { λ l. HasPrograms l.certified l.programs.items };
 }
 
 impl CertifiedLoad {
-    /// Needs no memory.
+    /// There is a program for each process, none of them too long. Needs no memory.
     pub fn of(certified: Certified, programs: Vec<Code>) -> CertifiedLoad
+        requires each { length programs.items ≡ length certified.processes }
+        requires sizes { All (λ code. length code ≤ MAX_PROGRAM_BYTES) programs.items }
         ensures { result ≡ record { config = certified; programs = programs.items } }
     {
         CertifiedLoad {
@@ -53,5 +63,15 @@ impl CertifiedLoad {
             Some(code) => code.bytes(),
             None => &[],
         }
+    }
+
+    /// A copy for a kernel.
+    pub(crate) fn copy(&self, alloc: Global) -> Result<Loaded, NoMemory>
+        ensures same { IfOk result (λ copy. copy ≡ self.now) }
+        ensures loaded { IfOk result IsLoaded }
+    {
+        let config = config_of(alloc, self.config())?;
+        let programs = programs_of(alloc, self.programs.as_slice())?;
+        Ok(Loaded { config, programs })
     }
 }

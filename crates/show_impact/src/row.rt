@@ -12,6 +12,19 @@ pub enum Cause {
     Clock,
 }
 
+/// What is known of whether each window of a process has enough, in every run of the old configuration.
+#[derive(Clone, Copy)]
+pub enum Waiting {
+    /// Each has: its main waits in each, and its program locks nothing.
+    Always,
+    /// Its main doesn't wait in the window that begins at this tick, the first such.
+    NotFrom(u32),
+    /// That its main waits in each isn't found in so many ticks as are searched.
+    NotWithin,
+    /// Its program locks, so it may be refused a lock for want of budget.
+    Locks,
+}
+
 /// What a change does to a process of the new configuration.
 #[derive(Clone, Copy)]
 pub enum Impact {
@@ -19,8 +32,10 @@ pub enum Impact {
     Same,
     /// It sees nothing change but the period of its level: each of its windows is what it was.
     PeriodAlone,
+    /// It is given a greater budget in windows of the same length, of which each has enough: its own time is what it was.
+    Waits,
     /// It is given no less: each of its windows is what it was, as long as each has enough.
-    IfItWaits,
+    IfItWaits(Waiting),
     /// It has another program.
     Program,
     /// It sees something else change.

@@ -1,10 +1,10 @@
 //! What is told of a process.
 ghost use Rattle.std.specs.Prelude.{◌≡◌, ◌++◌, IfOk, option_map, string_bytes};
 ghost use Rattle.dk_config.specs.Windows.{budget, longest_hold, main_level, memory, period};
-ghost use Rattle.show_impact.specs.Told.{cause_word, change_text, fate_word, impact_word, key_text, mutex_name, mutex_told, reason_word, told_name, told_of, told_value, value_of};
+ghost use Rattle.show_impact.specs.Told.{cause_word, change_text, fate_word, impact_word, key_text, mutex_name, mutex_told, reason_word, told_name, told_of, told_value, value_of, waiting_text, waits_text};
 
 use crate::comparing::{name_of, place_of};
-use crate::{Cause, CertifiedLoad, Impact, Row};
+use crate::{Cause, CertifiedLoad, Impact, Row, WAIT_TICKS, Waiting};
 use dk_config::Config;
 use dk_impact::Change;
 use std::alloc::{AllocError, Global};
@@ -204,9 +204,9 @@ fn impact_word(impact: Impact) -> &'static str
     ensures { result.now ≡ impact_word impact }
 {
     match impact {
-        Impact::Same => "same",
+        Impact::Same | Impact::Waits => "same",
         Impact::PeriodAlone => "period alone",
-        Impact::IfItWaits => "same if it waits",
+        Impact::IfItWaits(_) => "same if it waits",
         Impact::Program => "changed",
         Impact::Changed => "changed",
         Impact::Open(_) => "open",
@@ -231,8 +231,34 @@ fn reason_word(impact: Impact) -> &'static str
     match impact {
         Impact::Program => "program",
         Impact::Open(cause) => cause_word(cause),
-        Impact::Same | Impact::PeriodAlone | Impact::IfItWaits | Impact::Changed | Impact::New =>
-            "",
+        Impact::Same
+        | Impact::PeriodAlone
+        | Impact::Waits
+        | Impact::IfItWaits(_)
+        | Impact::Changed
+        | Impact::New => "",
+    }
+}
+
+fn waiting_text(alloc: Global, waiting: Waiting) -> Result<String, AllocError>
+    ensures { IfOk result (λ s. string_bytes s ≡ waiting_text waiting) }
+{
+    match waiting {
+        Waiting::Always => String::from_str(alloc, "waits in each window"),
+        Waiting::NotFrom(tick) => format!(in alloc; "no wait in the window from {tick}"),
+        Waiting::NotWithin => format!(in alloc; "not within {WAIT_TICKS}"),
+        Waiting::Locks => String::from_str(alloc, "may want for a lock"),
+    }
+}
+
+/// What is known of its windows, where that is told.
+pub(crate) fn waits_text(alloc: Global, impact: Impact) -> Result<String, AllocError>
+    ensures { IfOk result (λ s. string_bytes s ≡ waits_text impact) }
+{
+    match impact {
+        Impact::Waits => waiting_text(alloc, Waiting::Always),
+        Impact::IfItWaits(waiting) => waiting_text(alloc, waiting),
+        _ => String::from_str(alloc, ""),
     }
 }
 

@@ -9,7 +9,7 @@ use crate::counts::{
     how_many_new, how_many_open, how_many_same, how_many_sooner, how_many_unknown, is_unknown,
 };
 use crate::forms::{COLUMNS, add_told};
-use crate::told::{Fate, key_text, told_name, told_of};
+use crate::told::{Fate, key_text, told_name, told_of, waits_text};
 use crate::touching::is_there_in;
 use crate::{CertifiedLoad, Row};
 use dk_config::{NoMemory, Text};
@@ -36,12 +36,14 @@ fn add_one(
 ) -> Result<(), AllocError>
     ensures { OnOk result (out.new.items ≡ out.old.items ++ one_text form old.now.config new.now.config row.now process change) }
 {
+    let waits = waits_text(alloc, row.impact)?;
     let key = key_text(alloc, old.config(), new.config(), row.impact, change)?;
     add_told(
         alloc,
         out,
         form,
         name_of(new, process),
+        waits.as_str(),
         key.as_str(),
         told_of(old, new, row, process, change),
     )
@@ -127,7 +129,7 @@ fn add_if_gone(
     if is_there_in(new, name) {
         return Ok(());
     }
-    add_told(alloc, out, form, name, "", told_name(Fate::Gone))
+    add_told(alloc, out, form, name, "", "", told_name(Fate::Gone))
 }
 
 #[tactic(auto, using(show_rows::proofs::Adding::one_more))]
@@ -177,7 +179,15 @@ fn add_if_unknown(
     ensures { OnOk result (out.new.items ≡ out.old.items ++ name_text form old.now.config new.now.config name.now) }
 {
     if is_unknown(old.config(), new.config(), name) {
-        add_told(alloc, out, form, name, "", told_name(Fate::Unknown))
+        add_told(
+            alloc,
+            out,
+            form,
+            name,
+            "",
+            "",
+            told_name(Fate::Unknown),
+        )
     } else {
         Ok(())
     }

@@ -1,0 +1,5 @@
+use Rattle.std.specs.Prelude.{◌≡◌, take}
+use Rattle.show_impact.proofs.copies.mutexes_of.Given as goal
+
+abbrev pub invariant-loop-row : goal.invariant-loop-row
+invariant-loop-row l = l.copies.items ≡ take l.row-index l.rows
