@@ -1,5 +1,5 @@
 -- What two configurations that give a process the same budget, or a greater one, leave the same of its ticks.
-use Rattle.dk_impact.proofs.Names.{ℕ, suc, ◌≡◌, ◌+◌, ◌-◌, ◌<◌, ◌≤◌, ◌⊎◌, inl, inr, Bool, true, false, cond, ◌&&◌, ltb, List, ◌∷◌, Option, Some, refl, sym, ap, ◌∙◌, subst, arith, Configuration, budget, Phase, Work, Choice, Label, Event, Refusal, Entry, label_of, does, has_event, is_of, is_budget_of, is_out_of, Job, rem, phase, body_left, main_id, main_row, the_job, job-charged, quiet_entry, alone, Own, own, booked, ReadsNoBudget, is_for_want, nat_tests}
+use Rattle.dk_impact.proofs.Names.{ℕ, suc, ◌≡◌, ◌-◌, ◌<◌, ◌≤◌, ◌⊎◌, inl, inr, Bool, true, false, cond, ◌&&◌, ltb, List, ◌∷◌, Some, refl, sym, ap, ◌∙◌, subst, arith, Configuration, budget, Phase, Work, Choice, Label, Event, Refusal, Entry, label_of, does, has_event, is_of, Job, rem, phase, body_left, main_id, main_row, the_job, job-charged, quiet_entry, alone, own, booked, ReadsNoBudget, is_for_want, nat_tests}
 use Rattle.dk_impact.proofs.Seen.{Whose, charged, charged-same, left_in}
 
 -- two jobs, of a budget and of another

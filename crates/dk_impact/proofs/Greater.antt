@@ -1,5 +1,5 @@
 -- A process that is given a greater budget, by itself.
-use Rattle.dk_impact.proofs.Names.{ℕ, suc, ◌≡◌, ◌+◌, ◌*◌, ◌%◌, ◌<◌, ◌≤◌, ◌∙◌, inl, inr, true, List, ap, sym, mul-mod_left, arith, subst, take, Configuration, IsChecked, IsAccepted, period, main_level, budget, alone, entries_of, KeepsToItself, budget_period, on, on-is, SeesTheSameButTime, ReadsNoBudget, has_enough, IsSameAcross}
+use Rattle.dk_impact.proofs.Names.{ℕ, suc, ◌≡◌, ◌+◌, ◌*◌, ◌%◌, ◌<◌, ◌≤◌, ◌∙◌, inr, true, List, ap, sym, mul-mod_left, arith, subst, take, Configuration, IsChecked, IsAccepted, period, main_level, budget, alone, entries_of, KeepsToItself, budget_period, on, on-is, SeesTheSameButTime, ReadsNoBudget, has_enough, IsSameAcross}
 use Rattle.dk_impact.proofs.Spent.{start_of, start-is, start-begins}
 use Rattle.dk_impact.proofs.Room.{enough-at}
 use Rattle.dk_impact.proofs.Across.{any-period, plain-alone}

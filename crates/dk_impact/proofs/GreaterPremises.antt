@@ -1,5 +1,5 @@
 -- Without any one of its premises the law of a greater budget is false: runs of one process in two configurations that differ in its budget alone.
-use Rattle.dk_impact.proofs.Names.{ℕ, zero, suc, ◌≡◌, ◌+◌, ◌*◌, ◌≤◌, ◌<◌, inl, inr, ◌⊎◌, Bool, true, false, not, ◌&&◌, List, [], ◌∷◌, length, map, None, refl, ap, sym, ◌∙◌, arith, slice_index_or, list_any, Configuration, period, main_level, budget, IsChecked, IsAccepted, is_user, longest_hold, first_broken, checked, Nop, Jmp, Trap, Entry, does, main_id, world, accepted, entries_of, KeepsToItself, ReadsNoTick, own_window, overruns, program, call_of, earlier-call, shown, renamed, IsSameAcross, SeesTheSameButTime, ReadsNoBudget, is_for_want, nat_tests, GreaterBudgetsHaveNoImpact}
+use Rattle.dk_impact.proofs.Names.{ℕ, zero, suc, ◌≡◌, ◌+◌, ◌*◌, ◌≤◌, ◌<◌, inl, inr, ◌⊎◌, Bool, true, false, not, ◌&&◌, List, [], ◌∷◌, length, map, None, refl, ap, sym, ◌∙◌, arith, list_any, Configuration, period, main_level, budget, IsChecked, IsAccepted, is_user, longest_hold, first_broken, checked, Nop, Jmp, Trap, Entry, does, main_id, world, accepted, entries_of, KeepsToItself, ReadsNoTick, own_window, overruns, program, call_of, earlier-call, shown, renamed, IsSameAcross, SeesTheSameButTime, ReadsNoBudget, is_for_want, nat_tests, GreaterBudgetsHaveNoImpact}
 use Rattle.dk_config.specs.Rules.{all_tests, version_tests, count_tests, range_tests, period_tests, name_tests, again_tests, level_tests, budget_tests, user_tests, slowest_tests}
 use Rattle.dk_impact.proofs.Premises.{frame, at_period, held_for, putter, putter-clock, refusals}
 

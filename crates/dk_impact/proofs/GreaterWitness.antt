@@ -1,5 +1,5 @@
 -- The premises of the laws of a greater budget can be met all at once: a worker of which the budget, the number and the level change, beside another that never waits.
-use Rattle.dk_impact.proofs.Names.{ℕ, zero, suc, ◌≡◌, ◌+◌, ◌*◌, ◌%◌, ◌≤◌, ◌<◌, ◌⊎◌, inl, inr, None, Bool, true, false, not, List, [], ◌∷◌, map, refl, ap, subst, arith, slice_index_or, list_any, Configuration, longest_hold, is_user, first_broken, checked, Jmp, Trap, Entry, stops, accepted, KeepsToItself, ReadsNoTick, ProcessStandsAgain, own_window, program, call_of, GivesNoLess, ReadsNoBudget, MakesNoThread, has_enough, renamed, FirstWindowsTellWithMore, nat_tests}
+use Rattle.dk_impact.proofs.Names.{ℕ, zero, suc, ◌≡◌, ◌+◌, ◌*◌, ◌%◌, ◌≤◌, ◌⊎◌, inl, inr, None, true, false, List, [], ◌∷◌, map, refl, ap, subst, arith, slice_index_or, Configuration, longest_hold, is_user, first_broken, checked, Jmp, Trap, accepted, KeepsToItself, ReadsNoTick, ProcessStandsAgain, own_window, program, call_of, GivesNoLess, ReadsNoBudget, MakesNoThread, has_enough, renamed, FirstWindowsTellWithMore, nat_tests}
 use Rattle.dk_config.specs.Rules.{all_tests, version_tests, count_tests, range_tests, period_tests, name_tests, again_tests, level_tests, budget_tests, user_tests, slowest_tests}
 use Rattle.dk_impact.proofs.Witness.{old, old-passes, less-than, more-than, first-four, goes-on}
 

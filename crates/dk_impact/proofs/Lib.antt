@@ -7,6 +7,7 @@ pub mod Room
 pub mod Across
 pub mod Greater
 pub mod Wants
+pub mod Unreached
 pub mod Joined
 pub mod Windows
 pub mod Told

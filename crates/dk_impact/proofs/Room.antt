@@ -1,5 +1,5 @@
 -- A window in which the main waited or was stopped had room for each of its ticks.
-use Rattle.dk_impact.proofs.Names.{ℕ, zero, suc, ◌≡◌, ◌+◌, ◌-◌, ◌*◌, ◌%◌, ◌<◌, ◌≤◌, ◌⊎◌, inl, inr, Bool, true, false, cond, not, ◌&&◌, ◌||◌, ltb, List, [], ◌∷◌, Option, Some, None, refl, sym, ap, ◌∙◌, subst, arith, cases_Bool, cases_lt, take, count_by, count_by-cons, list_any, Configuration, period, main_level, budget, Phase, Choice, Label, Event, Entry, does, is_budget_of, is_out_of, is_of, is_wait, is_end, stops, Job, rem, phase, main_id, the_job, quiet_entry, World, step_of, alone, choice_alone, step_alone, entries_of, is_of_process, Own, own, booked, after, fresh, Plain, own-begins, alone-works, alone-rests, alone-long, entry-by, on, overruns, any-own, own-overruns, has_enough, is_for_want, nat_tests}
+use Rattle.dk_impact.proofs.Names.{ℕ, zero, suc, ◌≡◌, ◌+◌, ◌-◌, ◌*◌, ◌%◌, ◌<◌, ◌≤◌, ◌⊎◌, inl, inr, Bool, true, false, cond, not, ◌&&◌, ◌||◌, ltb, List, [], ◌∷◌, None, refl, sym, ap, ◌∙◌, subst, arith, cases_Bool, cases_lt, take, count_by, count_by-cons, list_any, Configuration, period, main_level, budget, Phase, Choice, Label, Event, Entry, does, is_budget_of, is_wait, is_end, stops, Job, rem, phase, main_id, quiet_entry, World, step_of, alone, choice_alone, step_alone, entries_of, is_of_process, Own, own, booked, after, fresh, Plain, own-begins, alone-works, alone-rests, alone-long, entry-by, on, overruns, any-own, own-overruns, has_enough, is_for_want, nat_tests}
 use Rattle.dk_impact.proofs.Budgets.{HasRoom, Enough}
 use Rattle.dk_impact.proofs.Spent.{moves-on, leaves, goes-on}
 

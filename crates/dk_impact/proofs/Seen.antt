@@ -1,5 +1,5 @@
 -- What a process sees of a configuration decides what its kernel calls come to.
-use Rattle.dk_impact.proofs.Names.{ℕ, ◌≡◌, ◌-◌, ◌+◌, ◌≤◌, Bool, true, false, cond, not, ◌&&◌, ◌||◌, eqb, leb, ltb, List, [], ◌∷◌, length, map, Option, Some, None, refl, sym, ap, ◌∙◌, subst, filter, sum_by, list_any, Configuration, period, main_level, max_level, slots, budget, longest_hold, may_ask, is_user, FaultKind, Phase, Work, Choice, Label, Event, Refusal, Entry, is_of, is_budget_of, is_out_of, Thread, family, is_main, is_void, is_ended_by, Job, body_left, thread_body_left, Hold, aged, given_back, held_after, held_by, is_held, is_holding, is_innermost, innermost_left, label_of, next_serial, first_refusal, standing_children, least_share, create_refusal, delete_refusal, lock_refusal, slack_refusal, is_running_child, Context, Outcome, KernelCall, Tick, reg, Effect, Reply, Child, answers, creates, done, effect, call_effect, or_refused, Image, Turn, quiet_entry, thread_at, thread_turn, breaks_hold, may_be_last, image_after, work_done, main_id, main_row, the_job, job-charged, family-charged, is_of_process, entries_of, held-quiet, own, Plain, family-alone, row-at, renamed_label, renamed, nat_tests, arith}
+use Rattle.dk_impact.proofs.Names.{ℕ, ◌≡◌, ◌-◌, ◌+◌, ◌≤◌, Bool, true, false, cond, not, ◌&&◌, ◌||◌, eqb, leb, ltb, List, [], ◌∷◌, length, map, Option, Some, None, refl, sym, ap, ◌∙◌, subst, filter, sum_by, list_any, Configuration, period, main_level, max_level, slots, budget, longest_hold, may_ask, is_user, FaultKind, Phase, Choice, Label, Event, Refusal, Entry, is_of, is_budget_of, is_out_of, Thread, family, is_main, is_void, is_ended_by, Job, body_left, thread_body_left, Hold, aged, given_back, held_after, held_by, is_held, is_holding, is_innermost, innermost_left, label_of, next_serial, first_refusal, standing_children, least_share, create_refusal, delete_refusal, lock_refusal, slack_refusal, is_running_child, Context, Outcome, KernelCall, Tick, reg, Effect, Reply, Child, answers, creates, done, effect, call_effect, or_refused, Image, Turn, quiet_entry, thread_at, thread_turn, breaks_hold, may_be_last, image_after, work_done, main_id, main_row, the_job, job-charged, family-charged, is_of_process, entries_of, held-quiet, own, Plain, family-alone, row-at, renamed_label, renamed, nat_tests, arith}
 use Rattle.std.specs.Prelude.{◌*◌, ◌/◌}
 
 -- each mutex that is held is one of these

@@ -1,5 +1,5 @@
 -- A process whose program locks nothing is refused no lock for want of budget.
-use Rattle.dk_impact.proofs.Names.{ℕ, zero, suc, ◌≡◌, ◌+◌, ◌<◌, ◌/◌, ◌%◌, ◌||◌, ◌&&◌, not, inl, inr, Bool, true, false, cond, List, [], ◌∷◌, length, Option, Some, None, refl, sym, ap, ◌∙◌, subst, arith, cases_lt, nat_tests, begins-sum, mod_self, take, slice_index_or, list_any, option_map_or, Configuration, IsChecked, IsAccepted, period, main_level, Phase, Choice, Label, FaultKind, Event, Entry, Refusal, does, is_of, has_event, Thread, label_of, work_done, breaks_hold, held_by, rem, main_id, Context, Outcome, KernelCall, Tick, Image, Turn, World, Effect, Reply, Child, call_effect, creates, done, effect, or_refused, quiet_entry, quiet_step, thread_at, thread_turn, tick_in, step_of, alone, choice_alone, entries_of, is_of_process, KeepsToItself, WindowsAsAlone, own, any-own, own-overruns, entry-by, alone-rests, alone-works, own_window, overruns, window_from, LocksNothing, has_enough, is_for_want, NeverOverrunsWith, AlwaysHasEnough}
+use Rattle.dk_impact.proofs.Names.{ℕ, zero, suc, ◌≡◌, ◌+◌, ◌<◌, ◌/◌, ◌%◌, ◌||◌, ◌&&◌, not, inl, inr, Bool, true, false, cond, List, [], ◌∷◌, length, Option, Some, None, refl, sym, ap, ◌∙◌, subst, arith, cases_lt, nat_tests, begins-sum, mod_self, take, slice_index_or, list_any, option_map_or, Configuration, IsChecked, IsAccepted, period, main_level, Phase, Choice, Label, FaultKind, Event, Entry, Refusal, does, is_of, has_event, Thread, label_of, work_done, breaks_hold, held_by, rem, main_id, Context, Outcome, KernelCall, Tick, Image, World, Effect, call_effect, creates, done, effect, or_refused, quiet_entry, thread_at, thread_turn, tick_in, step_of, alone, choice_alone, is_of_process, KeepsToItself, WindowsAsAlone, own, any-own, own-overruns, entry-by, alone-rests, alone-works, own_window, overruns, window_from, LocksNothing, is_for_want, NeverOverrunsWith, AlwaysHasEnough}
 use Rattle.dk_impact.proofs.Whose.{lock-number, not-done}
 use Rattle.dk_impact.proofs.Across.{code-alone}
 use Rattle.dk_impact.proofs.Seen.{turn_by}

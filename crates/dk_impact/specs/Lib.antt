@@ -4,3 +4,4 @@ pub mod Changes
 pub mod Greater
 pub mod GreaterLaws
 pub mod Enough
+pub mod Unreached

@@ -7,6 +7,7 @@
 
 ghost use Rattle.dk_impact.specs.Enough.{EnoughIsTheSameForEver, LocksNothingHasEnough};
 ghost use Rattle.dk_impact.specs.GreaterLaws.{AloneIsTheSameWithMore, FirstWindowsTellWithMore, GreaterBudgetsHaveNoImpact, WindowsAreTheSameWithMore};
+ghost use Rattle.dk_impact.specs.Unreached.{WhatIsNeverReachedHasNoImpact};
 ghost use Rattle.dk_impact.specs.Laws.{AloneIsTheSameAcross, AloneIsTheSameAtAnyPeriod, ChangesOfOthersHaveNoImpact, ChangesOfPeriodHaveNoImpact, FirstWindowsTellAcross, FirstWindowsTellAtAnyPeriod, WindowsAreTheSameAcross, WindowsAreTheSameAtAnyPeriod};
 
 mod change;
@@ -130,3 +131,9 @@ pub fn for_ever_law()
     greater_budget_law();
     windows_with_more_law();
 }
+
+/// A process that never comes to an instruction that is struck out of its program has the run that it has with it: so what is
+/// told of it without a call that reads the tick is true of it with one that is never reached.
+pub fn unreached_law()
+    ensures { WhatIsNeverReachedHasNoImpact }
+{}

@@ -6,7 +6,7 @@ use Rattle.dk_config.specs.Checked.{IsAccepted, IsChecked}
 use Rattle.dk_loader.specs.Workload.{Workload}
 use Rattle.dk_alone.specs.Alone.{KeepsToItself}
 use Rattle.dk_config.specs.Windows.{main_level, period}
-use Rattle.dk_impact.specs.Enough.{AlwaysHasEnough, EnoughIsTheSameForEver, IsSameForEver}
+use Rattle.dk_impact.specs.Enough.{EnoughIsTheSameForEver, IsSameForEver}
 use Rattle.dk_impact.specs.Greater.{GivesNoLess}
 use Rattle.dk_world.specs.Run.{world}
 use Rattle.dk_impact.specs.GreaterLaws.{FirstWindowsTellWithMore}

@@ -55,7 +55,11 @@ pub(crate) enum Wording {
 fn wording_of(waits: bool, keyed: bool, valued: bool, alone: bool) -> Wording
     ensures { result ≡ wording_of waits keyed valued alone }
 {
-    if waits { Wording::Waiting } else { key_wording(keyed, valued, alone) }
+    if waits {
+        Wording::Waiting
+    } else {
+        key_wording(keyed, valued, alone)
+    }
 }
 
 fn key_wording(keyed: bool, valued: bool, alone: bool) -> Wording
@@ -151,5 +155,12 @@ pub(crate) fn add_told(
         number_cell(told.done_now),
         Word(when),
     ];
-    add_row(alloc, out, form, COLUMNS, sentence(waits, key, when, told), &cells)
+    add_row(
+        alloc,
+        out,
+        form,
+        COLUMNS,
+        sentence(waits, key, when, told),
+        &cells,
+    )
 }

@@ -179,15 +179,7 @@ fn add_if_unknown(
     ensures { OnOk result (out.new.items ≡ out.old.items ++ name_text form old.now.config new.now.config name.now) }
 {
     if is_unknown(old.config(), new.config(), name) {
-        add_told(
-            alloc,
-            out,
-            form,
-            name,
-            "",
-            "",
-            told_name(Fate::Unknown),
-        )
+        add_told(alloc, out, form, name, "", "", told_name(Fate::Unknown))
     } else {
         Ok(())
     }

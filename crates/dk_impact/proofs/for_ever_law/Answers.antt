@@ -1,4 +1,4 @@
-use Rattle.dk_impact.proofs.Names.{◌*◌, ◌≡◌, ◌∙◌, sym, subst, mul-mod_left, period, main_level, KeepsToItself, GivesNoLess}
+use Rattle.dk_impact.proofs.Names.{◌*◌, ◌∙◌, sym, subst, mul-mod_left, period, main_level, KeepsToItself, GivesNoLess}
 use Rattle.dk_impact.proofs.for_ever_law.Goals as goal
 
 pub returns : goal.returns

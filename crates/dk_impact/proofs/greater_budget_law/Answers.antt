@@ -1,4 +1,4 @@
-use Rattle.dk_impact.proofs.Names.{ℕ, ◌≡◌, ◌%◌, ◌*◌, ◌+◌, ◌<◌, ◌∙◌, suc, true, [], ap, sym, subst, take, slice_index_or, mul-mod_left, period, main_level, alone, entries_of, KeepsToItself, IsSameFor, world, has_enough}
+use Rattle.dk_impact.proofs.Names.{◌≡◌, ◌*◌, true, [], sym, subst, slice_index_or, mul-mod_left, period, main_level, alone, KeepsToItself, IsSameFor, world, has_enough}
 use Rattle.dk_impact.proofs.Joined.{joined}
 use Rattle.dk_impact.proofs.Greater.{ends-window}
 use Rattle.dk_impact.proofs.greater_budget_law.Goals as goal

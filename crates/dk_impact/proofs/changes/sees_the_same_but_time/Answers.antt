@@ -1,4 +1,4 @@
-use Rattle.dk_impact.proofs.Names.{Some, None, Option, sym, ◌∙◌, subst, Change, SeesTheSameButTime, TellsOf}
+use Rattle.dk_impact.proofs.Names.{Some, None, sym, ◌∙◌, subst, SeesTheSameButTime, TellsOf}
 use Rattle.dk_impact.proofs.Told.{told-but-time, none-tells}
 use Rattle.dk_impact.proofs.changes.sees_the_same_but_time.Goals as goal
 

@@ -1,4 +1,4 @@
-use Rattle.std.proofs.Common.{◌≡◌, ◌∙◌, ◌<◌, sym, length, arith}
+use Rattle.std.proofs.Common.{◌∙◌, ◌<◌, sym, length, arith}
 use Rattle.show_impact.specs.Touching.{is_lost}
 use Rattle.show_impact.proofs.Others.{one_fails, one_passes}
 use Rattle.show_impact.proofs.touching.loses_none.Goals as goal
