@@ -7,3 +7,4 @@ pub mod First
 pub mod Long
 pub mod Allotted
 pub mod Soon
+pub mod Own

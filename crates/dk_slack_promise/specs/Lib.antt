@@ -3,3 +3,4 @@ pub mod Lent
 pub mod Long
 pub mod Allotted
 pub mod Soon
+pub mod Own

@@ -10,6 +10,7 @@ ghost use Rattle.dk_slack_promise.specs.Lent.{SpareStays, LentFits};
 ghost use Rattle.dk_slack_promise.specs.Long.{LeavesSpare, LendsSpare};
 ghost use Rattle.dk_slack_promise.specs.Allotted.{AllottedFits, AllottedLends};
 ghost use Rattle.dk_slack_promise.specs.Soon.{AllottedByWhen};
+ghost use Rattle.dk_slack_promise.specs.Own.{WishesMet};
 
 /// No tick is idle while anybody has something left or asks for slack.
 #[tactic(auto, using(crate::proofs::Rest::idle_at_rest))]
@@ -61,4 +62,10 @@ pub fn allotted_lends_law()
 /// for the allotments of their processes.
 pub fn allotted_by_when_law()
     ensures { Always AllottedByWhen }
+{}
+
+/// Of what a thread asks for in a window of its process's level, up to the process's allotment, nothing is left where the
+/// window ends.
+pub fn wishes_met_law()
+    ensures { Always WishesMet }
 {}
