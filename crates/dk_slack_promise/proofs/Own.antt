@@ -1,14 +1,16 @@
 -- What a thread asks for in a window, up to the allotment of its process, it has had where the window ends.
-use Rattle.dk_slack_promise.proofs.Names.{ℕ, zero, suc, ◌≡◌, ◌+◌, ◌-◌, ◌%◌, ◌<◌, ◌≤◌, ◌⊎◌, inl, inr, Bool, true, false, List, [], ◌∷◌, length, refl, sym, ap, ◌∙◌, subst, arith, count_by, cases_Bool, cases_lt, nat_tests, Configuration, IsChecked, IsAccepted, main_level, period, window_start, window_start-within, Entry, is_of, stops, window, Has, Thread, threads, family, after_entry, thread_rem, want, threads-fit, steady, steady-fair, chosen, Audited, Always, count_by-cons, window-charged, window-goes-on, past_at}
-use Rattle.std.specs.Prelude.{take}
-use Rattle.dk_trace.specs.Entries.{does, is_wait, main_of, quiet, is_budget_of, is_slack_of}
+use Rattle.dk_slack_promise.proofs.Names.{ℕ, suc, ◌≡◌, ◌+◌, ◌-◌, ◌%◌, ◌<◌, ◌≤◌, ◌⊎◌, inl, inr, Bool, true, false, cond, eqb, Option, Some, None, List, [], ◌∷◌, length, refl, sym, ap, ◌∙◌, subst, arith, count_by, cases_Bool, cases_lt, nat_tests, Configuration, IsChecked, IsAccepted, main_level, period, window_start, window_start-within, Entry, is_of, window, Has, Thread, threads, family, after_entry, thread_rem, want, threads-fit, steady, steady-fair, chosen, Audited, Always, count_by-cons, window-charged, past_at}
+use Rattle.std.specs.Option.{option_map_or}
+use Rattle.std.proofs.lemmas.List.{length-drop}
+use Rattle.dk_trace.specs.Entries.{borrower, is_same, main_of, quiet, is_slack_of}
 use Rattle.dk_trace.specs.Threads.{new_rows, share}
 use Rattle.dk_trace.specs.Jobs.{Job, job, is_closed}
-use Rattle.dk_trace.specs.Slack.{Request, no_request, request, last_request}
-use Rattle.dk_trace.specs.Guarantees.{job_from}
+use Rattle.dk_trace.specs.declared.ThreadId.{ThreadId}
+use Rattle.dk_trace.specs.Slack.{Request, aged, asked_by, last_request}
+use Rattle.dk_trace.specs.Guarantees.{HadShare, job_from}
 use Rattle.dk_trace.proofs.Mains.{main_id, main_row}
 use Rattle.dk_trace.proofs.Rows.{main-has, has-next}
-use Rattle.dk_trace.proofs.RowsFit.{among-threads, ThreadsFit}
+use Rattle.dk_trace.proofs.RowsFit.{among-threads}
 use Rattle.dk_trace.proofs.Entered.{Acts, on_share, on_loan, acts-of}
 use Rattle.dk_trace.proofs.Silent.{wish-wants}
 use Rattle.dk_trace.proofs.Requests.{quiet-want}
@@ -17,11 +19,10 @@ use Rattle.dk_bound.proofs.EventMoves.{event_closes, event_lowers_rem, after-ope
 use Rattle.dk_bound.proofs.TickMoves.{tick_lowers_rem}
 use Rattle.dk_bound.proofs.ByWhen.{goes-on, audited-drop}
 use Rattle.dk_bound.proofs.Bounded.{past_at-later}
-use Rattle.dk_bound.proofs.Received.{past_at-earlier}
+use Rattle.dk_bound.proofs.Received.{past_at-earlier, received}
 use Rattle.dk_slack_promise.specs.Long.{IsOpen, is_lent_to, counted_from}
-use Rattle.dk_slack_promise.specs.Allotted.{IsAllotted, KeepsTo, own_lent}
 use Rattle.dk_slack_promise.specs.Own.{ended_at, IsOwnWindow, WishesMet, OwnAllotted}
-use Rattle.dk_slack_promise.proofs.Ended.{Ended, ended, counted-ended, past-twice}
+use Rattle.dk_slack_promise.proofs.Ended.{ended, past-twice}
 use Rattle.dk_slack_promise.proofs.Allotted.{allotted_lends}
 
 -- a thread of the process and the level with something left or asked for at tick now
@@ -70,18 +71,23 @@ old-open c p e past y checked accepted audited among other main opened =
     let stays = after-open e n y off in
     let moved = event_closes c e past checked accepted audited y among in
     let shut : is_closed c n (e ∷ past) y ≡ is_closed c n (quiet e.label ∷ past) y =
-    subst (λ z. is_closed c n (e ∷ past) z ≡ is_closed c n (quiet e.label ∷ past) y) stays (grind (arith, nat_tests, ap (λ (j : Job). j.closed) moved)) in
-    (y, among, own, opened.1, elim opened.2 [
-      | inl left ↦
-          let a = event_lowers_rem c e past checked accepted audited y among in
-          let b = tick_lowers_rem c e.label past checked accepted audited.0 audited.1.choice y among in
-          inl (omega (arith, left, a, b))
-      | inr wants ↦
-          let wants' : 0 < want c n (e ∷ past) y = subst (λ z. 0 < want c n (e ∷ past) z) stays wants in
-          let same = want-by c n (e ∷ past) (quiet e.label ∷ past) y shut (asked-other c e past y other) in
-          let less = quiet-want c e.label past y in
-          inr (omega (arith, wants', same, less))
-    ])
+    subst (λ z. is_closed c n (e ∷ past) z ≡ is_closed c n (quiet e.label ∷ past) y) stays (grind (arith, nat_tests, ap (λ (j : Job). j.closed) moved)) in (
+      y,
+      among,
+      own,
+      opened.1,
+      elim opened.2 [
+        | inl left ↦
+            let a = event_lowers_rem c e past checked accepted audited y among in
+            let b = tick_lowers_rem c e.label past checked accepted audited.0 audited.1.choice y among in
+            inl (omega (arith, left, a, b))
+        | inr wants ↦
+            let wants' : 0 < want c n (e ∷ past) y = subst (λ z. 0 < want c n (e ∷ past) z) stays wants in
+            let same = want-by c n (e ∷ past) (quiet e.label ∷ past) y shut (asked-other c e past y other) in
+            let less = quiet-want c e.label past y in
+            inr (omega (arith, wants', same, less))
+      ],
+    )
 
 -- so where a process is open after a tick it was open at it
 pub open-back : (c : Configuration) (p : ℕ) (e : Entry) (past : List Entry) (x : Thread) → IsChecked c → IsAccepted c → Audited c (e ∷ past) → p < length c.processes
@@ -158,3 +164,65 @@ wishes_met c past checked accepted audited s p r x w =
           inl (allotted_lends c past checked accepted audited s p r w.known w.fit w.keeps w.begins w.ended
           (λ u from under. inl (asks-opens c past s p r x checked accepted audited w wants u from under)))
     ]
+
+-- what was spent of a request was lent to its process
+aged-spent : (o : Option ℕ) (b : Bool) (r : Request) → (option_map_or (λ amount. record { amount = amount; spent = 0; age = 0 }) o (aged b r)).spent ≤ cond b 1 0 + r.spent
+aged-spent (Some amount) b r = omega arith
+aged-spent None true r = omega arith
+aged-spent None false r = omega arith
+
+slack-lent : (x : ThreadId) (o : Option ThreadId) → cond (option_map_or (is_same x) o false) 1 0 ≤ cond (option_map_or (λ z. eqb z.process x.process) o false) 1 0
+slack-lent x None = omega arith
+slack-lent x (Some z) = grind (arith, nat_tests)
+
+spent-lent : (x : ThreadId) (entries : List Entry) → (last_request x entries).spent ≤ count_by (is_lent_to x.process) entries
+spent-lent x [] = omega arith
+spent-lent x (e ∷ entries) =
+    let rest = spent-lent x entries in
+    let counts = count_by-cons (is_lent_to x.process) e entries in
+    let spends = aged-spent (asked_by x e) (is_slack_of x e) (last_request x entries) in
+    let mine = slack-lent x (borrower e.label) in
+    omega (arith, rest, counts, spends, mine)
+
+-- what a thread that is not closed has asked for last, and wants no more of, it had
+want-met : (c : Configuration) (now : ℕ) (past : List Entry) (x : Thread) → is_closed c now past x ≡ false → want c now past x ≡ 0
+    → (last_request x.id (window c now past x.level)).amount ≤ (last_request x.id (window c now past x.level)).spent
+want-met c now past x stands none = grind (arith, nat_tests)
+
+lent-asked : (c : Configuration) (past : List Entry) (s : ℕ → ℕ) (p r : ℕ) (x : Thread) → IsOwnWindow c past s p r x
+    → let i = main_level c p in let ended = ended_at c past i r in
+    is_closed c r ended x ≡ false → s p ≤ (last_request x.id (window c r ended i)).amount
+    → (s p ≤ counted_from (is_lent_to p) c past i r) ⊎ (want c r ended x ≡ 0) → s p ≤ counted_from (is_lent_to p) c past i r
+lent-asked c past s p r x w stands asks (inl had) = had
+lent-asked c past s p r x w stands asks (inr none) =
+    let i = main_level c p in
+    let ended = ended_at c past i r in
+    let met = subst (λ k. (last_request x.id (window c r ended k)).amount ≤ (last_request x.id (window c r ended k)).spent) w.level (want-met c r ended x stands none) in
+    let spent = subst (λ q. (last_request x.id (window c r ended i)).spent ≤ count_by (is_lent_to q) (window c r ended i)) w.process (spent-lent x.id (window c r ended i)) in
+    omega (arith, met, spent, asks)
+
+-- a thread that is not closed where its window has ended had its share
+share-had : (c : Configuration) (past : List Entry) (x : Thread) (r : ℕ) → (job_from c past x r).closed ≡ false → HadShare c past x r
+    → (job_from c past x r).used ≡ share c (past_at past r) x r
+share-had c past x r stands (inl all) = all
+share-had c past x r stands (inr closed) = absurd (let shut = closed.0 in grind (arith, nat_tests))
+
+pub own_allotted : Always OwnAllotted
+own_allotted c past checked accepted audited s p r x w stands asks =
+    let i = main_level c p in
+    let v = r + period c i in
+    let q = ended_at c past i r in
+    let fine = audited-drop c (length past - v) past audited in
+    let size : length q ≡ v = length-drop (length past - v) past ∙ (let le = w.ended in omega (arith, le)) in
+    let whole : past_at q v ≡ q = past-twice past v v (omega arith) in
+    let begins : r % period c x.level ≡ 0 = subst (λ k. r % period c k ≡ 0) (sym w.level) w.begins in
+    let inside : r + period c x.level ≤ length q = subst (λ k. r + period c k ≤ length q) (sym w.level) (omega (arith, size)) in
+    let had = (received c q checked accepted (steady c q checked accepted fine) fine).0 x r w.among begins inside in
+    let same : job_from c q x r ≡ job c r q x = ap (λ k. job c r (past_at q (r + period c k)) x) w.level ∙ ap (λ z. job c r z x) whole in
+    let outer : job_from c past x r ≡ job c r q x = ap (λ k. job c r (past_at past (r + period c k)) x) w.level in
+    let used = share-had c q x r (ap (λ (j : Job). j.closed) same ∙ stands) had in
+    let start : past_at q r ≡ past_at past r = past-twice past v r (omega arith) in
+    let share_is : (job_from c past x r).used ≡ share c (past_at past r) x r =
+    ap (λ (j : Job). j.used) outer ∙ sym (ap (λ (j : Job). j.used) same) ∙ used ∙ ap (λ z. share c z x r) start in
+    let all = lent-asked c past s p r x w stands asks (wishes_met c past checked accepted audited s p r x w) in
+    omega (arith, share_is, all)

@@ -10,7 +10,7 @@ ghost use Rattle.dk_slack_promise.specs.Lent.{SpareStays, LentFits};
 ghost use Rattle.dk_slack_promise.specs.Long.{LeavesSpare, LendsSpare};
 ghost use Rattle.dk_slack_promise.specs.Allotted.{AllottedFits, AllottedLends};
 ghost use Rattle.dk_slack_promise.specs.Soon.{AllottedByWhen};
-ghost use Rattle.dk_slack_promise.specs.Own.{WishesMet};
+ghost use Rattle.dk_slack_promise.specs.Own.{WishesMet, OwnAllotted};
 
 /// No tick is idle while anybody has something left or asks for slack.
 #[tactic(auto, using(crate::proofs::Rest::idle_at_rest))]
@@ -68,4 +68,10 @@ pub fn allotted_by_when_law()
 /// window ends.
 pub fn wishes_met_law()
     ensures { Always WishesMet }
+{}
+
+/// So a thread that neither waits nor is stopped in a window of its process's level, and that last asks in it for at least the
+/// allotment, has its whole share of the window, and its process the allotment.
+pub fn own_allotted_law()
+    ensures { Always OwnAllotted }
 {}
