@@ -2,3 +2,4 @@ pub mod Alone
 pub mod Sums
 pub mod Planned
 pub mod Enough
+pub mod Together

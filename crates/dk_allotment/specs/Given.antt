@@ -18,10 +18,10 @@ part c xs j q = if nat_le (main_level c q) j then given xs q * (period c j / per
 abbrev pub most_part : ℕ
 most_part = 2 ^ 32 * MAX_SPAN
 
--- the parts of the processes before this one, added up
-pub record SumSoFar (c : Configuration) (xs : List ℕ) (j process sum : ℕ) : Type 0 where
-  pub so_far : sum ≡ sum_from 0 process (part c xs j)
-  pub bounded : sum ≤ process * most_part
+-- the numbers of the processes before this one, none more than most, added up
+pub record SumSoFar (number : ℕ → ℕ) (most process sum : ℕ) : Type 0 where
+  pub so_far : sum ≡ sum_from 0 process number
+  pub bounded : sum ≤ process * most
 
 -- the answer is the first level whose spare the allotments pass, if there is one
 abbrev pub IsOverdrawn : Configuration → List ℕ → Option ℕ → Type 0

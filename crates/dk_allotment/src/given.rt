@@ -1,7 +1,7 @@
 //! Whether allotments are within the spare of each level.
 ghost use Rattle.std.specs.Prelude.{ℕ, ◌≡◌, ◌<◌, ◌≤◌, length};
 ghost use Rattle.dk_config.specs.Certification.{spare};
-ghost use Rattle.dk_config.specs.Checked.{IsAccepted, IsChecked, IsWithinLimits};
+ghost use Rattle.dk_config.specs.Checked.{IsChecked, IsWithinLimits};
 ghost use Rattle.dk_slack_promise.specs.Allotted.{allotted};
 ghost use Rattle.dk_allotment.specs.Given.{IsOverdrawn, given, most_part, part};
 
@@ -10,7 +10,7 @@ use dk_config::Config;
 use dk_plan::windows_in;
 
 /// What the process is allotted in a window of the level.
-fn part_of(config: &Config, allotments: &[u32], level: u32, process: u32) -> u64
+pub(crate) fn part_of(config: &Config, allotments: &[u32], level: u32, process: u32) -> u64
     requires checked { IsChecked config.now }
     requires limits { IsWithinLimits config.now }
     requires one_each { length allotments.now ≡ length config.now.processes }
@@ -45,7 +45,6 @@ pub fn allotted_at(config: &Config, allotments: &[u32], level: u32) -> u64
 pub fn overdrawn_level(config: &Config, allotments: &[u32]) -> Option<u32>
     requires checked { IsChecked config.now }
     requires limits { IsWithinLimits config.now }
-    requires accepted { IsAccepted config.now }
     requires one_each { length allotments.now ≡ length config.now.processes }
     ensures { IsOverdrawn config.now allotments.now result }
 {

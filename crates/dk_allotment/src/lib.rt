@@ -3,12 +3,14 @@
 //! All times are ticks of the simulated processor. No call needs memory. The rules are this project's own.
 #![tactic(auto)]
 
+mod beside;
 mod given;
 mod laws;
 mod limiting;
 mod own;
 mod soon;
 
+pub use beside::{given_slack_by, most_beside};
 pub use given::{allotted_at, overdrawn_level};
 pub use laws::{allotted_in_law, planned_law};
 pub use limiting::limiting_level;

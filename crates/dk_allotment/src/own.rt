@@ -14,15 +14,16 @@ use dk_plan::windows_in;
 pub fn spare_of(config: &Config, level: u32) -> u32
     requires checked { IsChecked config.now }
     requires limits { IsWithinLimits config.now }
-    requires accepted { IsAccepted config.now }
     requires exists { level < length config.now.levels }
     ensures spare { result ≡ spare config.now level }
     ensures few { result ≤ MAX_SPAN }
 {
-    let window = level_row(config, level as usize).period;
+    let window = level_row(config, level as usize).period as u64;
     let demand = demand_of(config, level as usize);
     let blocking = longest_delay(config, level, config.mutexes.as_slice());
-    (window as u64 - demand - blocking as u64) as u32
+    window
+        .saturating_sub(demand)
+        .saturating_sub(blocking as u64) as u32
 }
 
 /// The slack that each window of the slowest level has at least, for whoever goes on asking and stands first.
