@@ -127,6 +127,7 @@ has-names form.Hold p ms (id, (mutex, rest)) = text-given key.Mutex is_name ms (
 has-names form.Release p ms has = tt
 has-names form.Growth p ms has = tt
 has-names form.Spare p ms has = tt
+has-names form.Slack p ms (id, (process, rest)) = text-given key.Process is_name ms (λ d. refl) (given p key.Process _ process)
 has-names form.Always p ms (id, (process, rest)) = text-given key.Process is_name ms (λ d. refl) (given p key.Process _ process)
 has-names form.Run p ms has = tt
 
@@ -143,6 +144,7 @@ has-id form.Hold p ms has = has.0
 has-id form.Release p ms has = has.0
 has-id form.Growth p ms has = has.0
 has-id form.Spare p ms has = has.0
+has-id form.Slack p ms has = has.0
 has-id form.Always p ms has = has.0
 has-id form.Run p ms has = has.0
 

@@ -21,6 +21,7 @@ HasNames (What.Jitter process begins whole) = is_name process ≡ true
 HasNames (What.ChainJitter processes reaction) = AreNames processes
 HasNames (What.Budget process budget) = is_name process ≡ true
 HasNames (What.Hold mutex hold) = is_name mutex ≡ true
+HasNames (What.Slack process each within) = is_name process ≡ true
 HasNames (What.Always process) = is_name process ≡ true
 HasNames _ = Unit {0}
 

@@ -16,8 +16,8 @@ use Rattle.dk_needs.specs.declared.keys.Shape.TheVariants as shape
 -- the sections, in the order in which they are read
 abbrev pub sections : List Section
 sections =
-    section.Deadline ∷ section.Chain ∷ section.Jitter ∷ section.Room ∷ section.Growth ∷ section.Spare ∷ section.Always
-    ∷ section.Run ∷ []
+    section.Deadline ∷ section.Chain ∷ section.Jitter ∷ section.Room ∷ section.Growth ∷ section.Spare ∷ section.Slack
+    ∷ section.Always ∷ section.Run ∷ []
 
 -- the key as it stands in a document
 abbrev pub key_name : Key → List ℕ
@@ -29,11 +29,13 @@ key_name key.Jitter = codes "jitter"
 key_name key.Room = codes "room"
 key_name key.Growth = codes "growth"
 key_name key.Spare = codes "spare"
+key_name key.Slack = codes "slack"
 key_name key.Always = codes "always"
 key_name key.Run = codes "run"
 key_name key.Id = codes "id"
 key_name key.Process = codes "process"
 key_name key.Within = codes "within"
+key_name key.Each = codes "each"
 key_name key.Processes = codes "processes"
 key_name key.Reaction = codes "reaction"
 key_name key.Age = codes "age"
@@ -62,6 +64,7 @@ shape_of key.Process = shape.Name
 shape_of key.Mutex = shape.Name
 shape_of key.Processes = shape.Names
 shape_of key.Within = shape.Number 1 MAX_SPAN
+shape_of key.Each = shape.Number 1 MAX_SPAN
 shape_of key.Budget = shape.Number 1 MAX_SPAN
 shape_of key.Hold = shape.Number 1 MAX_SPAN
 shape_of key.Ticks = shape.Number 1 MAX_SPAN
@@ -87,13 +90,15 @@ section_key section.Jitter = key.Jitter
 section_key section.Room = key.Room
 section_key section.Growth = key.Growth
 section_key section.Spare = key.Spare
+section_key section.Slack = key.Slack
 section_key section.Always = key.Always
 section_key section.Run = key.Run
 
 -- the keys that a document may have beside its version
 abbrev pub top_keys : List Key
 top_keys =
-    key.Tick ∷ key.Deadline ∷ key.Chain ∷ key.Jitter ∷ key.Room ∷ key.Growth ∷ key.Spare ∷ key.Always ∷ key.Run ∷ []
+    key.Tick ∷ key.Deadline ∷ key.Chain ∷ key.Jitter ∷ key.Room ∷ key.Growth ∷ key.Spare ∷ key.Slack ∷ key.Always
+    ∷ key.Run ∷ []
 
 -- the keys that a row must have
 abbrev pub needed_keys : Form → List Key
@@ -108,6 +113,7 @@ needed_keys form.Hold = key.Id ∷ key.Mutex ∷ key.Hold ∷ []
 needed_keys form.Release = key.Id ∷ key.Level ∷ key.Release ∷ []
 needed_keys form.Growth = key.Id ∷ key.Percent ∷ []
 needed_keys form.Spare = key.Id ∷ key.Level ∷ key.Ticks ∷ []
+needed_keys form.Slack = key.Id ∷ key.Process ∷ key.Each ∷ []
 needed_keys form.Always = key.Id ∷ key.Process ∷ key.Waits ∷ []
 needed_keys form.Run = key.Id ∷ []
 
@@ -115,6 +121,7 @@ needed_keys form.Run = key.Id ∷ []
 abbrev pub other_keys : Form → List Key
 other_keys form.Chain = key.Age ∷ []
 other_keys form.Jitter = key.Done ∷ []
+other_keys form.Slack = key.Within ∷ []
 other_keys form.Run = key.Overruns ∷ key.Refused ∷ key.Faults ∷ key.Forever ∷ []
 other_keys _ = []
 
@@ -134,5 +141,6 @@ form_of section.Jitter ms = if is_missing (codes "processes") ms then jitter_of_
 form_of section.Room ms = if is_missing (codes "process") ms then room_of_none ms else form.Budget
 form_of section.Growth ms = form.Growth
 form_of section.Spare ms = form.Spare
+form_of section.Slack ms = form.Slack
 form_of section.Always ms = form.Always
 form_of section.Run ms = form.Run

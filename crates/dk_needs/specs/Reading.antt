@@ -61,6 +61,8 @@ what_of form.DoneJitter ms = jitter_of form.DoneJitter ms
 what_of form.ChainJitter ms = jitter_of form.ChainJitter ms
 what_of form.Growth ms = what.Growth (number_at (codes "percent") 0 ms)
 what_of form.Spare ms = what.Spare (number_at (codes "level") 0 ms) (number_at (codes "ticks") 0 ms)
+what_of form.Slack ms =
+    what.Slack (text_at (codes "process") ms) (number_at (codes "each") 0 ms) (optional_at (codes "within") ms)
 what_of form.Always ms = what.Always (text_at (codes "process") ms)
 what_of form.Run ms =
     what.Run (optional_at (codes "overruns") ms) (optional_at (codes "refused") ms) (optional_at (codes "faults") ms)

@@ -145,6 +145,11 @@ fn what_of(alloc: Global, form: Form, table: &Table) -> Result<What, AllocError>
             level: number_at(table, Key::Level),
             ticks: number_at(table, Key::Ticks),
         }),
+        Form::Slack => Ok(What::Slack {
+            process: text_at(alloc, table, Key::Process)?,
+            each: number_at(table, Key::Each),
+            within: optional_at(table, Key::Within),
+        }),
         Form::Always => Ok(What::Always {
             process: text_at(alloc, table, Key::Process)?,
         }),

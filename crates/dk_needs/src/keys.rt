@@ -28,6 +28,7 @@ pub enum Form {
     Release,
     Growth,
     Spare,
+    Slack,
     Always,
     Run,
 }
@@ -62,6 +63,7 @@ pub(crate) fn sections() -> &'static [Section]
         Section::Room,
         Section::Growth,
         Section::Spare,
+        Section::Slack,
         Section::Always,
         Section::Run,
     ]
@@ -80,11 +82,13 @@ pub fn key_name(key: Key) -> &'static str
         Key::Room => "room",
         Key::Growth => "growth",
         Key::Spare => "spare",
+        Key::Slack => "slack",
         Key::Always => "always",
         Key::Run => "run",
         Key::Id => "id",
         Key::Process => "process",
         Key::Within => "within",
+        Key::Each => "each",
         Key::Processes => "processes",
         Key::Reaction => "reaction",
         Key::Age => "age",
@@ -116,7 +120,7 @@ pub fn shape_of(key: Key) -> Shape
         Key::Id => Shape::Id,
         Key::Process | Key::Mutex => Shape::Name,
         Key::Processes => Shape::Names,
-        Key::Within | Key::Budget | Key::Hold | Key::Ticks => Shape::Number {
+        Key::Within | Key::Each | Key::Budget | Key::Hold | Key::Ticks => Shape::Number {
             least: 1,
             most: MAX_SPAN,
         },
@@ -153,6 +157,7 @@ pub fn section_key(section: Section) -> Key
         Section::Room => Key::Room,
         Section::Growth => Key::Growth,
         Section::Spare => Key::Spare,
+        Section::Slack => Key::Slack,
         Section::Always => Key::Always,
         Section::Run => Key::Run,
     }
@@ -170,6 +175,7 @@ pub fn top_keys() -> &'static [Key]
         Key::Room,
         Key::Growth,
         Key::Spare,
+        Key::Slack,
         Key::Always,
         Key::Run,
     ]
@@ -191,6 +197,7 @@ pub fn needed_keys(form: Form) -> &'static [Key]
         Form::Release => &[Key::Id, Key::Level, Key::Release],
         Form::Growth => &[Key::Id, Key::Percent],
         Form::Spare => &[Key::Id, Key::Level, Key::Ticks],
+        Form::Slack => &[Key::Id, Key::Process, Key::Each],
         Form::Always => &[Key::Id, Key::Process, Key::Waits],
         Form::Run => &[Key::Id],
     }
@@ -203,6 +210,7 @@ pub fn other_keys(form: Form) -> &'static [Key]
     match form {
         Form::Chain => &[Key::Age],
         Form::Jitter => &[Key::Done],
+        Form::Slack => &[Key::Within],
         Form::Run => &[Key::Overruns, Key::Refused, Key::Faults, Key::Forever],
         _ => &[],
     }

@@ -100,6 +100,13 @@ pub enum What {
         level: u32,
         ticks: u32,
     },
+    /// The process, where it goes on asking, has at least `each` ticks of slack in each of its windows, and by the tick
+    /// `within` of its window, where that is there: each 1 to 1,000,000.
+    Slack {
+        process: Text,
+        each: u32,
+        within: Option<u32>,
+    },
     /// The process waits in each of its windows, in every run.
     Always {
         process: Text,

@@ -81,8 +81,8 @@ fn read_table(alloc: Global, table: &Table) -> Result<Needs, NeedsError>
 ///   row of which an earlier one has the name.
 /// - `NoMemory`: want of memory.
 ///
-/// The rows come by section, in the order deadline, chain, jitter, room, growth, spare, always and run, and in a section in
-/// the order of the document: a document of TOML is read as a table, which has no order of its sections.
+/// The rows come by section, in the order deadline, chain, jitter, room, growth, spare, slack, always and run, and in a
+/// section in the order of the document: a document of TOML is read as a table, which has no order of its sections.
 #[tactic(auto, unfolding(crate::specs::Reading::reading))]
 pub fn read_needs(alloc: Global, bytes: &[u8]) -> Result<Needs, NeedsError>
     ensures reading { result ≢ Err NeedsError.NoMemory → result ≡ reading bytes.now }

@@ -27,6 +27,7 @@ pub fn form_of(section: Section, table: &Table) -> Form
         Section::Room => Form::Release,
         Section::Growth => Form::Growth,
         Section::Spare => Form::Spare,
+        Section::Slack => Form::Slack,
         Section::Always => Form::Always,
         Section::Run => Form::Run,
     }

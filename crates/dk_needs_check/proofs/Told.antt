@@ -11,12 +11,14 @@ use Rattle.dk_chain.specs.Chain.{AreDone, IsReaction}
 use Rattle.dk_chain.specs.Least.{IsShortest}
 use Rattle.dk_config.specs.Ahead.{IsEnough}
 use Rattle.dk_when.specs.Earliest.{MayHave}
+use Rattle.dk_allotment.specs.Beside.{IsMostBeside}
+use Rattle.dk_allotment.specs.Given.{given}
 use Rattle.dk_needs_check.specs.declared.row.Answer.{Answer}
 use Rattle.dk_needs_check.specs.declared.row.Answers.{Answers}
 use Rattle.dk_needs_check.specs.declared.row.Bound.{Bound}
 use Rattle.dk_needs_check.specs.declared.row.Measure.{Measure}
-use Rattle.dk_needs_check.specs.Bounds.{IsAtLeast, IsAtMost, Reaches, is_met, is_upper, keeps}
-use Rattle.dk_needs_check.specs.Meaning.{AreOne, HasAge, HasSpare, IfThere, IsAgeBound, IsReactionBound, IsReactionJitter, ReactsWithin, VariesBy, tested_where}
+use Rattle.dk_needs_check.specs.Bounds.{IsAtLeast, IsAtMost, IsAtMostIfAny, IsLeastIfAny, Reaches, Within, is_met, is_upper, keeps}
+use Rattle.dk_needs_check.specs.Meaning.{AreOne, HasAge, HasSlack, HasSpare, IfThere, IsAgeBound, IsReactionBound, IsReactionJitter, ReactsWithin, VariesBy, tested_where}
 
 le-of : (a b : ℕ) → nat_le a b ≡ true → a ≤ b
 le-of a b is = grind (arith, nat_tests)
@@ -47,6 +49,30 @@ reached P (Some most) asked (has, no_greater) = (
   λ met. (most, le-of asked most met, has),
   λ (n, above, so). of-le asked most (let less = not-above most n (λ more. no_greater n more so) in omega (arith, less, above)),
 )
+
+pub at_most_if_any : (P : ℕ → Type 0) (m : Measure) (n : Option ℕ) (asked : ℕ) (b : Bound) → is_upper m ≡ true → IsLeastIfAny P n
+    → b ≡ record { measure = m; number = n; asked = asked } → IsAtMostIfAny P m asked b
+at_most_if_any P m n asked b upper least told =
+    let is : is_met b ≡ keeps true n asked = ap is_met told ∙ ap (λ u. keeps u n asked) upper in
+    let truth = found n least in
+    record {
+      number = n;
+      least = least;
+      told = told;
+      truth = (λ met. truth.0 (sym is ∙ met), λ has. is ∙ truth.1 has);
+    }
+  where
+    found : (o : Option ℕ) → IsLeastIfAny P o → IsTrue (keeps true o asked) ↔ Within P asked
+    found None none = (λ met. absurd (let never : false ≡ true = met in cc), λ (k, within, has). absurd (none k has))
+    found (Some k) one = (
+      λ met. (k, le-of k asked met, one.reached),
+      λ (j, within, has). of-le k asked (let less = one.least j has in omega (arith, less, within)),
+    )
+
+-- the greatest number beside the others is one that none above has the fact of
+pub most_is : (c : Configuration) (xs : List ℕ) (p : ℕ) (most : Option ℕ) → IsMostBeside c (given xs) p most → IsGreatest (HasSlack c xs p) most
+most_is c xs p None none = none
+most_is c xs p (Some most) (reached, greatest) = (reached, λ n above has. let le = greatest n has in omega (arith, le, above))
 
 pub at_least : (P : ℕ → Type 0) (m : Measure) (most : Option ℕ) (asked : ℕ) (b : Bound) → is_upper m ≡ false → IsGreatest P most
     → b ≡ record { measure = m; number = most; asked = asked } → IsAtLeast P m asked b

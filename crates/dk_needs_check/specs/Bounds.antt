@@ -20,6 +20,7 @@ is_upper Measure.Age = true
 is_upper Measure.BeginsJitter = true
 is_upper Measure.DoneJitter = true
 is_upper Measure.ReactionJitter = true
+is_upper Measure.SlackBy = true
 is_upper Measure.Overruns = true
 is_upper Measure.Refused = true
 is_upper Measure.Faults = true
@@ -51,6 +52,9 @@ repeating_verdict _ = Verdict.Open
 
 abbrev pub verdict_of : Answer → Verdict
 verdict_of (Answer.Tested b) = if is_met b then Verdict.Met else Verdict.Missed
+-- what holds under a condition that isn't known is open
+verdict_of (Answer.IfKept b) = if is_met b then Verdict.Open else Verdict.Missed
+verdict_of Answer.NoRight = Verdict.Missed
 verdict_of (Answer.Audited a) = audit_verdict a
 verdict_of (Answer.Waits w) = waiting_verdict w
 verdict_of (Answer.Repeats r) = repeating_verdict r
@@ -69,6 +73,18 @@ pub record IsAtMost (P : ℕ → Type 0) (measure : Measure) (asked : ℕ) (b : 
   pub number : ℕ
   pub least : IsLeast P number
   pub told : b ≡ record { measure = measure; number = Some number; asked = asked }
+  pub truth : IsTrue (is_met b) ↔ Within P asked
+
+-- the fact holds of the answer and of no less number, and where there is no answer, of none at all
+abbrev pub IsLeastIfAny : (ℕ → Type 0) → Option ℕ → Type 0
+IsLeastIfAny P None = (n : ℕ) → P n → ⊥
+IsLeastIfAny P (Some n) = IsLeast P n
+
+-- The least number with the fact is told, if any has it, and the bound is met exactly where a number up to what is asked has it.
+pub record IsAtMostIfAny (P : ℕ → Type 0) (measure : Measure) (asked : ℕ) (b : Bound) : Type 0 where
+  pub number : Option ℕ
+  pub least : IsLeastIfAny P number
+  pub told : b ≡ record { measure = measure; number = number; asked = asked }
   pub truth : IsTrue (is_met b) ↔ Within P asked
 
 -- The greatest number with the fact is told, and the bound is met exactly where a number from what is asked on has it.

@@ -1,11 +1,14 @@
 -- What each need means of a configuration.
-use Rattle.std.specs.Prelude.{ℕ, ◌+◌, Bool, not, ◌||◌, is_some, ◌≤◌, nat_lt, if◌then◌else◌, length, List, [], ◌∷◌, ◌≡◌, position, Option, Some, None}
+use Rattle.std.specs.Prelude.{ℕ, ◌+◌, Bool, true, false, not, ◌||◌, ◌==◌, is_some, ◌≤◌, nat_lt, map, if◌then◌else◌, length, List, [], ◌∷◌, ◌≡◌, position, Option, Some, None}
+use Rattle.std.specs.List.{range_with_len}
+use Rattle.std.specs.Option.{option_map_or}
 use Rattle.std.specs.Str.{bytes_eq}
 use Rattle.dk_config.specs.Configuration.{Configuration}
 use Rattle.dk_config.specs.Mutex.{Mutex}
 use Rattle.dk_config.specs.Ahead.{IsEnough}
 use Rattle.dk_config.specs.Certification.{spare}
-use Rattle.dk_config.specs.Windows.{budget}
+use Rattle.dk_config.specs.Sums.{greatest}
+use Rattle.dk_config.specs.Windows.{budget, main_level, may_ask}
 use Rattle.dk_config_report.specs.Pages.{IsLeast}
 use Rattle.dk_when.specs.Earliest.{MayHave}
 use Rattle.dk_plan.specs.Budget.{with_budget}
@@ -15,13 +18,18 @@ use Rattle.dk_chain.specs.Age.{IsAge}
 use Rattle.dk_chain.specs.Chain.{AreDone, IsReaction}
 use Rattle.dk_chain.specs.Least.{IsShortest}
 use Rattle.dk_chain_report.specs.Finding.{process_named, processes_named}
+use Rattle.dk_slack_promise.specs.Allotted.{IsAllotted}
+use Rattle.dk_allotment.specs.Beside.{with_own}
+use Rattle.dk_allotment.specs.Given.{given}
+use Rattle.dk_allotment.specs.Soon.{IsEnoughSlack}
+use Rattle.dk_needs.specs.declared.needs.Need.{Need}
 use Rattle.dk_needs.specs.declared.needs.What.{What}
 use Rattle.dk_needs_check.specs.declared.row.Answer.{Answer}
 use Rattle.dk_needs_check.specs.declared.row.Answers.{Answers}
 use Rattle.dk_needs_check.specs.declared.row.Bound.{Bound}
 use Rattle.dk_needs_check.specs.declared.row.Measure.{Measure}
 use Rattle.dk_needs_check.specs.declared.row.Reason.{Reason}
-use Rattle.dk_needs_check.specs.Bounds.{IsAtLeast, IsAtMost}
+use Rattle.dk_needs_check.specs.Bounds.{IsAtLeast, IsAtMost, IsAtMostIfAny}
 
 abbrev pub mutex_named : Configuration → List ℕ → Option ℕ
 mutex_named c name = position (λ (row : Mutex). bytes_eq row.name name) c.mutexes
@@ -67,6 +75,26 @@ HasGrowth c n = Stands (grown c n)
 abbrev pub HasSpare : Configuration → ℕ → ℕ → Type 0
 HasSpare c j n = n ≤ spare c j
 
+-- the slack in each of its windows that a need asks for process p
+abbrev pub slack_asked : Configuration → ℕ → What → ℕ
+slack_asked c p (What.Slack name each within) = if option_map_or (λ q. q == p) (process_named c name) false then each else 0
+slack_asked c p _ = 0
+
+abbrev pub most_asked : Configuration → List Need → ℕ → ℕ
+most_asked c needs p = greatest (map (λ (need : Need). slack_asked c p need.what) needs)
+
+-- The allotments that needs ask for: of each process the most that one of them does.
+abbrev pub asked_allotments : Configuration → List Need → List ℕ
+asked_allotments c needs = map (most_asked c needs) (range_with_len 0 (length c.processes))
+
+-- process p can be allotted so many ticks of slack, where the others have these allotments
+abbrev pub HasSlack : Configuration → List ℕ → ℕ → ℕ → Type 0
+HasSlack c xs p n = IsAllotted c (with_own (given xs) p n)
+
+-- these allotments hold together, and so many ticks of its window are enough for that of p
+abbrev pub HasSlackBy : Configuration → List ℕ → ℕ → ℕ → Type 0
+HasSlackBy c xs p n = IsAllotted c (given xs) × IsEnoughSlack c (given xs) (main_level c p) n
+
 abbrev pub IsReactionBound : Configuration → ℕ → List ℕ → ℕ → Bound → Type 0
 IsReactionBound c first rest within b =
     (done : ℕ → ℕ) → AreDone c done → IsAtMost (IsReaction c done (first ∷ rest)) Measure.Reaction within b
@@ -88,6 +116,15 @@ tested_where measure number (Some asked) = Some (Answer.Tested (record { measure
 abbrev pub IfThere : (ℕ → Bound → Type 0) → Option ℕ → Option Answer → Type 0
 IfThere IsBound None answer = answer ≡ None
 IfThere IsBound (Some n) answer = (b : Bound) × IsBound n b × (answer ≡ Some (Answer.Tested b))
+
+-- the bound as far as each process keeps to its slack
+abbrev pub IsIfKept : (Bound → Type 0) → Option Answer → Type 0
+IsIfKept IsBound answer = (b : Bound) × IsBound b × (answer ≡ Some (Answer.IfKept b))
+
+-- the same of what is asked for, if anything is
+abbrev pub IsIfKeptWhere : (ℕ → Bound → Type 0) → Option ℕ → Option Answer → Type 0
+IsIfKeptWhere IsBound None answer = answer ≡ None
+IsIfKeptWhere IsBound (Some asked) answer = IsIfKept (IsBound asked) answer
 
 -- one answer, and no second
 abbrev pub AreOne : (Option Answer → Type 0) → Answers → Type 0
@@ -117,6 +154,18 @@ AreOfChainJitter c asked (Some []) a = AreNone a
 AreOfChainJitter c asked (Some (first ∷ rest)) a =
     IfThere (IsReactionJitter c first rest) asked a.first × (a.second ≡ None)
 
+-- How much slack a process can be allotted, and by when it has it, as far as that is asked for, where each process keeps to these
+-- allotments; or that it may not ask for any.
+abbrev pub AreOfRight : Configuration → List ℕ → ℕ → ℕ → Option ℕ → Bool → Answers → Type 0
+AreOfRight c xs p each within false a = (a.first ≡ Some Answer.NoRight) × (a.second ≡ None)
+AreOfRight c xs p each within true a =
+    IsIfKept (IsAtLeast (HasSlack c xs p) Measure.Slack each) a.first
+    × IsIfKeptWhere (IsAtMostIfAny (HasSlackBy c xs p) Measure.SlackBy) within a.second
+
+abbrev pub AreOfSlack : Configuration → List ℕ → ℕ → Option ℕ → Option ℕ → Answers → Type 0
+AreOfSlack c xs each within None a = AreNone a
+AreOfSlack c xs each within (Some p) a = AreOfRight c xs p each within (may_ask c p) a
+
 -- of a run a ledger is asked for, unless that it repeats is all that is asked
 abbrev pub asks_ledger : Option ℕ → Option ℕ → Option ℕ → Bool → Bool
 asks_ledger overruns refused faults forever = ((not forever || is_some overruns) || is_some refused) || is_some faults
@@ -130,21 +179,22 @@ abbrev pub AreOfRun : Option ℕ → Option ℕ → Option ℕ → Bool → Answ
 AreOfRun overruns refused faults forever a =
     (a.first ≡ open_where (asks_ledger overruns refused faults forever) Reason.NoLedger) × (a.second ≡ open_where forever Reason.NotTested)
 
--- what is told of a need
-abbrev pub AreAnswers : Configuration → What → Answers → Type 0
-AreAnswers c (What.Deadline name within) a =
+-- what is told of a need, where needs ask for these allotments
+abbrev pub AreAnswers : Configuration → List ℕ → What → Answers → Type 0
+AreAnswers c xs (What.Deadline name within) a =
     AreOne (IfThere (λ p. IsAtMost (IsDone c p) Measure.Done within) (process_named c name)) a
-AreAnswers c (What.Chain names reaction age) a = AreOfChain c reaction age (processes_named c names) a
-AreAnswers c (What.Jitter name begins whole) a = AreOfJitter c begins whole (process_named c name) a
-AreAnswers c (What.ChainJitter names within) a = AreOfChainJitter c (Some within) (processes_named c names) a
-AreAnswers c (What.Budget name wanted) a =
+AreAnswers c xs (What.Chain names reaction age) a = AreOfChain c reaction age (processes_named c names) a
+AreAnswers c xs (What.Jitter name begins whole) a = AreOfJitter c begins whole (process_named c name) a
+AreAnswers c xs (What.ChainJitter names within) a = AreOfChainJitter c (Some within) (processes_named c names) a
+AreAnswers c xs (What.Budget name wanted) a =
     AreOne (IfThere (λ p. IsAtLeast (HasBudget c p) Measure.Budget wanted) (process_named c name)) a
-AreAnswers c (What.Hold name wanted) a =
+AreAnswers c xs (What.Hold name wanted) a =
     AreOne (IfThere (λ m. IsAtLeast (HasHold c m) Measure.Hold wanted) (mutex_named c name)) a
-AreAnswers c (What.Release level wanted) a =
+AreAnswers c xs (What.Release level wanted) a =
     AreOne (IfThere (λ j. IsAtLeast (HasRelease c j) Measure.Release wanted) (level_numbered c level)) a
-AreAnswers c (What.Growth percent) a = AreOne (IfThere (IsAtLeast (HasGrowth c) Measure.Growth) (Some percent)) a
-AreAnswers c (What.Spare level ticks) a =
+AreAnswers c xs (What.Growth percent) a = AreOne (IfThere (IsAtLeast (HasGrowth c) Measure.Growth) (Some percent)) a
+AreAnswers c xs (What.Spare level ticks) a =
     AreOne (IfThere (λ j. IsAtLeast (HasSpare c j) Measure.Spare ticks) (level_numbered c level)) a
-AreAnswers c (What.Always name) a = AreOne (λ answer. answer ≡ Some (Answer.Open Reason.NotTested)) a
-AreAnswers c (What.Run overruns refused faults forever) a = AreOfRun overruns refused faults forever a
+AreAnswers c xs (What.Slack name each within) a = AreOfSlack c xs each within (process_named c name) a
+AreAnswers c xs (What.Always name) a = AreOne (λ answer. answer ≡ Some (Answer.Open Reason.NotTested)) a
+AreAnswers c xs (What.Run overruns refused faults forever) a = AreOfRun overruns refused faults forever a

@@ -27,6 +27,7 @@ unknown_in c i (What.Budget process budget) = unless (is_known c process) i Key.
 unknown_in c i (What.Hold mutex hold) = unless (is_some (mutex_named c mutex)) i Key.Mutex 0
 unknown_in c i (What.Release level release) = unless (is_some (level_numbered c level)) i Key.Level 0
 unknown_in c i (What.Spare level ticks) = unless (is_some (level_numbered c level)) i Key.Level 0
+unknown_in c i (What.Slack process each within) = unless (is_known c process) i Key.Process 0
 unknown_in c i (What.Always process) = unless (is_known c process) i Key.Process 0
 unknown_in c i _ = []
 

@@ -6,13 +6,14 @@ ghost use Rattle.dk_chain_report.specs.Finding.{process_named, processes_named};
 ghost use Rattle.dk_needs.specs.Fit.{HasNames};
 ghost use Rattle.dk_needs_check.specs.declared.row.Measure.{Measure};
 ghost use Rattle.dk_needs_check.specs.Bounds.{IsAtLeast, IsAtMost};
-ghost use Rattle.dk_needs_check.specs.Meaning.{AreAnswers, AreOfChain, AreOfChainJitter, AreOfJitter, AreOfRun, HasBudget, HasHold, HasRelease, HasSpare, IfThere, IsDone, asks_ledger, level_numbered, mutex_named, open_where};
+ghost use Rattle.dk_needs_check.specs.Meaning.{AreAnswers, AreOfChain, AreOfChainJitter, AreOfJitter, AreOfRun, AreOfSlack, HasBudget, HasHold, HasRelease, HasSpare, IfThere, IsDone, asks_ledger, level_numbered, mutex_named, open_where};
 
 use crate::bounds::{
     budget_bound, chain_bounds, chain_jitter_bounds, done_bound, growth_bound, hold_bound,
     jitter_bounds, release_bound, spare_bound,
 };
 use crate::finding::{level_numbered, mutex_named, process_named};
+use crate::slack::slack_answers;
 use crate::{Answer, Answers, Reason};
 use dk_chain_report::find_chain;
 use dk_config::{Config, NoMemory, Text};
@@ -188,13 +189,32 @@ fn chain_jitter(
     }
 }
 
-/// What is told of a need.
-pub(crate) fn answers_of(alloc: Global, config: &Config, what: &What) -> Result<Answers, NoMemory>
+/// Of a process: how much slack it can be allotted, and by when it has it, as far as that is asked for.
+fn slack(config: &Config, allotments: &[u32], name: &str, each: u32, within: Option<u32>) -> Answers
+    requires checked { IsChecked config.now }
+    requires limits { IsWithinLimits config.now }
+    requires one_each { length allotments.now ≡ length config.now.processes }
+    ensures { AreOfSlack config.now allotments.now each within (process_named config.now name.now) result }
+{
+    match process_named(config, name) {
+        Some(process) => slack_answers(config, allotments, process, each, within),
+        None => one(None),
+    }
+}
+
+/// What is told of a need, where needs ask for these allotments of slack.
+pub(crate) fn answers_of(
+    alloc: Global,
+    config: &Config,
+    allotments: &[u32],
+    what: &What,
+) -> Result<Answers, NoMemory>
     requires unbroken { BreaksNoRule config.now }
     requires checked { IsChecked config.now }
     requires limits { IsWithinLimits config.now }
+    requires one_each { length allotments.now ≡ length config.now.processes }
     requires fit { HasNames what.now }
-    ensures { IfOk result (AreAnswers config.now what.now) }
+    ensures { IfOk result (AreAnswers config.now allotments.now what.now) }
 {
     match what {
         What::Deadline { process, within } => {
@@ -230,6 +250,11 @@ pub(crate) fn answers_of(alloc: Global, config: &Config, what: &What) -> Result<
             Ok(one(Some(Answer::Tested(growth_bound(config, *percent)))))
         }
         What::Spare { level, ticks } => Ok(one(spare(config, *level, *ticks))),
+        What::Slack {
+            process,
+            each,
+            within,
+        } => Ok(slack(config, allotments, process.as_str(), *each, *within)),
         What::Always { .. } => Ok(one(Some(Answer::Open(Reason::NotTested)))),
         What::Run {
             overruns,

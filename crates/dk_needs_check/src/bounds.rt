@@ -17,7 +17,7 @@ use dk_margins::{greatest_hold, greatest_release};
 use dk_plan::greatest_budget;
 use dk_when::{begins_by, begins_from, done_by, done_from};
 
-fn bound(measure: Measure, number: Option<u32>, asked: u32) -> Bound
+pub(crate) fn bound(measure: Measure, number: Option<u32>, asked: u32) -> Bound
     ensures { result ≡ record { measure = measure; number = number; asked = asked } }
 {
     Bound {

@@ -4,6 +4,7 @@ ghost use Rattle.dk_config.specs.Checked.{BreaksNoRule, IsChecked, IsWithinLimit
 ghost use Rattle.dk_needs.specs.Fit.{IsFit};
 ghost use Rattle.dk_needs_check.specs.Unknown.{IsCheck};
 
+use crate::asking::asked_allotments;
 use crate::deciding::decide;
 use crate::unknown::{Checking, unknown_of};
 use dk_config::{Config, NoMemory};
@@ -26,5 +27,7 @@ pub fn check_needs(alloc: Global, config: &Config, needs: &Needs) -> Result<Chec
     if !found.is_empty() {
         return Ok(Checking::Unknown(found));
     }
-    Ok(Checking::Decided(decide(alloc, config, &needs.rows)?))
+    let allotments = asked_allotments(alloc, config, &needs.rows)?;
+    let rows = decide(alloc, config, allotments.as_slice(), &needs.rows)?;
+    Ok(Checking::Decided(rows))
 }

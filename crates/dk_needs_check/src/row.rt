@@ -25,6 +25,10 @@ pub enum Measure {
     Growth,
     /// So many ticks of each window of a level are left over.
     Spare,
+    /// So many ticks of slack a process can be allotted in each of its windows, beside what needs ask for the others.
+    Slack,
+    /// After so many ticks of each window a process has had the slack that needs ask for it.
+    SlackBy,
     /// In so many windows of a ledger a thread overran.
     Overruns,
     /// So many calls of a ledger were refused.
@@ -34,7 +38,7 @@ pub enum Measure {
 }
 
 /// A number of the configuration or of a ledger, and what is asked of it: at least so much of `Budget`, `Hold`, `Release`,
-/// `Growth` and `Spare`, and of the others at most so much.
+/// `Growth`, `Spare` and `Slack`, and of the others at most so much.
 #[derive(Clone, Copy)]
 pub struct Bound {
     pub measure: Measure,
@@ -95,6 +99,10 @@ pub enum Reason {
 #[derive(Clone, Copy)]
 pub enum Answer {
     Tested(Bound),
+    /// The same, as far as each process keeps to the slack that needs ask for it, which isn't known.
+    IfKept(Bound),
+    /// The process may not ask for slack.
+    NoRight,
     Audited(Audit),
     Waits(Waiting),
     Repeats(Repeating),
@@ -102,7 +110,7 @@ pub enum Answer {
 }
 
 /// What is told of a need: of a chain its reaction time and the age of its data, of a process's jitter that of its begin
-/// and of its end, of a run what a ledger says and whether it
+/// and of its end, of a process's slack how much it is and by when it is had, of a run what a ledger says and whether it
 /// repeats, as far as they are asked for; of any other one answer. There is none where the configuration hasn't got what is named.
 #[derive(Clone, Copy)]
 pub struct Answers {

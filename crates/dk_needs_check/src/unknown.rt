@@ -129,6 +129,7 @@ fn add_unknown(
         }
         What::Release { level, .. } => add_level(found, config, need, *level),
         What::Spare { level, .. } => add_level(found, config, need, *level),
+        What::Slack { process, .. } => add_process(found, config, need, process.as_str()),
         What::Always { process } => add_process(found, config, need, process.as_str()),
         _ => Ok(()),
     }

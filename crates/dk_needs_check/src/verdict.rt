@@ -11,6 +11,7 @@ pub fn is_upper(measure: Measure) -> bool
     match measure {
         Measure::Done | Measure::Reaction | Measure::Age => true,
         Measure::BeginsJitter | Measure::DoneJitter | Measure::ReactionJitter => true,
+        Measure::SlackBy => true,
         Measure::Overruns | Measure::Refused | Measure::Faults => true,
         _ => false,
     }
@@ -26,7 +27,8 @@ fn keeps(upper: bool, number: Option<u32>, asked: u32) -> bool
     }
 }
 
-fn is_met(bound: Bound) -> bool
+/// Whether the number is within what is asked of it.
+pub fn is_met(bound: Bound) -> bool
     ensures { result ≡ is_met bound }
 {
     keeps(is_upper(bound.measure), bound.number, bound.asked)
@@ -73,6 +75,14 @@ pub fn verdict_of(answer: Answer) -> Verdict
                 Verdict::Missed
             }
         }
+        Answer::IfKept(bound) => {
+            if is_met(bound) {
+                Verdict::Open
+            } else {
+                Verdict::Missed
+            }
+        }
+        Answer::NoRight => Verdict::Missed,
         Answer::Audited(audit) => audit_verdict(audit),
         Answer::Waits(waiting) => waiting_verdict(waiting),
         Answer::Repeats(repeating) => repeating_verdict(repeating),

@@ -21,12 +21,12 @@ use Rattle.dk_needs_check.specs.declared.row.Measure.{Measure}
 use Rattle.dk_needs_check.specs.declared.row.Reason.{Reason}
 use Rattle.dk_needs_check.specs.declared.row.Repeating.{Repeating}
 use Rattle.dk_needs_check.specs.declared.row.Waiting.{Waiting}
-use Rattle.dk_needs_check.specs.Bounds.{is_upper}
+use Rattle.dk_needs_check.specs.Bounds.{is_met, is_upper}
 use Rattle.dk_needs_text.specs.Csv.{measure_field, measure_word}
 use Rattle.dk_needs_text.specs.Escapes.{NeedNoEscapes, NeedsNoEscape, is_unmarked}
 use Rattle.dk_needs_text.specs.Junit.{behind_space}
 use Rattle.dk_needs_text.specs.Names.{AreNamed, name_at}
-use Rattle.dk_needs_text.specs.Text.{answer_text, audit_text, before_space, between_text, bound_text, is_time, measure_words, number_text, reason_words, repeating_text, subject_of, time_text, times_of, times_text, unit_word, waiting_text}
+use Rattle.dk_needs_text.specs.Text.{answer_text, audit_text, before_space, between_text, bound_text, condition_text, is_time, measure_words, number_text, reason_words, repeating_text, subject_of, time_text, times_of, times_text, unit_word, waiting_text}
 
 both : (s t : List ℕ) → NeedsNoEscape s → NeedsNoEscape t → NeedsNoEscape (s ++ t)
 both [] t one two = two
@@ -101,6 +101,8 @@ measure_plain Measure.Hold = refl
 measure_plain Measure.Release = refl
 measure_plain Measure.Growth = refl
 measure_plain Measure.Spare = refl
+measure_plain Measure.Slack = refl
+measure_plain Measure.SlackBy = refl
 measure_plain Measure.Overruns = refl
 measure_plain Measure.Refused = refl
 measure_plain Measure.Faults = refl
@@ -147,6 +149,7 @@ subject_plain (What.Hold name hold) is = name_plain name is
 subject_plain (What.Release level release) is = both (codes "level ") (decimal level) refl (digits_plain level)
 subject_plain (What.Growth percent) is = refl
 subject_plain (What.Spare level ticks) is = both (codes "level ") (decimal level) refl (digits_plain level)
+subject_plain (What.Slack name each within) is = name_plain name is
 subject_plain (What.Always name) is = name_plain name is
 subject_plain (What.Run overruns refused faults forever) is = refl
 
@@ -192,6 +195,13 @@ answer_plain : (names : List (List ℕ)) (tick : Option Tick) (w : What) (a : An
 answer_plain names tick w (Answer.Tested b) are is =
     both (before_space (subject_of w)) (bound_text b ++ times_text tick b) (before_plain (subject_of w) (subject_plain w is))
     (both (bound_text b) (times_text tick b) (bound_plain b) (all_times_plain tick b))
+answer_plain names tick w (Answer.IfKept b) are is =
+    both (before_space (subject_of w) ++ (bound_text b ++ times_text tick b)) (condition_text b)
+    (both (before_space (subject_of w)) (bound_text b ++ times_text tick b) (before_plain (subject_of w) (subject_plain w is))
+    (both (bound_text b) (times_text tick b) (bound_plain b) (all_times_plain tick b)))
+    (either_plain (is_met b) (codes " if all keep to their slack") [] refl refl)
+answer_plain names tick w Answer.NoRight are is =
+    both (before_space (subject_of w)) (codes "may not ask for slack") (before_plain (subject_of w) (subject_plain w is)) refl
 answer_plain names tick w (Answer.Audited a) are is = audit_plain a
 answer_plain names tick w (Answer.Waits x) are is =
     both (before_space (subject_of w)) (waiting_text x) (before_plain (subject_of w) (subject_plain w is)) (waiting_plain x)
@@ -207,6 +217,7 @@ section_plain Section.Jitter = refl
 section_plain Section.Room = refl
 section_plain Section.Growth = refl
 section_plain Section.Spare = refl
+section_plain Section.Slack = refl
 section_plain Section.Always = refl
 section_plain Section.Run = refl
 
@@ -222,12 +233,16 @@ tested_plain Measure.Hold = refl
 tested_plain Measure.Release = refl
 tested_plain Measure.Growth = refl
 tested_plain Measure.Spare = refl
+tested_plain Measure.Slack = refl
+tested_plain Measure.SlackBy = refl
 tested_plain Measure.Overruns = refl
 tested_plain Measure.Refused = refl
 tested_plain Measure.Faults = refl
 
 field_plain : (a : Answer) → NeedsNoEscape (behind_space (measure_field a))
 field_plain (Answer.Tested b) = tested_plain b.measure
+field_plain (Answer.IfKept b) = tested_plain b.measure
+field_plain Answer.NoRight = refl
 field_plain (Answer.Audited a) = refl
 field_plain (Answer.Waits w) = refl
 field_plain (Answer.Repeats r) = refl

@@ -1,16 +1,17 @@
 -- The rows as a table.
-use Rattle.std.specs.Prelude.{ℕ, ◌≡◌, false, List, [], ◌∷◌, ◌++◌, flat_map, slice_get, codes, decimal, Option, Some, None}
+use Rattle.std.specs.Prelude.{ℕ, ◌≡◌, false, List, [], ◌∷◌, ◌++◌, flat_map, slice_get, codes, decimal, if◌then◌else◌, Option, Some, None}
 use Rattle.std.specs.Option.{option_map_or}
 use Rattle.csv.specs.Writing.{default_writer, needs_quotes, row_text}
 use Rattle.dk_needs.specs.declared.needs.Need.{Need}
 use Rattle.dk_needs.specs.declared.needs.What.{What}
 use Rattle.dk_needs_check.specs.declared.row.Answer.{Answer}
 use Rattle.dk_needs_check.specs.declared.row.Audit.{Audit}
+use Rattle.dk_needs_check.specs.declared.row.Bound.{Bound}
 use Rattle.dk_needs_check.specs.declared.row.Measure.{Measure}
 use Rattle.dk_needs_check.specs.declared.row.Repeating.{Repeating}
 use Rattle.dk_needs_check.specs.declared.row.Row.{Row}
 use Rattle.dk_needs_check.specs.declared.row.Waiting.{Waiting}
-use Rattle.dk_needs_check.specs.Bounds.{verdict_of}
+use Rattle.dk_needs_check.specs.Bounds.{is_met, verdict_of}
 use Rattle.dk_needs_text.specs.Names.{name_at}
 use Rattle.dk_needs_text.specs.Text.{reason_words, subject_of, verdict_word}
 
@@ -30,12 +31,16 @@ measure_word Measure.Hold = codes "hold"
 measure_word Measure.Release = codes "release"
 measure_word Measure.Growth = codes "growth"
 measure_word Measure.Spare = codes "spare"
+measure_word Measure.Slack = codes "slack"
+measure_word Measure.SlackBy = codes "slack_by"
 measure_word Measure.Overruns = codes "overruns"
 measure_word Measure.Refused = codes "refused"
 measure_word Measure.Faults = codes "faults"
 
 abbrev pub measure_field : Answer → List ℕ
 measure_field (Answer.Tested b) = measure_word b.measure
+measure_field (Answer.IfKept b) = measure_word b.measure
+measure_field Answer.NoRight = codes "slack"
 measure_field (Answer.Audited a) = codes "audit"
 measure_field (Answer.Waits w) = codes "waits"
 measure_field (Answer.Repeats r) = codes "repeats"
@@ -64,6 +69,8 @@ repeating_number _ = None
 
 abbrev pub number_of : Answer → Option ℕ
 number_of (Answer.Tested b) = b.number
+number_of (Answer.IfKept b) = b.number
+number_of Answer.NoRight = None
 number_of (Answer.Audited a) = Some (audit_number a)
 number_of (Answer.Waits w) = waiting_number w
 number_of (Answer.Repeats r) = repeating_number r
@@ -71,6 +78,7 @@ number_of (Answer.Open reason) = None
 
 abbrev pub asked_of : Answer → Option ℕ
 asked_of (Answer.Tested b) = Some b.asked
+asked_of (Answer.IfKept b) = Some b.asked
 asked_of _ = None
 
 -- why it isn't known whether a main waits in each of its windows
@@ -97,8 +105,14 @@ abbrev pub subject_field : List (List ℕ) → What → Answer → List ℕ
 subject_field names what (Answer.Repeats r) = repeating_subject names r
 subject_field names what _ = subject_of what
 
+-- under which condition a bound is kept that would be
+abbrev pub kept_reason : Bound → List ℕ
+kept_reason b = if is_met b then (codes "if all keep to their slack") else []
+
 abbrev pub reason_field : Answer → List ℕ
 reason_field (Answer.Tested b) = []
+reason_field (Answer.IfKept b) = kept_reason b
+reason_field Answer.NoRight = codes "may not ask"
 reason_field (Answer.Audited a) = audit_word a
 reason_field (Answer.Waits w) = waiting_reason w
 reason_field (Answer.Repeats r) = repeating_reason r

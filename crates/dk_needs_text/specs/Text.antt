@@ -15,7 +15,7 @@ use Rattle.dk_needs_check.specs.declared.row.Repeating.{Repeating}
 use Rattle.dk_needs_check.specs.declared.row.Row.{Row}
 use Rattle.dk_needs_check.specs.declared.row.Verdict.{Verdict}
 use Rattle.dk_needs_check.specs.declared.row.Waiting.{Waiting}
-use Rattle.dk_needs_check.specs.Bounds.{is_upper, verdict_of}
+use Rattle.dk_needs_check.specs.Bounds.{is_met, is_upper, verdict_of}
 use Rattle.dk_needs_text.specs.Names.{name_at}
 
 abbrev pub verdict_word : Verdict → List ℕ
@@ -35,6 +35,8 @@ measure_words Measure.Hold = codes "hold up to"
 measure_words Measure.Release = codes "release up to"
 measure_words Measure.Growth = codes "growth up to"
 measure_words Measure.Spare = codes "spare"
+measure_words Measure.Slack = codes "slack up to"
+measure_words Measure.SlackBy = codes "slack had by"
 measure_words Measure.Overruns = codes "overruns"
 measure_words Measure.Refused = codes "refused"
 measure_words Measure.Faults = codes "faults"
@@ -51,6 +53,7 @@ subject_of (What.Budget name budget) = name
 subject_of (What.Hold name hold) = name
 subject_of (What.Release level release) = codes "level " ++ decimal level
 subject_of (What.Spare level ticks) = codes "level " ++ decimal level
+subject_of (What.Slack name each within) = name
 subject_of (What.Always name) = name
 subject_of _ = []
 
@@ -98,6 +101,10 @@ abbrev pub times_text : Option Tick → Bound → List ℕ
 times_text None b = []
 times_text (Some tick) b = if is_time b.measure then times_of tick b else []
 
+-- under which condition a bound is kept that would be
+abbrev pub condition_text : Bound → List ℕ
+condition_text b = if is_met b then (codes " if all keep to their slack") else []
+
 -- what an audit found
 abbrev pub audit_text : Audit → List ℕ
 audit_text (Audit.Passed n) = codes "audit passed " ++ decimal n
@@ -121,6 +128,8 @@ repeating_text names (Repeating.ReadsTick p) = codes "repeats unknown " ++ (name
 
 abbrev pub answer_text : List (List ℕ) → Option Tick → What → Answer → List ℕ
 answer_text names tick what (Answer.Tested b) = before_space (subject_of what) ++ (bound_text b ++ times_text tick b)
+answer_text names tick what (Answer.IfKept b) = (before_space (subject_of what) ++ (bound_text b ++ times_text tick b)) ++ condition_text b
+answer_text names tick what Answer.NoRight = before_space (subject_of what) ++ codes "may not ask for slack"
 answer_text names tick what (Answer.Audited a) = audit_text a
 answer_text names tick what (Answer.Waits w) = before_space (subject_of what) ++ waiting_text w
 answer_text names tick what (Answer.Repeats r) = repeating_text names r

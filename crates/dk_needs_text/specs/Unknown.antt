@@ -16,6 +16,7 @@ thing_text (What.Budget process budget) place = codes "process " ++ process
 thing_text (What.Hold mutex hold) place = codes "mutex " ++ mutex
 thing_text (What.Release level release) place = codes "level " ++ decimal level
 thing_text (What.Spare level ticks) place = codes "level " ++ decimal level
+thing_text (What.Slack process each within) place = codes "process " ++ process
 thing_text (What.Always process) place = codes "process " ++ process
 thing_text _ place = []
 

@@ -1,7 +1,7 @@
 //! The rows as a table. No field has a byte that calls for quotes, so a row is its fields with commas between them.
 ghost use Rattle.std.specs.Prelude.{◌≡◌, ◌++◌, ◌∷◌, [], All, codes, decimal, flat_map, string_bytes, IfOk, OnOk};
 ghost use Rattle.dk_needs.specs.Fit.{HasNames, IsFit};
-ghost use Rattle.dk_needs_text.specs.Csv.{IsPlain, asked_of, audit_number, audit_word, columns, fields, joined_record, measure_field, measure_word, needs_csv, number_field, number_of, reason_field, record_text, row_record, subject_field};
+ghost use Rattle.dk_needs_text.specs.Csv.{IsPlain, asked_of, audit_number, audit_word, columns, fields, joined_record, kept_reason, measure_field, measure_word, needs_csv, number_field, number_of, reason_field, record_text, row_record, subject_field};
 ghost use Rattle.dk_needs_text.specs.Names.{AreNamed};
 
 use crate::forever::{
@@ -12,7 +12,7 @@ use crate::text::{reason_words, subject_of, verdict_word};
 use dk_config::{NoMemory, Text};
 use dk_config_report::{Page, push_line};
 use dk_needs::{Need, Needs, What};
-use dk_needs_check::{Answer, Audit, Measure, Row, verdict_of};
+use dk_needs_check::{Answer, Audit, Bound, Measure, Row, is_met, verdict_of};
 use std::alloc::{AllocError, Global};
 
 fn measure_word(measure: Measure) -> &'static str
@@ -31,6 +31,8 @@ fn measure_word(measure: Measure) -> &'static str
         Measure::Release => "release",
         Measure::Growth => "growth",
         Measure::Spare => "spare",
+        Measure::Slack => "slack",
+        Measure::SlackBy => "slack_by",
         Measure::Overruns => "overruns",
         Measure::Refused => "refused",
         Measure::Faults => "faults",
@@ -43,6 +45,8 @@ pub(crate) fn measure_field(answer: Answer) -> &'static str
 {
     match answer {
         Answer::Tested(bound) => measure_word(bound.measure),
+        Answer::IfKept(bound) => measure_word(bound.measure),
+        Answer::NoRight => "slack",
         Answer::Audited(_) => "audit",
         Answer::Waits(_) => "waits",
         Answer::Repeats(_) => "repeats",
@@ -77,6 +81,8 @@ fn number_of(answer: Answer) -> Option<u32>
 {
     match answer {
         Answer::Tested(bound) => bound.number,
+        Answer::IfKept(bound) => bound.number,
+        Answer::NoRight => None,
         Answer::Audited(audit) => Some(audit_number(audit)),
         Answer::Waits(waiting) => waiting_number(waiting),
         Answer::Repeats(repeating) => repeating_number(repeating),
@@ -89,6 +95,7 @@ fn asked_of(answer: Answer) -> Option<u32>
 {
     match answer {
         Answer::Tested(bound) => Some(bound.asked),
+        Answer::IfKept(bound) => Some(bound.asked),
         _ => None,
     }
 }
@@ -110,12 +117,26 @@ fn subject_field(
     }
 }
 
+/// Under which condition a bound is kept that would be.
+fn kept_reason(bound: Bound) -> &'static str
+    ensures text { result.now ≡ kept_reason bound }
+    ensures plain { IsPlain result.now }
+{
+    if is_met(bound) {
+        "if all keep to their slack"
+    } else {
+        ""
+    }
+}
+
 fn reason_field(alloc: Global, answer: Answer) -> Result<String, AllocError>
     ensures text { IfOk result (λ s. string_bytes s ≡ reason_field answer) }
     ensures plain { IfOk result (λ s. IsPlain (string_bytes s)) }
 {
     match answer {
         Answer::Tested(_) => plain_words(alloc, ""),
+        Answer::IfKept(bound) => plain_words(alloc, kept_reason(bound)),
+        Answer::NoRight => plain_words(alloc, "may not ask"),
         Answer::Audited(audit) => plain_words(alloc, audit_word(audit)),
         Answer::Waits(waiting) => waiting_reason(alloc, waiting),
         Answer::Repeats(repeating) => repeating_reason(alloc, repeating),

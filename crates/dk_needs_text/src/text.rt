@@ -3,7 +3,7 @@ ghost use Rattle.std.specs.Prelude.{◌≡◌, ◌++◌, true, codes, decimal, f
 ghost use Rattle.dk_config.specs.Rules.{is_name};
 ghost use Rattle.dk_needs.specs.Fit.{HasNames};
 ghost use Rattle.dk_needs_text.specs.Csv.{IsPlain};
-ghost use Rattle.dk_needs_text.specs.Text.{answer_line, answer_text, audit_text, before_space, between_text, bound_text, count_line, count_text, is_time, line_of, measure_words, needs_text, number_text, reason_words, row_line, subject_of, time_text, times_of, times_text, unit_word, verdict_word, waiting_text};
+ghost use Rattle.dk_needs_text.specs.Text.{answer_line, answer_text, audit_text, before_space, between_text, bound_text, condition_text, count_line, count_text, is_time, line_of, measure_words, needs_text, number_text, reason_words, row_line, subject_of, time_text, times_of, times_text, unit_word, verdict_word, waiting_text};
 
 use crate::counts::how_many;
 use crate::forever::{repeating_text, waiting_text};
@@ -11,7 +11,7 @@ use dk_config::{NoMemory, Text};
 use dk_config_report::{Page, push_line};
 use dk_needs::{Need, Needs, Tick, Unit, What};
 use dk_needs_check::{
-    Answer, Audit, Bound, Measure, Reason, Row, Verdict, Waiting, is_upper, verdict_of,
+    Answer, Audit, Bound, Measure, Reason, Row, Verdict, Waiting, is_met, is_upper, verdict_of,
 };
 use std::alloc::{AllocError, Global};
 
@@ -41,6 +41,8 @@ fn measure_words(measure: Measure) -> &'static str
         Measure::Release => "release up to",
         Measure::Growth => "growth up to",
         Measure::Spare => "spare",
+        Measure::Slack => "slack up to",
+        Measure::SlackBy => "slack had by",
         Measure::Overruns => "overruns",
         Measure::Refused => "refused",
         Measure::Faults => "faults",
@@ -83,6 +85,7 @@ pub(crate) fn subject_of(alloc: Global, what: &What) -> Result<String, AllocErro
         What::Hold { mutex, .. } => name_text(alloc, mutex.as_str()),
         What::Release { level, .. } => level_text(alloc, *level),
         What::Spare { level, .. } => level_text(alloc, *level),
+        What::Slack { process, .. } => name_text(alloc, process.as_str()),
         What::Always { process } => name_text(alloc, process.as_str()),
         _ => String::from_str(alloc, ""),
     }
@@ -196,6 +199,45 @@ fn tested_text(
     Ok(text)
 }
 
+/// Under which condition a bound is kept that would be.
+pub(crate) fn condition_text(bound: Bound) -> &'static str
+    ensures text { result.now ≡ condition_text bound }
+    ensures plain { IsPlain result.now }
+{
+    if is_met(bound) {
+        " if all keep to their slack"
+    } else {
+        ""
+    }
+}
+
+/// A bound as far as each process keeps to its slack.
+fn kept_text(
+    alloc: Global,
+    tick: Option<Tick>,
+    what: &What,
+    bound: Bound,
+) -> Result<String, AllocError>
+    ensures { IfOk result (λ s. string_bytes s
+        ≡ (before_space (subject_of what.now) ++ (bound_text bound ++ times_text tick bound)) ++ condition_text bound) }
+{
+    let mut text = tested_text(alloc, tick, what, bound)?;
+    let condition = String::from_str(alloc, condition_text(bound))?;
+    push_line(&mut text, condition)?;
+    Ok(text)
+}
+
+/// That the process may not ask for slack.
+fn barred_text(alloc: Global, what: &What) -> Result<String, AllocError>
+    ensures { IfOk result (λ s. string_bytes s ≡ before_space (subject_of what.now) ++ codes "may not ask for slack") }
+{
+    let subject = subject_of(alloc, what)?;
+    let mut text = before_space(alloc, subject.as_str())?;
+    let words = String::from_str(alloc, "may not ask for slack")?;
+    push_line(&mut text, words)?;
+    Ok(text)
+}
+
 /// What an audit found, in the words of deosk.
 fn audit_text(alloc: Global, audit: Audit) -> Result<String, AllocError>
     ensures { IfOk result (λ s. string_bytes s ≡ audit_text audit) }
@@ -227,6 +269,8 @@ pub(crate) fn answer_text(
 {
     match answer {
         Answer::Tested(bound) => tested_text(alloc, tick, what, bound),
+        Answer::IfKept(bound) => kept_text(alloc, tick, what, bound),
+        Answer::NoRight => barred_text(alloc, what),
         Answer::Audited(audit) => audit_text(alloc, audit),
         Answer::Waits(waiting) => waits_text(alloc, what, waiting),
         Answer::Repeats(repeating) => repeating_text(alloc, names, repeating),

@@ -49,6 +49,7 @@ fn thing_text(alloc: Global, what: &What, place: usize) -> Result<String, AllocE
         What::Hold { mutex, .. } => mutex_text(alloc, mutex.as_str()),
         What::Release { level, .. } => level_text(alloc, *level),
         What::Spare { level, .. } => level_text(alloc, *level),
+        What::Slack { process, .. } => process_text(alloc, process.as_str()),
         What::Always { process } => process_text(alloc, process.as_str()),
         _ => String::from_str(alloc, ""),
     }
