@@ -14,13 +14,14 @@ use Rattle.dk_needs_always.specs.declared.asking.AskedRow.{AskedRow}
 
 abbrev pub asks_for_ever : What → Bool
 asks_for_ever (What.Always name) = true
+asks_for_ever (What.Slack name each within) = true
 asks_for_ever (What.Run overruns refused faults forever) = forever
 asks_for_ever _ = false
 
 abbrev pub is_for_ever : Need → Bool
 is_for_ever need = asks_for_ever need.what
 
--- some need asks that a process waits in each of its windows, or that the run repeats for ever
+-- some need asks that a process waits in each of its windows, for slack, or that the run repeats for ever
 abbrev pub asks_always : List Need → Bool
 asks_always needs = list_any is_for_ever needs
 

@@ -1,5 +1,6 @@
 -- What is told of a row by what is so for ever.
-use Rattle.std.specs.Prelude.{ℕ, List, Option, Some, None, slice_get}
+use Rattle.std.specs.Prelude.{ℕ, Bool, true, false, List, Option, Some, None, slice_get}
+use Rattle.std.specs.List.{list_any}
 use Rattle.std.specs.Option.{option_map_or}
 use Rattle.dk_cycle.specs.declared.Cycle.{Cycle}
 use Rattle.dk_cycle.specs.declared.keeping.Keeping.{Keeping}
@@ -53,3 +54,22 @@ answer_for a Asked.Repeats before = Answer.Repeats (repeating_of a.run)
 
 abbrev pub decided_row : Always → AskedRow → Row
 decided_row a asked = record { need = asked.row.need; answer = answer_for a asked.asked asked.row.answer }
+
+-- a bound that holds where each process keeps to its slack, where each does
+abbrev pub kept_answer : Bool → Answer → Answer
+kept_answer true (Answer.IfKept b) = Answer.Tested b
+kept_answer _ a = a
+
+abbrev pub kept_row : Bool → Row → Row
+kept_row kept row = record { need = row.need; answer = kept_answer kept row.answer }
+
+abbrev pub is_if_kept_answer : Answer → Bool
+is_if_kept_answer (Answer.IfKept b) = true
+is_if_kept_answer _ = false
+
+abbrev pub is_if_kept : Row → Bool
+is_if_kept row = is_if_kept_answer row.answer
+
+-- some row is of such a bound
+abbrev pub has_if_kept : List Row → Bool
+has_if_kept rows = list_any is_if_kept rows

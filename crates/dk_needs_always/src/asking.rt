@@ -29,14 +29,14 @@ fn is_for_ever(need: &Need) -> bool
     ensures { result ≡ is_for_ever need.now }
 {
     match &need.what {
-        What::Always { .. } => true,
+        What::Always { .. } | What::Slack { .. } => true,
         What::Run { forever, .. } => *forever,
         _ => false,
     }
 }
 
-/// Whether a need asks that a process waits in each of its windows, or that the run repeats for ever, so that the programs
-/// are wanted.
+/// Whether a need asks that a process waits in each of its windows, for slack, or that the run repeats for ever, so that the
+/// programs are wanted.
 pub fn asks_always(needs: &Needs) -> bool
     ensures { result ≡ asks_always needs.now.rows }
 {

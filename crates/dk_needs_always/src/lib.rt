@@ -6,11 +6,12 @@
 mod asking;
 mod deciding;
 mod laws;
+mod lending;
 mod telling;
 
 pub use asking::asks_always;
 pub use deciding::decide_always;
-pub use laws::always_law;
+pub use laws::{always_law, first_ticks_law, had_law};
 
 /// So many ticks are searched for what repeats.
 pub const ALWAYS_TICKS: u32 = 1_000_000;

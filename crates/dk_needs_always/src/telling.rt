@@ -1,6 +1,6 @@
 //! What is told of a row by what is so for ever.
 ghost use Rattle.std.specs.Prelude.{◌≡◌, map, IfOk};
-ghost use Rattle.dk_needs_always.specs.Telling.{answer_for, cycle_told, decided_row, repeating_of, waiting_of, waiting_unless, waits_answer};
+ghost use Rattle.dk_needs_always.specs.Telling.{answer_for, cycle_told, decided_row, has_if_kept, is_if_kept, kept_answer, kept_row, repeating_of, waiting_of, waiting_unless, waits_answer};
 
 use crate::ALWAYS_TICKS;
 use crate::asking::{Asked, AskedRow};
@@ -98,4 +98,47 @@ pub(crate) fn decided_rows(
         rows.push(decided_row(always, *row))?;
     }
     Ok(rows)
+}
+
+/// Where each process keeps to its slack, a bound that holds under that condition is tested.
+fn kept_answer(kept: bool, answer: Answer) -> Answer
+    ensures { result ≡ kept_answer kept answer }
+{
+    match answer {
+        Answer::IfKept(bound) if kept => Answer::Tested(bound),
+        _ => answer,
+    }
+}
+
+fn kept_row(kept: bool, row: Row) -> Row
+    ensures { result ≡ kept_row kept row }
+{
+    Row {
+        need: row.need,
+        answer: kept_answer(kept, row.answer),
+    }
+}
+
+/// The same of these rows.
+pub(crate) fn kept_rows(alloc: Global, kept: bool, before: &[Row]) -> Result<Vec<Row>, NoMemory>
+    ensures { IfOk result (λ rows. rows.items ≡ map (kept_row kept) before.now) }
+{
+    let mut rows = Vec::new(alloc);
+    for row in before {
+        rows.push(kept_row(kept, *row))?;
+    }
+    Ok(rows)
+}
+
+fn is_if_kept(row: &Row) -> bool
+    ensures { result ≡ is_if_kept row.now }
+{
+    matches!(row.answer, Answer::IfKept(_))
+}
+
+/// Whether a row is of a bound that holds where each process keeps to its slack.
+pub(crate) fn has_if_kept(rows: &[Row]) -> bool
+    ensures { result ≡ has_if_kept rows.now }
+{
+    rows.iter().any(is_if_kept)
 }

@@ -36,6 +36,7 @@ standing_of false = Standing.Unmet
 -- it asks what the programs do for ever
 abbrev pub asks_for_ever : What → Bool
 asks_for_ever (What.Always name) = true
+asks_for_ever (What.Slack name each within) = true
 asks_for_ever (What.Run overruns refused faults forever) = forever
 asks_for_ever _ = false
 

@@ -33,7 +33,7 @@ fn is_for_ever(need: &Need) -> bool
     ensures { result ≡ is_for_ever need.now }
 {
     match &need.what {
-        What::Always { .. } => true,
+        What::Always { .. } | What::Slack { .. } => true,
         What::Run { forever, .. } => *forever,
         _ => false,
     }
