@@ -19,6 +19,7 @@ use Rattle.dk_cycle_counts.specs.declared.counts.CycleCounts.{CycleCounts}
 use Rattle.dk_cycle_counts.specs.Process.{added_if, has_fault, has_refused, has_slack, main_owner, use_gone_by, use_of, use_with}
 use Rattle.dk_cycle_counts.specs.Totals.{is_slack, totals_of, totals_with}
 use Rattle.dk_cycle_counts.specs.Counts.{AreCountsOf}
+use Rattle.dk_cycle_counts.proofs.Beginnings.{begins-gone, begins-next}
 
 added-none : (b : Bool) (k : ℕ) → k < 4294967295 → k ≡ added_if b 0 k
 added-none true k few = omega (arith, few)
@@ -37,18 +38,19 @@ count-more p e (suc n) es few =
     count_by-cons p e (replicate n e ++ es) ∙ ap (λ k. cond (p e) 1 0 + k) (count-more p e n es (omega (arith, few)))
     ∙ added-one (p e) n (count_by p es) (omega (arith, most, few))
 
-use-equal : (a b : ProcessUse) → a.main ≡ b.main → a.budget ≡ b.budget → a.slack ≡ b.slack → a.refused ≡ b.refused → a.faults ≡ b.faults → a ≡ b
-use-equal a b e0 e1 e2 e3 e4 =
-    ap (λ x. record { main = x; budget = a.budget; slack = a.slack; refused = a.refused; faults = a.faults }) e0
-    ∙ ap (λ x. record { main = b.main; budget = x; slack = a.slack; refused = a.refused; faults = a.faults }) e1
-    ∙ ap (λ x. record { main = b.main; budget = b.budget; slack = x; refused = a.refused; faults = a.faults }) e2
-    ∙ ap (λ x. record { main = b.main; budget = b.budget; slack = b.slack; refused = x; faults = a.faults }) e3
-    ∙ ap (λ x. record { main = b.main; budget = b.budget; slack = b.slack; refused = b.refused; faults = x }) e4
+use-equal : (a b : ProcessUse) → a.main ≡ b.main → a.begins ≡ b.begins → a.budget ≡ b.budget → a.slack ≡ b.slack → a.refused ≡ b.refused → a.faults ≡ b.faults → a ≡ b
+use-equal a b e0 begins e1 e2 e3 e4 =
+    ap (λ x. record { main = x; begins = a.begins; budget = a.budget; slack = a.slack; refused = a.refused; faults = a.faults }) e0
+    ∙ ap (λ x. record { main = b.main; begins = x; budget = a.budget; slack = a.slack; refused = a.refused; faults = a.faults }) begins
+    ∙ ap (λ x. record { main = b.main; begins = b.begins; budget = x; slack = a.slack; refused = a.refused; faults = a.faults }) e1
+    ∙ ap (λ x. record { main = b.main; begins = b.begins; budget = b.budget; slack = x; refused = a.refused; faults = a.faults }) e2
+    ∙ ap (λ x. record { main = b.main; begins = b.begins; budget = b.budget; slack = b.slack; refused = x; faults = a.faults }) e3
+    ∙ ap (λ x. record { main = b.main; begins = b.begins; budget = b.budget; slack = b.slack; refused = b.refused; faults = x }) e4
 
 use-next : RowsStep → (e : Entry) (es : List Entry) → length es + 1 < 4294967295 → (m : MainShare) → use_of m (e ∷ es) ≡ use_with (length es) e (use_of m es)
 use-next step e es few m =
     use-equal (use_of m (e ∷ es)) (use_with (length es) e (use_of m es))
-    (step (main_owner m) e es (omega (arith, few))) refl
+    (step (main_owner m) e es (omega (arith, few))) (begins-next m.process m.period e es (omega (arith, few))) refl
     (count-more (has_slack m.process) e 1 es few)
     (count-more (has_refused m.process) e 1 es few)
     (count-more (has_fault m.process) e 1 es few)
@@ -59,7 +61,7 @@ use-gone go label n es few m =
     let u = use_of m es in
     let none : (is_of_process m.process (quiet label) && false) ≡ false = and-false (is_of_process m.process (quiet label)) in
     use-equal (use_of m (replicate n (quiet label) ++ es)) (use_gone_by (length es) label n u)
-    (go (main_owner m) label n es few) refl
+    (go (main_owner m) label n es few) (begins-gone m.process m.period label n es go few) refl
     (count-more (has_slack m.process) (quiet label) n es few)
     (count-more (has_refused m.process) (quiet label) n es few ∙ ap (λ b. added_if b n u.refused) none)
     (count-more (has_fault m.process) (quiet label) n es few ∙ ap (λ b. added_if b n u.faults) none)
@@ -123,4 +125,4 @@ counts-gone old new shares label count es go room is ticks totals processes =
     }
 
 abbrev pub no_use : ProcessUse
-no_use = record { main = no_row; budget = 0; slack = 0; refused = 0; faults = 0 }
+no_use = record { main = no_row; begins = record { first = 0; last = 0 }; budget = 0; slack = 0; refused = 0; faults = 0 }

@@ -1,3 +1,4 @@
+pub mod Begins
 pub mod Process
 pub mod Totals
 pub mod Counts

@@ -10,6 +10,7 @@ use Rattle.dk_window_report.specs.Rows.{raised_if, row_of, stepped}
 use Rattle.dk_window_report.specs.Passing.{gone_by}
 use Rattle.dk_cycle_counts.specs.declared.process.MainShare.{MainShare}
 use Rattle.dk_cycle_counts.specs.declared.process.ProcessUse.{ProcessUse}
+use Rattle.dk_cycle_counts.specs.Begins.{begins_gone_by, begins_of, begins_with}
 
 -- the main of the process, whose first window begins with the first of the ticks
 abbrev pub main_owner : MainShare → Owner
@@ -31,6 +32,7 @@ has_fault p e = is_of_process p e && has_event is_fault e
 abbrev pub use_of : MainShare → List Entry → ProcessUse
 use_of m es = record {
   main = row_of es (main_owner m);
+  begins = begins_of (main_owner m).id m.period es;
   budget = m.budget;
   slack = count_by (has_slack m.process) es;
   refused = count_by (has_refused m.process) es;
@@ -41,6 +43,7 @@ use_of m es = record {
 abbrev pub use_with : ℕ → Entry → ProcessUse → ProcessUse
 use_with ticks e u = record {
   main = stepped ticks e u.main;
+  begins = begins_with ticks e u.main u.begins;
   budget = u.budget;
   slack = raised_if (has_slack u.main.thread.process e) u.slack;
   refused = raised_if (has_refused u.main.thread.process e) u.refused;
@@ -55,6 +58,7 @@ added_if b n k = if b then min (k + n) 4294967295 else k
 abbrev pub use_gone_by : ℕ → Label → ℕ → ProcessUse → ProcessUse
 use_gone_by ticks label n u = record {
   main = gone_by (quiet label) ticks n u.main;
+  begins = begins_gone_by ticks label n u.main u.begins;
   budget = u.budget;
   slack = added_if (has_slack u.main.thread.process (quiet label)) n u.slack;
   refused = u.refused;

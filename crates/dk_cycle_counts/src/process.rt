@@ -6,6 +6,7 @@ ghost use Rattle.dk_window_report.specs.Rows.{raised_if};
 ghost use Rattle.dk_report.specs.Counts.{is_of_process};
 ghost use Rattle.dk_cycle_counts.specs.Process.{has_fault, has_refused, has_slack, use_gone_by, use_of, use_with};
 
+use crate::begins::BeginTicks;
 use dk_config::MAX_TICKS;
 use dk_trace::{Entry, Event, Label, ThreadId};
 use dk_window_report::{Row, fresh, gone_by, row_law, stepped};
@@ -24,6 +25,8 @@ pub struct MainShare {
 pub struct ProcessUse {
     /// The row of its main, whose windows are counted from the first of these ticks on.
     pub main: Row,
+    /// When in its windows its main begins.
+    pub begins: BeginTicks,
     pub budget: u32,
     pub slack: u32,
     pub refused: u32,
@@ -86,6 +89,7 @@ impl ProcessUse {
         };
         ProcessUse {
             main: fresh(main, share.period, 0),
+            begins: BeginTicks { first: 0, last: 0 },
             budget: share.budget,
             slack: 0,
             refused: 0,
@@ -100,6 +104,7 @@ impl ProcessUse {
         let process = self.main.thread.process;
         ProcessUse {
             main: stepped(ticks, entry, self.main),
+            begins: self.begins.with_entry(ticks, entry, &self.main),
             budget: self.budget,
             slack: raised_if(has_slack(process, entry.label), self.slack),
             refused: raised_if(has_refused(process, entry), self.refused),
@@ -119,6 +124,7 @@ impl ProcessUse {
         };
         ProcessUse {
             main: gone_by(ticks, label, count, self.main),
+            begins: self.begins.gone_by(ticks, label, count, &self.main),
             slack,
             ..self
         }
