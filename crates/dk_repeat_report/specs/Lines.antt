@@ -1,9 +1,10 @@
 -- The line of the run, and that of each process.
-use Rattle.std.specs.Prelude.{ℕ, ◌≡◌, ◌/◌, nat_le, if◌then◌else◌, List, [], ◌++◌, length, map, flat_map, codes, decimal, Option, Some, None, All, slice_get}
+use Rattle.std.specs.Prelude.{ℕ, ◌≡◌, ◌-◌, ◌/◌, nat_le, if◌then◌else◌, List, [], ◌++◌, length, map, flat_map, codes, decimal, Option, Some, None, All, slice_get}
 use Rattle.std.specs.List.{range_with_len}
 use Rattle.std.specs.Option.{option_map_or}
 use Rattle.dk_config.specs.Configuration.{Configuration}
 use Rattle.dk_window_report.specs.declared.row.WindowCounts.{WindowCounts}
+use Rattle.dk_cycle_counts.specs.declared.begins.BeginTicks.{BeginTicks}
 use Rattle.dk_cycle_counts.specs.declared.process.ProcessUse.{ProcessUse}
 use Rattle.dk_cycle_counts.specs.declared.totals.CycleTotals.{CycleTotals}
 use Rattle.dk_cycle_counts.specs.declared.counts.CycleCounts.{CycleCounts}
@@ -88,9 +89,21 @@ abbrev pub used_part : WindowCounts → ℕ → List ℕ
 used_part n budget =
     codes " used " ++ (decimal n.least_used ++ (codes " to " ++ (decimal n.most_used ++ (codes " of " ++ decimal budget))))
 
+-- the earliest and the latest tick of a window at which it began
+abbrev pub begins_part : BeginTicks → List ℕ
+begins_part b = codes " begins " ++ (decimal b.first ++ (codes " to " ++ decimal b.last))
+
 -- the earliest and the latest tick of a window at which it was done
 abbrev pub done_part : WindowCounts → List ℕ
 done_part n = codes " done " ++ (decimal n.first_done ++ (codes " to " ++ decimal n.last_done))
+
+-- by how much these ticks vary from window to window
+abbrev pub jitter_part : BeginTicks → WindowCounts → List ℕ
+jitter_part b n = codes " jitter " ++ (decimal (b.last - b.first) ++ (codes " " ++ decimal (n.last_done - n.first_done)))
+
+-- when in its windows it began and was done
+abbrev pub timing_part : ProcessUse → List ℕ
+timing_part u = begins_part u.begins ++ (done_part u.main.counts ++ jitter_part u.begins u.main.counts)
 
 abbrev pub events_part : ProcessUse → List ℕ
 events_part u =
@@ -99,7 +112,7 @@ events_part u =
 -- what a process did in a cycle: its main in its windows, and all its threads
 abbrev pub use_line : List ℕ → ProcessUse → List ℕ
 use_line name u =
-    codes "  " ++ (name ++ (waited_part u.main.counts ++ (used_part u.main.counts u.budget ++ (done_part u.main.counts
+    codes "  " ++ (name ++ (waited_part u.main.counts ++ (used_part u.main.counts u.budget ++ (timing_part u
     ++ (events_part u ++ codes "\n")))))
 
 -- the same of the process p, where a cycle is counted

@@ -1,12 +1,12 @@
 //! The line of the run, and that of each process.
 ghost use Rattle.std.specs.Prelude.{[], ◌≡◌, ◌++◌, codes, string_bytes, IfOk};
 ghost use Rattle.std.specs.Option.{option_map_or};
-ghost use Rattle.dk_repeat_report.specs.Lines.{budget_part, child_line, cycle_line, cycle_totals_line, cycle_use_line, done_part, events_part, made_line, name_at, own_cycle_line, own_line, own_line_by, own_use_line, process_lines, refused_part, run_line, run_lines, totals_line, use_line, used_part, waited_part};
+ghost use Rattle.dk_repeat_report.specs.Lines.{begins_part, budget_part, child_line, cycle_line, cycle_totals_line, cycle_use_line, done_part, events_part, jitter_part, made_line, name_at, own_cycle_line, own_line, own_line_by, own_use_line, process_lines, refused_part, run_line, run_lines, timing_part, totals_line, use_line, used_part, waited_part};
 
 use crate::own::OwnFound;
 use dk_config::Text;
 use dk_cycle::{Cycle, Keeping, Made, OwnTold, RunTold};
-use dk_cycle_counts::{CycleCounts, CycleTotals, ProcessUse};
+use dk_cycle_counts::{BeginTicks, CycleCounts, CycleTotals, ProcessUse};
 use dk_window_report::WindowCounts;
 use std::alloc::{AllocError, Global};
 
@@ -199,6 +199,14 @@ fn used_part(alloc: Global, counts: WindowCounts, budget: u32) -> Result<String,
     format!(in alloc; " used {least_used} to {most_used} of {budget}")
 }
 
+/// The earliest and the latest tick of a window at which it began.
+fn begins_part(alloc: Global, begins: BeginTicks) -> Result<String, AllocError>
+    ensures { IfOk result (λ s. string_bytes s ≡ begins_part begins) }
+{
+    let BeginTicks { first, last } = begins;
+    format!(in alloc; " begins {first} to {last}")
+}
+
 /// The earliest and the latest tick of a window at which it was done.
 fn done_part(alloc: Global, counts: WindowCounts) -> Result<String, AllocError>
     ensures { IfOk result (λ s. string_bytes s ≡ done_part counts) }
@@ -209,6 +217,29 @@ fn done_part(alloc: Global, counts: WindowCounts) -> Result<String, AllocError>
         ..
     } = counts;
     format!(in alloc; " done {first_done} to {last_done}")
+}
+
+/// By how much these ticks vary from window to window.
+fn jitter_part(
+    alloc: Global,
+    begins: BeginTicks,
+    counts: WindowCounts,
+) -> Result<String, AllocError>
+    ensures { IfOk result (λ s. string_bytes s ≡ jitter_part begins counts) }
+{
+    let begin = begins.last.saturating_sub(begins.first);
+    let done = counts.last_done.saturating_sub(counts.first_done);
+    format!(in alloc; " jitter {begin} {done}")
+}
+
+/// When in its windows it began and was done.
+fn timing_part(alloc: Global, done: ProcessUse) -> Result<String, AllocError>
+    ensures { IfOk result (λ s. string_bytes s ≡ timing_part done) }
+{
+    let mut part = begins_part(alloc, done.begins)?;
+    part.push_str(done_part(alloc, done.main.counts)?.as_str())?;
+    part.push_str(jitter_part(alloc, done.begins, done.main.counts)?.as_str())?;
+    Ok(part)
 }
 
 fn events_part(alloc: Global, done: ProcessUse) -> Result<String, AllocError>
@@ -230,7 +261,7 @@ fn use_line(alloc: Global, name: &str, done: ProcessUse) -> Result<String, Alloc
     let mut line = format!(in alloc; "  {name}")?;
     line.push_str(waited_part(alloc, done.main.counts)?.as_str())?;
     line.push_str(used_part(alloc, done.main.counts, done.budget)?.as_str())?;
-    line.push_str(done_part(alloc, done.main.counts)?.as_str())?;
+    line.push_str(timing_part(alloc, done)?.as_str())?;
     line.push_str(events_part(alloc, done)?.as_str())?;
     line.push_str("\n")?;
     Ok(line)

@@ -14,7 +14,7 @@ loop-tick-preserved c =
     let at = c.args.ticks + n in
     let one : suc n ≡ n + 1 = omega arith in (
       c.with_entry-begins.ensures ∙ ap (λ (r : Row). begins_with at q r c.loop-tick.begins) c.loop-tick.invariant.1
-      ∙ ap (λ (b : BeginTicks). begins_with at q (gone_by q c.args.ticks n c.args.row.now) b) c.loop-tick.invariant.0
-      ∙ ap (λ k. begins_gone_by c.args.ticks c.args.label k c.args.row.now c.args.self) one,
+          ∙ ap (λ (b : BeginTicks). begins_with at q (gone_by q c.args.ticks n c.args.row.now) b) c.loop-tick.invariant.0
+          ∙ ap (λ k. begins_gone_by c.args.ticks c.args.label k c.args.row.now c.args.self) one,
       c.stepped-main.ensures ∙ ap (stepped at q) c.loop-tick.invariant.1 ∙ ap (λ k. gone_by q c.args.ticks k c.args.row.now) one,
     )
