@@ -55,8 +55,14 @@ fn push_line(
     }
 }
 
-/// What the cells of the column of this name say, from the row behind the names on.
-fn read_cells(alloc: Global, call: u32, name: &[u8], table: &[u8]) -> Result<Vec<Cell>, NoMemory>
+/// What the cells of the column of this name say, from the row behind the names on, in a table of at most 1,048,576 bytes,
+/// where a call takes so many ticks. `Err` is want of memory.
+pub fn read_cells(
+    alloc: Global,
+    call: u32,
+    name: &[u8],
+    table: &[u8],
+) -> Result<Vec<Cell>, NoMemory>
     requires { length table.now ≤ MAX_PROFILE_BYTES }
     ensures cells { IfOk result (λ v. v.items ≡ cells_of call name.now table.now) }
     ensures few { IfOk result (λ v. length v.items ≤ MAX_PROFILE_BYTES) }

@@ -1,0 +1,4 @@
+pub mod Least
+pub mod Together
+pub mod Wrong
+pub mod Report

@@ -1,0 +1,70 @@
+//! Whether all budgets certify together.
+ghost use Rattle.std.specs.Prelude.{◌≡◌, ◌≤◌, length};
+ghost use Rattle.show_budgets.specs.Together.{ask_budget, rows_asked, together, with_asked};
+
+use crate::measure::Measure;
+use dk_certify::{Overload, Verdict, certify};
+use dk_config::{Config, ConfigFault, Layout, ProcessRow};
+
+/// Whether a configuration with all budgets can be run.
+#[derive(Clone, Copy)]
+pub enum Together {
+    /// It is certified.
+    Certified,
+    /// The first level that may miss its window.
+    Fails(Overload),
+    /// The first rule that it breaks.
+    Broken(ConfigFault),
+}
+
+/// The budget that a process gets.
+fn ask_budget(now: u32, ask: Option<Measure>) -> u32
+    ensures { result ≡ ask_budget now ask }
+{
+    match ask {
+        Some(measure) => measure.budget,
+        None => now,
+    }
+}
+
+/// Each process with the budget that it gets.
+fn set_budgets(rows: &mut [ProcessRow], asks: &[Option<Measure>])
+    ensures { rows.new ≡ rows_asked rows.old asks.now }
+{
+    if let Some((row, rows)) = rows.split_first_mut() {
+        if let Some((ask, asks)) = asks.split_first() {
+            row.budget = ask_budget(row.budget, *ask);
+            set_budgets(rows, asks);
+        }
+    }
+}
+
+/// The configuration with the budgets that its processes get.
+pub(crate) fn with_asked(config: Config, asks: &[Option<Measure>]) -> Config
+    ensures { result ≡ with_asked config asks.now }
+{
+    let mut config = config;
+    set_budgets(config.processes.as_mut_slice(), asks);
+    config
+}
+
+/// Whether it can be run.
+pub(crate) fn verdict_on(config: Config) -> Together
+    ensures { result ≡ together config }
+{
+    match Layout::of(config) {
+        Ok(layout) => match certify(layout.config()) {
+            Verdict::Accepted(_) => Together::Certified,
+            Verdict::Fails {
+                level,
+                needs,
+                window,
+            } => Together::Fails(Overload {
+                level,
+                needs,
+                window,
+            }),
+        },
+        Err(fault) => Together::Broken(fault),
+    }
+}
