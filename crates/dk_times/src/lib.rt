@@ -15,6 +15,7 @@ mod whole;
 
 pub use form::{Form, form_of};
 pub use laws::jobs_law;
+pub use records::record_of;
 pub use rows::{Column, Found};
 pub use table::{Cell, read_cells, read_table};
 pub use whole::read_in;

@@ -19,8 +19,9 @@ fn without_return(line: &[u8]) -> &[u8]
     }
 }
 
-/// The fields of a line that isn't blank, which has no line feed: between commas, in quotes where they need them.
-pub(crate) fn record_of(alloc: Global, line: &[u8]) -> Result<Option<ByteRecord>, NoMemory>
+/// The fields of a line that isn't blank, which has no line feed: between commas, in quotes where they need them. `Err` is
+/// want of memory.
+pub fn record_of(alloc: Global, line: &[u8]) -> Result<Option<ByteRecord>, NoMemory>
     ensures { IfOk result (λ row. option_map fields_of row ≡ record_of line.now) }
 {
     let mut reader = ReaderBuilder::new()

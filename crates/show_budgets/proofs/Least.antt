@@ -1,6 +1,6 @@
 -- The least budget for some times, by the greatest of them.
-use Rattle.std.proofs.Common.{ℕ, zero, suc, ◌≡◌, ◌∙◌, ◌+◌, ◌*◌, ◌/◌, ◌<◌, ◌≤◌, ◌==◌, ◌⊎◌, inl, inr, Bool, true, false, List, [], ◌∷◌, length, refl, ap, sym, subst, arith}
-use Rattle.std.specs.Prelude.{min, max, map, nat_le, slice_get, if◌then◌else◌, Option, Some, None}
+use Rattle.std.proofs.Common.{ℕ, zero, suc, ◌≡◌, ◌∙◌, ◌+◌, ◌*◌, ◌≤◌, ◌==◌, inl, inr, List, [], ◌∷◌, length, refl, ap, sym, subst, arith}
+use Rattle.std.specs.Prelude.{max, map, nat_le, slice_get, Some, None}
 use Rattle.std.specs.List.{AllByRecursion}
 use Rattle.std.specs.Option.{option_map_or}
 use Rattle.std.proofs.Math.Nat.{mul-le-mul_right}
@@ -14,7 +14,7 @@ use Rattle.dk_plan.specs.Budget.{rows_with_budget, with_budget}
 use Rattle.dk_profile.specs.declared.TheConstants.{MAX_WORK}
 use Rattle.dk_times.specs.Laws.{AreTimes, IsTime}
 use Rattle.dk_replay_run.specs.Jobs.{FitWindows}
-use Rattle.show_budgets.specs.Least.{IsLeastBudget, LeastIsLeast, ask_from, budget_of, longer, measure_of, second, times_for}
+use Rattle.show_budgets.specs.Least.{IsLeastBudget, LeastIsLeast, budget_of, longer, measure_of, second, times_for}
 use Rattle.show_budgets.specs.declared.measure.Measure.{Measure}
 
 pub greatest_within : (call : ℕ) (ts : List ℕ) → AllByRecursion (IsTime call) ts → greatest ts ≤ MAX_WORK
@@ -100,11 +100,11 @@ of_times c p q row ts at some all =
     let b = budget_of c q (greatest ts) in
     record {
       enough = fits (with_budget c p b) p (map (longer q) ts) (longer_low q c.costs.call ts all)
-        (let own = has b in omega (arith, own, long));
+          (let own = has b in omega (arith, own, long));
       least = λ m fit.
-        let wide = room (with_budget c p m) p (map (longer q) ts) (let same = length_longer q ts in omega (arith, same, some)) fit in
-        let own = has m in
-        omega (arith, own, long, wide);
+          let wide = room (with_budget c p m) p (map (longer q) ts) (let same = length_longer q ts in omega (arith, same, some)) fit in
+          let own = has m in
+          omega (arith, own, long, wide);
     }
 
 pub least_is_least : AreTimes → LeastIsLeast

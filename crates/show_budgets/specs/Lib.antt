@@ -1,4 +1,5 @@
 pub mod Least
 pub mod Together
+pub mod Strangers
 pub mod Wrong
 pub mod Report

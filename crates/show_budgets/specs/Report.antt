@@ -1,5 +1,5 @@
 -- What is told of the budgets that a table asks for.
-use Rattle.std.specs.Prelude.{ℕ, ◌≡◌, ◌-◌, ◌<◌,  nat_lt, Bool, if◌then◌else◌, List, [], ◌∷◌, ◌++◌, length, map, codes, decimal, Option, Some, None}
+use Rattle.std.specs.Prelude.{ℕ, ◌≡◌, ◌-◌, ◌<◌, nat_lt, Bool, if◌then◌else◌, List, [], ◌∷◌, ◌++◌, length, map, codes, decimal, Option, Some, None}
 use Rattle.dk_config.specs.Configuration.{Configuration}
 use Rattle.dk_config.specs.declared.rows.ProcessRow.{ProcessRow}
 use Rattle.dk_config.specs.declared.fault.ConfigFault.{ConfigFault}
@@ -77,7 +77,7 @@ end_of (Together.Broken fault) = Ended.Uncertified
 -- what each process gets, and whether the configuration with all these budgets certifies
 pub record AreAsked (form : BudgetForm) (c : Configuration) (percent : ℕ) (asks : List (Option Measure)) (told : Budgets) : Type 0 where
   pub text : told.text.items ≡ head_told (row_form form) COLUMNS.now
-    ++ (rows_told form percent c.processes asks ++ verdict_told form (together (with_asked c asks)))
+      ++ (rows_told form percent c.processes asks ++ verdict_told form (together (with_asked c asks)))
   pub ended : told.ended ≡ end_of (together (with_asked c asks))
 
 -- all that is wrong with the table, and nothing else; and where nothing is, what each process gets by it

@@ -8,6 +8,7 @@ use Rattle.dk_profile.specs.declared.steps.ProfileFault.{ProfileFault}
 use Rattle.dk_profile.specs.FaultText.{faults_text}
 use Rattle.dk_times.specs.declared.table.Cell.{Cell}
 use Rattle.dk_times.specs.Table.{cells_of}
+use Rattle.show_budgets.specs.Strangers.{header, strangers_told}
 
 -- that there is no column is nothing wrong
 abbrev pub says_fault : ℕ → Result ℕ Why → Option ProfileFault
@@ -26,5 +27,6 @@ faults_told c name faults =
 abbrev pub column_told : Configuration → List ℕ → ProcessRow → List ℕ
 column_told c table row = faults_told c row.name (filter_map fault_in (cells_of c.costs.call row.name table))
 
+-- each column that is that of no process, and what is wrong with the others
 abbrev pub table_told : Configuration → List ℕ → List ℕ
-table_told c table = flat_map (column_told c table) c.processes
+table_told c table = strangers_told c.processes (header table) ++ flat_map (column_told c table) c.processes

@@ -5,6 +5,7 @@
 
 mod measure;
 mod report;
+mod strangers;
 mod together;
 mod tops;
 mod wrong;

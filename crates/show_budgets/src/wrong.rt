@@ -4,6 +4,7 @@ ghost use Rattle.std.specs.List.{filter_map};
 ghost use Rattle.dk_profile.specs.declared.TheConstants.{MAX_PROFILE_BYTES};
 ghost use Rattle.show_budgets.specs.Wrong.{column_told, faults_told, fault_in, table_told};
 
+use crate::strangers::strangers_told;
 use dk_config::{Config, NoMemory, ProcessRow};
 use dk_profile::{ProfileFault, Why, faults_text};
 use dk_times::{Cell, read_cells};
@@ -71,12 +72,13 @@ fn add_column(
     add_faults(alloc, out, config, name, faults.as_slice())
 }
 
-/// All that is wrong with the columns of the processes, and nothing where nothing is.
+/// All that is wrong with the table, and nothing where nothing is.
 pub(crate) fn table_told(alloc: Global, config: &Config, table: &[u8]) -> Result<Vec<u8>, NoMemory>
     requires { length table.now ≤ MAX_PROFILE_BYTES }
     ensures { IfOk result (λ v. v.items ≡ table_told config.now table.now) }
 {
     let mut out = Vec::new(alloc);
+    strangers_told(alloc, &mut out, config.processes.as_slice(), table)?;
     for row in config.processes.as_slice() {
         add_column(alloc, &mut out, config, table, row)?;
     }

@@ -1,4 +1,4 @@
-use Rattle.std.proofs.Common.{ℕ, ◌≡◌}
+use Rattle.std.proofs.Common.{◌≡◌}
 use Rattle.std.specs.Prelude.{drop, min, max}
 use Rattle.dk_config.specs.Sums.{greatest}
 use Rattle.show_budgets.specs.Least.{second}

@@ -1,0 +1,103 @@
+//! The columns of a table that are those of no process.
+ghost use Rattle.std.specs.Prelude.{◌≡◌, ◌+◌, ◌<◌, ◌^◌, ◌++◌, Some, length, option_map, IfOk, OnOk};
+ghost use Rattle.csv.specs.Records.{field_at, fields_of};
+ghost use Rattle.show_budgets.specs.Strangers.{column_number, header, is_process, stranger_told, strangers_below, strangers_told};
+
+use csv::ByteRecord;
+use dk_asm::first_line;
+use dk_config::{NoMemory, ProcessRow};
+use dk_times::record_of;
+use std::alloc::Global;
+
+/// The first line that isn't blank, which has the names.
+fn header(alloc: Global, table: &[u8]) -> Result<Option<ByteRecord>, NoMemory>
+    ensures { IfOk result (λ row. option_map fields_of row ≡ header table.now) }
+{
+    let mut rest = table;
+    while !rest.is_empty() {
+        let (line, behind) = first_line(rest);
+        if let Some(row) = record_of(alloc, line)? {
+            return Ok(Some(row));
+        }
+        rest = behind;
+    }
+    Ok(None)
+}
+
+fn is_process(rows: &[ProcessRow], name: &[u8]) -> bool
+    ensures { result ≡ is_process rows.now name.now }
+{
+    rows.iter().any(|row| name == row.name.as_str().as_bytes())
+}
+
+fn add_column_number(alloc: Global, out: &mut Vec<u8>, place: usize) -> Result<(), NoMemory>
+    requires { place + 1 < 2 ^ 64 }
+    ensures { OnOk result (out.new.items ≡ out.old.items ++ column_number place) }
+{
+    let number = place + 1;
+    let text = format!(in alloc; "times: column {number} is no process\n")?;
+    out.extend_from_slice(text.as_str().as_bytes())?;
+    Ok(())
+}
+
+fn add_stranger(
+    alloc: Global,
+    out: &mut Vec<u8>,
+    rows: &[ProcessRow],
+    place: usize,
+    name: &[u8],
+) -> Result<(), NoMemory>
+    requires { place + 1 < 2 ^ 64 }
+    ensures { OnOk result (out.new.items ≡ out.old.items ++ stranger_told rows.now place (Some name.now)) }
+{
+    if is_process(rows, name) {
+        return Ok(());
+    }
+    add_column_number(alloc, out, place)
+}
+
+fn add_at(
+    alloc: Global,
+    out: &mut Vec<u8>,
+    rows: &[ProcessRow],
+    row: &ByteRecord,
+    place: usize,
+) -> Result<(), NoMemory>
+    ensures { OnOk result (out.new.items ≡ out.old.items ++ stranger_told rows.now place (field_at (fields_of row.now) place)) }
+{
+    match row.get(place) {
+        Some(name) => add_stranger(alloc, out, rows, place, name),
+        None => Ok(()),
+    }
+}
+
+/// Each column that is that of no process, by its number, from 1.
+#[tactic(auto, using(crate::proofs::OneColumn::one_more))]
+fn add_strangers(
+    alloc: Global,
+    out: &mut Vec<u8>,
+    rows: &[ProcessRow],
+    row: &ByteRecord,
+) -> Result<(), NoMemory>
+    ensures { OnOk result (out.new.items ≡ out.old.items ++ strangers_below rows.now (fields_of row.now) (length (fields_of row.now))) }
+{
+    for place in 0..row.len() {
+        add_at(alloc, out, rows, row, place)?;
+    }
+    Ok(())
+}
+
+/// Each column of the table that is that of no process.
+pub(crate) fn strangers_told(
+    alloc: Global,
+    out: &mut Vec<u8>,
+    rows: &[ProcessRow],
+    table: &[u8],
+) -> Result<(), NoMemory>
+    ensures { OnOk result (out.new.items ≡ out.old.items ++ strangers_told rows.now (header table.now)) }
+{
+    match header(alloc, table)? {
+        Some(row) => add_strangers(alloc, out, rows, &row),
+        None => Ok(()),
+    }
+}
