@@ -13,3 +13,6 @@ mod wrong;
 pub use measure::{MAX_RESERVE, Measure, least_law};
 pub use report::{BudgetForm, Budgets, Ended, tell_budgets};
 pub use together::Together;
+
+#[cfg(test)]
+mod tests;
