@@ -1,5 +1,5 @@
 -- The words never ask for a chain of more than 32 processes.
-use Rattle.dk_show_request.proofs.Names.{ℕ, ◌≡◌, ◌<◌, inl, inr, List, [], ◌∷◌, length, arith, drop, subst, sym, Bool, Option, Some, None, IfOk, IfSome, Result, Ok, Err, nat_lt, option_and_then, option_map, cases_Bool, nat_tests, Row, all_of, first_of, MAX_PROCESSES, Command, Drawing, Telling, CheckForm, Range, Request, WindowsForm, app_for, given_by, has, form_of, HasFewNames, asked, asked_by, chain_by, chain_of, chain_with, check_by, check_form_in, drawing_by, faults_by, holds_by, impact_by, picture_by, range_in, repeats_by, repeats_of, replay_by, slack_by, slack_with, repeated_name, is_no_allotment, is_some, find, unwrap_or, if◌then◌else◌, ◌||◌, true, false, telling_by, windows_by, windows_form_in, ticks_in, fits}
+use Rattle.dk_show_request.proofs.Names.{ℕ, ◌≡◌, ◌<◌, inl, inr, List, [], ◌∷◌, length, arith, drop, subst, sym, Bool, Option, Some, None, IfOk, IfSome, Result, Ok, Err, nat_lt, option_and_then, option_map, cases_Bool, nat_tests, Row, all_of, first_of, MAX_PROCESSES, Command, Drawing, Telling, CheckForm, Range, Request, WindowsForm, app_for, given_by, has, Form, HasFewNames, asked, asked_by, chain_by, chain_of, chain_with, check_by, check_form_in, drawing_by, faults_by, holds_by, impact_by, picture_by, range_in, repeats_by, repeats_of, replay_by, slack_by, slack_with, repeated_name, is_no_allotment, is_some, find, unwrap_or, if◌then◌else◌, ◌||◌, true, false, telling_by, windows_by, windows_form_in, ticks_in, fits}
 use Rattle.std.specs.Prelude.{codes}
 use Rattle.dk_show_request.specs.declared.commands.Command.TheVariants as command
 
@@ -106,10 +106,10 @@ asked_few command.Check rows =
 asked_few command.Replay rows =
     replay_few (first_of (codes "PROFILE") rows) (first_of (codes "NAME") rows) (first_of (codes "FILE") rows)
 
-pub asked_by_few : (c : Command) (ws : List (List ℕ)) → Few (asked_by c ws)
-asked_by_few c ws =
-    elim (cases_Bool (fits (form_of c) (drop 1 ws))) [
-      | inl fit ↦ rw fit (then_few (asked c) (given_by (app_for c) ws) (asked_few c))
+pub asked_by_few : (f : Form) (ws : List (List ℕ)) → Few (asked_by f ws)
+asked_by_few f ws =
+    elim (cases_Bool (fits f (drop 1 ws))) [
+      | inl fit ↦ rw fit (then_few (asked f.command) (given_by (app_for f) ws) (asked_few f.command))
       | inr unfit ↦ rw unfit tt
     ]
 

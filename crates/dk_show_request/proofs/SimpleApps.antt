@@ -1,26 +1,24 @@
 -- Each command of `clap` that is made here is simple, and no argument of it has a rule on another.
-use Rattle.dk_show_request.proofs.Names.{◌≡◌, refl, true, is_simple_and_free, Command, app_for}
+use Rattle.dk_show_request.proofs.Names.{ℕ, ◌≡◌, refl, true, inl, inr, List, [], ◌∷◌, Bool, Some, find, list_all, subst, cases_Bool, and_parts, bytes_eq, is_simple_and_free, Form, app_for, forms}
+use Rattle.dk_show_request.specs.Forms.{form_named}
 use Rattle.clap.proofs.OnLiterals.{clap_on_literals}
-use Rattle.dk_show_request.specs.declared.commands.Command.TheVariants as command
-use Rattle.dk_show_request.specs.declared.commands.Drawing.TheVariants as drawing
-use Rattle.dk_show_request.specs.declared.commands.Telling.TheVariants as telling
 
-pub simple_for : (c : Command) → is_simple_and_free (app_for c) ≡ true
+abbrev is_simple_form : Form → Bool
+is_simple_form f = is_simple_and_free (app_for f)
+
+simple_forms : list_all is_simple_form forms ≡ true
 unfolding clap_on_literals
-simple_for command.Picture = refl
-simple_for (command.Draw drawing.Trace) = refl
-simple_for (command.Draw drawing.Vcd) = refl
-simple_for (command.Draw drawing.Csv) = refl
-simple_for command.Windows = refl
-simple_for command.Holds = refl
-simple_for command.Faults = refl
-simple_for (command.Tell telling.Certify) = refl
-simple_for (command.Tell telling.Margins) = refl
-simple_for (command.Tell telling.When) = refl
-simple_for (command.Tell telling.Warnings) = refl
-simple_for command.Slack = refl
-simple_for command.Chain = refl
-simple_for command.Impact = refl
-simple_for command.Repeats = refl
-simple_for command.Check = refl
-simple_for command.Replay = refl
+simple_forms = refl
+
+found_simple : (p : Form → Bool) (fs : List Form) (f : Form) → list_all is_simple_form fs ≡ true → find p fs ≡ Some f → is_simple_form f ≡ true
+found_simple p [] f all e = absurd (cc)
+found_simple p (g ∷ gs) f all e =
+    let parts = and_parts (is_simple_form g) (list_all is_simple_form gs) all in
+    elim (cases_Bool (p g)) [
+      | inl is ↦ let found : Some g ≡ Some f = rw is at e in let same : g ≡ f = cc in subst (λ h. is_simple_form h ≡ true) same parts.0
+      | inr isnt ↦ found_simple p gs f parts.1 (rw isnt at e)
+    ]
+
+pub simple_named : (w : List ℕ) (f : Form) → form_named w ≡ Some f → is_simple_and_free (app_for f) ≡ true
+unfolding form_named
+simple_named w f e = found_simple (λ g. bytes_eq g.word w) forms f simple_forms e

@@ -1,9 +1,9 @@
 -- The reason that is told holds of the words.
-use Rattle.dk_show_request.proofs.Names.{ℕ, ◌≡◌, ◌<◌, ◌+◌, ◌==◌, ◌∙◌, true, false, List, [], ◌∷◌, length, refl, sym, subst, arith, inl, inr, ◌-◌, ◌&&◌, ◌||◌, not, Option, Some, None, find, is_some, nat_lt, slice_get, unwrap_or, if◌then◌else◌, option_map_or, cases_Bool, and_parts, nat_tests, find_at, position_or_len, MAX_PROCESSES, Command, Form, form_of, ticks_in, marks_text, arguments, ends_bare, is_mark, is_option, is_plain_word, is_repeated, is_unfit, unfit_word, word_at, bytes_eq, filter, list_any, allotments_reason, again_reason, allotting, has_same_name, is_no_allotment, name_in, repeated_name, ticks_behind, Reason, count_reason, has_many_names, is_below, is_disordered, is_no_ticks, mark_reason, missing_name, names_reason, no_ticks_word, order_reason, surplus_reason, surplus_word, ticks_reason, unfit_reason, AreNotBelow, HoldsOf, LeavesOut, ReasonsHold, StandsIn}
+use Rattle.dk_show_request.proofs.Names.{ℕ, ◌≡◌, ◌<◌, ◌+◌, ◌==◌, ◌∙◌, true, false, List, [], ◌∷◌, length, refl, sym, subst, arith, inl, inr, ◌-◌, ◌&&◌, ◌||◌, not, Option, Some, None, find, is_some, nat_lt, slice_get, unwrap_or, if◌then◌else◌, option_map_or, cases_Bool, and_parts, nat_tests, find_at, position_or_len, MAX_PROCESSES, Form, Kind, takes_several, takes_ticks, ticks_in, marks_text, arguments, ends_bare, is_mark, is_option, is_plain_word, is_repeated, is_unfit, unfit_word, word_at, bytes_eq, filter, list_any, allotments_reason, again_reason, allotting, has_same_name, is_no_allotment, name_in, repeated_name, ticks_behind, Reason, count_reason, has_many_names, is_below, is_disordered, is_no_ticks, mark_reason, missing_name, names_reason, no_ticks_word, order_reason, surplus_reason, surplus_word, ticks_reason, unfit_reason, AreNotBelow, HoldsOf, LeavesOut, ReasonsHold, StandsIn}
 use Rattle.std.proofs.Common.{Bool, ◌≤◌, ◌⊎◌}
 use Rattle.std.specs.Prelude.{drop}
 use Rattle.std.proofs.lemmas.Slice.Eq.{bytes_eq-Decides}
-use Rattle.dk_show_request.specs.declared.commands.Command.TheVariants as command
+use Rattle.dk_show_request.specs.declared.table.Kind.TheVariants as kind
 
 or_else : {X : Type 0} (P : Reason → Type 0) (g : X → Reason) (o : Option X) (d : Reason)
     → ((x : X) → o ≡ Some x → P (g x)) → (o ≡ None → P d) → P (option_map_or g o d)
@@ -49,16 +49,15 @@ left_out f n name e =
     ]
 
 too_many : (f : Form) (ps ws : List (List ℕ)) (w : List ℕ) → surplus_word f ps ≡ Some w → HoldsOf f ps ws (Reason.surplus w)
-too_many f ps ws w e = go f.repeats refl e
-  where
-    go : (o : Option (List ℕ)) → f.repeats ≡ o
-        → (if is_some o then None else slice_get ps (length f.needed + length f.optional)) ≡ Some w → HoldsOf f ps ws (Reason.surplus w)
-    go None is e = (is, e)
-    go (Some name) is e = absurd (cc)
+too_many f ps ws w e =
+    elim (cases_Bool (takes_several f.kind)) [
+      | inl several ↦ let no : None ≡ Some w = rw several at e in absurd (cc)
+      | inr one ↦ (one, rw one at e)
+    ]
 
 no_number : (f : Form) (ps ws : List (List ℕ)) (w : List ℕ) → no_ticks_word f ps ≡ Some w → HoldsOf f ps ws (Reason.no_ticks w)
 no_number f ps ws w e =
-    elim (cases_Bool f.ticks) [
+    elim (cases_Bool (takes_ticks f.kind)) [
       | inl a ↦ let found : find is_no_ticks (drop 1 ps) ≡ Some w = rw a at e in
           (a, stands is_no_ticks (drop 1 ps) w found, none_in (ticks_in w) (passes is_no_ticks (drop 1 ps) w found))
       | inr a ↦ let no : None ≡ Some w = rw a at e in absurd (cc)
@@ -93,24 +92,18 @@ marks f ps ws =
     (λ once. if_so P (ends_bare f ws) (Reason.bare last) Reason.other (ended f ws) (λ _. tt))
 
 -- what the allotments of a command are among its words
-allots : (c : Command) (ps : List (List ℕ)) → (allotting c ps ≡ drop 1 ps) ⊎ (allotting c ps ≡ [])
-allots command.Slack ps = inl refl
-allots command.Chain ps = inr refl
-allots command.Picture ps = inr refl
-allots (command.Draw d) ps = inr refl
-allots command.Windows ps = inr refl
-allots command.Faults ps = inr refl
-allots (command.Tell t) ps = inr refl
-allots command.Impact ps = inr refl
-allots command.Repeats ps = inr refl
-allots command.Check ps = inr refl
-allots command.Holds ps = inr refl
-allots command.Replay ps = inr refl
+allots : (k : Kind) (ps : List (List ℕ)) → (allotting k ps ≡ drop 1 ps) ⊎ (allotting k ps ≡ [])
+allots kind.Allotments ps = inl refl
+allots kind.Words ps = inr refl
+allots kind.Ticks ps = inr refl
+allots kind.Names ps = inr refl
+allots kind.Processes ps = inr refl
+allots kind.Commands ps = inr refl
 
-no_allot : (c : Command) (ps ws : List (List ℕ)) (w : List ℕ) → find is_no_allotment (allotting c ps) ≡ Some w
-    → HoldsOf (form_of c) ps ws (Reason.no_allotment w)
-no_allot c ps ws w e =
-    elim (allots c ps) [
+no_allot : (f : Form) (ps ws : List (List ℕ)) (w : List ℕ) → find is_no_allotment (allotting f.kind ps) ≡ Some w
+    → HoldsOf f ps ws (Reason.no_allotment w)
+no_allot f ps ws w e =
+    elim (allots f.kind ps) [
       | inl is ↦
           let found : find is_no_allotment (drop 1 ps) ≡ Some w = subst (λ (l : List (List ℕ)). find is_no_allotment l ≡ Some w) is e in
           (stands is_no_allotment (drop 1 ps) w found, none_in (ticks_behind w) (passes is_no_allotment (drop 1 ps) w found))
@@ -149,39 +142,33 @@ twice (w ∷ ws) name e =
           omega (arith, rest, more)
     ]
 
-allotted_twice : (c : Command) (ps ws : List (List ℕ)) (name : List ℕ) → repeated_name (allotting c ps) ≡ Some name
-    → HoldsOf (form_of c) ps ws (Reason.allotted_again name)
-allotted_twice c ps ws name e =
-    elim (allots c ps) [
+allotted_twice : (f : Form) (ps ws : List (List ℕ)) (name : List ℕ) → repeated_name (allotting f.kind ps) ≡ Some name
+    → HoldsOf f ps ws (Reason.allotted_again name)
+allotted_twice f ps ws name e =
+    elim (allots f.kind ps) [
       | inl is ↦ twice (drop 1 ps) name (subst (λ (l : List (List ℕ)). repeated_name l ≡ Some name) is e)
       | inr is ↦ let no : None ≡ Some name = subst (λ (l : List (List ℕ)). repeated_name l ≡ Some name) is e in absurd (cc)
     ]
 
-allotments : (c : Command) (ps ws : List (List ℕ)) → HoldsOf (form_of c) ps ws (allotments_reason c ps ws)
-allotments c ps ws =
-    let P = λ (r : Reason). HoldsOf (form_of c) ps ws r in
-    or_else P Reason.no_allotment (find is_no_allotment (allotting c ps)) (again_reason c ps ws) (no_allot c ps ws)
-    (λ _. or_else P Reason.allotted_again (repeated_name (allotting c ps)) (mark_reason (form_of c) ws) (allotted_twice c ps ws)
-    (λ _. marks (form_of c) ps ws))
+allotments : (f : Form) (ps ws : List (List ℕ)) → HoldsOf f ps ws (allotments_reason f ps ws)
+allotments f ps ws =
+    let P = λ (r : Reason). HoldsOf f ps ws r in
+    or_else P Reason.no_allotment (find is_no_allotment (allotting f.kind ps)) (again_reason f ps ws) (no_allot f ps ws)
+    (λ _. or_else P Reason.allotted_again (repeated_name (allotting f.kind ps)) (mark_reason f ws) (allotted_twice f ps ws)
+    (λ _. marks f ps ws))
 
-many : (c : Command) (ps : List (List ℕ)) → has_many_names c ps ≡ true → MAX_PROCESSES < length (drop 1 ps)
-many command.Chain ps h = grind (arith, nat_tests)
-many command.Picture ps h = absurd (cc)
-many (command.Draw d) ps h = absurd (cc)
-many command.Windows ps h = absurd (cc)
-many command.Faults ps h = absurd (cc)
-many (command.Tell t) ps h = absurd (cc)
-many command.Slack ps h = absurd (cc)
-many command.Impact ps h = absurd (cc)
-many command.Repeats ps h = absurd (cc)
-many command.Check ps h = absurd (cc)
-many command.Holds ps h = absurd (cc)
-many command.Replay ps h = absurd (cc)
+many : (k : Kind) (ps : List (List ℕ)) → has_many_names k ps ≡ true → MAX_PROCESSES < length (drop 1 ps)
+many kind.Processes ps h = grind (arith, nat_tests)
+many kind.Words ps h = absurd (cc)
+many kind.Ticks ps h = absurd (cc)
+many kind.Names ps h = absurd (cc)
+many kind.Allotments ps h = absurd (cc)
+many kind.Commands ps h = absurd (cc)
 
-names : (c : Command) (ps ws : List (List ℕ)) → HoldsOf (form_of c) ps ws (names_reason c ps ws)
-names c ps ws =
-    if_so (HoldsOf (form_of c) ps ws) (has_many_names c ps) Reason.many_names (allotments_reason c ps ws)
-    (many c ps) (λ _. allotments c ps ws)
+names : (f : Form) (ps ws : List (List ℕ)) → HoldsOf f ps ws (names_reason f ps ws)
+names f ps ws =
+    if_so (HoldsOf f ps ws) (has_many_names f.kind ps) Reason.many_names (allotments_reason f ps ws)
+    (many f.kind ps) (λ _. allotments f ps ws)
 
 last_two : (ps : List (List ℕ)) → length ps ≡ 3 → drop 1 ps ≡ word_at ps 1 ∷ word_at ps 2 ∷ []
 last_two [] three = absurd (omega arith)
@@ -193,26 +180,25 @@ last_two (a ∷ b ∷ d ∷ e ∷ more) three = absurd (omega arith)
 disordered : (f : Form) (ps ws : List (List ℕ)) → no_ticks_word f ps ≡ None → is_disordered f ps ≡ true
     → HoldsOf f ps ws (Reason.disorder (word_at ps 1) (word_at ps 2))
 disordered f ps ws e h =
-    let parts = and_parts (f.ticks && (length ps == 3)) (not (is_below (ticks_in (word_at ps 1)) (ticks_in (word_at ps 2)))) h in
-    let kind = and_parts f.ticks (length ps == 3) parts.0 in
+    let parts = and_parts (takes_ticks f.kind && (length ps == 3)) (not (is_below (ticks_in (word_at ps 1)) (ticks_in (word_at ps 2)))) h in
+    let kind = and_parts (takes_ticks f.kind) (length ps == 3) parts.0 in
     let same : (length ps == 3) ≡ true = kind.1 in
     let three : length ps ≡ 3 = grind (arith, nat_tests) in
     let none : find is_no_ticks (drop 1 ps) ≡ None = rw kind.0 at e in
     (kind.0, last_two ps three, not_below (word_at ps 1) (word_at ps 2) (rw (last_two ps three) at none) parts.1)
 
-ordered : (c : Command) (ps ws : List (List ℕ)) → no_ticks_word (form_of c) ps ≡ None
-    → HoldsOf (form_of c) ps ws (order_reason c ps ws)
-ordered c ps ws e =
-    if_so (HoldsOf (form_of c) ps ws) (is_disordered (form_of c) ps) (Reason.disorder (word_at ps 1) (word_at ps 2)) (names_reason c ps ws)
-    (disordered (form_of c) ps ws e) (λ _. names c ps ws)
+ordered : (f : Form) (ps ws : List (List ℕ)) → no_ticks_word f ps ≡ None
+    → HoldsOf f ps ws (order_reason f ps ws)
+ordered f ps ws e =
+    if_so (HoldsOf f ps ws) (is_disordered f ps) (Reason.disorder (word_at ps 1) (word_at ps 2)) (names_reason f ps ws)
+    (disordered f ps ws e) (λ _. names f ps ws)
 
-counted : (c : Command) (ps ws : List (List ℕ)) → HoldsOf (form_of c) ps ws (count_reason c ps ws)
-counted c ps ws =
-    let f = form_of c in
+counted : (f : Form) (ps ws : List (List ℕ)) → HoldsOf f ps ws (count_reason f ps ws)
+counted f ps ws =
     let P = λ (r : Reason). HoldsOf f ps ws r in
-    or_else P Reason.missing (missing_name f (length ps)) (surplus_reason c ps ws) (left_out f (length ps))
-    (λ _. or_else P Reason.surplus (surplus_word f ps) (ticks_reason c ps ws) (too_many f ps ws)
-    (λ _. or_else P Reason.no_ticks (no_ticks_word f ps) (order_reason c ps ws) (no_number f ps ws) (ordered c ps ws)))
+    or_else P Reason.missing (missing_name f (length ps)) (surplus_reason f ps ws) (left_out f (length ps))
+    (λ _. or_else P Reason.surplus (surplus_word f ps) (ticks_reason f ps ws) (too_many f ps ws)
+    (λ _. or_else P Reason.no_ticks (no_ticks_word f ps) (order_reason f ps ws) (no_number f ps ws) (ordered f ps ws)))
 
 unfit : (f : Form) (ps ws : List (List ℕ)) (w : List ℕ) → unfit_word f ws ≡ Some w → HoldsOf f ps ws (unfit_reason w)
 unfit f ps ws w e =
@@ -222,7 +208,6 @@ unfit f ps ws w e =
     (stands (is_unfit f) ws w e, parts.1, parts.0))
 
 pub reasons_hold : ReasonsHold
-reasons_hold c ws =
-    let f = form_of c in
-    or_else (HoldsOf f (arguments f ws) ws) unfit_reason (unfit_word f ws) (count_reason c (arguments f ws) ws)
-    (unfit f (arguments f ws) ws) (λ _. counted c (arguments f ws) ws)
+reasons_hold f ws =
+    or_else (HoldsOf f (arguments f ws) ws) unfit_reason (unfit_word f ws) (count_reason f (arguments f ws) ws)
+    (unfit f (arguments f ws) ws) (λ _. counted f (arguments f ws) ws)

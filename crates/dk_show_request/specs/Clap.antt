@@ -1,13 +1,9 @@
 -- What `clap` is given for a command, and what it makes of words.
-use Rattle.std.specs.Prelude.{ℕ, Bool, true, false, ◌==◌, codes, length, List, [], ◌∷◌, Option, Some, None, if◌then◌else◌}
+use Rattle.std.specs.Prelude.{ℕ, Bool, true, false, ◌==◌, ◌&&◌, nat_lt, codes, length, map, List, [], ◌∷◌, ◌++◌, Option, Some, None, if◌then◌else◌}
 use Rattle.std.specs.Str.{bytes_eq}
 use Rattle.clap.specs.Words.{App, Row, Rule, Text, first_of, fault_of, matches_of, new_app, new_rule, with_rule}
 use Rattle.clap.specs.declared.builder.action.ArgAction.TheVariants.{Append, Set, SetTrue}
-use Rattle.dk_show_request.specs.declared.clap_commands.Argument.{Argument}
-use Rattle.dk_show_request.specs.declared.clap_commands.Argument.TheVariants as kind
-use Rattle.dk_show_request.specs.declared.commands.Command.{Command}
-use Rattle.dk_show_request.specs.declared.commands.Command.TheVariants as command
-use Rattle.dk_show_request.specs.Commands.{word_of}
+use Rattle.dk_show_request.specs.Forms.{Form, takes_several}
 
 -- an argument of this name
 abbrev pub argument : List ℕ → Bool → Rule
@@ -25,76 +21,32 @@ flag name = record (new_rule name) { long = Some name; action = Some SetTrue }
 abbrev pub option : List ℕ → Rule
 option name = record (new_rule name) { long = Some name; action = Some Set }
 
--- what `clap` is told of an argument
-abbrev pub rule_for : Argument → Rule
-rule_for (kind.One name required) = argument name.now required
-rule_for (kind.Many name required) = many_argument name.now required
-rule_for (kind.Flag name) = flag name.now
-rule_for (kind.Value name) = option name.now
+-- of an argument, which stands for one word or, if it repeats, several
+abbrev pub word_rule : List ℕ → Bool → Bool → Rule
+word_rule name required repeats = if repeats then many_argument name required else argument name required
 
--- for each form what `clap` is told of its arguments, flags and options
+-- of arguments, of which the last may repeat
+abbrev pub word_rules : List (List ℕ) → Bool → Bool → List Rule
+word_rules [] required repeats = []
+word_rules (name ∷ rest) required repeats =
+    word_rule name required (repeats && (length rest == 0)) ∷ word_rules rest required repeats
 
-abbrev pub range_rules : List Rule
-range_rules = argument (codes "LEDGER") true ∷ argument (codes "FROM") false ∷ argument (codes "TO") false ∷ []
+abbrev pub mark_rule : Bool → List ℕ → Rule
+mark_rule valued name = if valued then option name else flag name
 
-abbrev pub picture_rules : List Rule
-picture_rules = argument (codes "LEDGER") true ∷ argument (codes "FROM") false ∷ argument (codes "TO") false
-    ∷ option (codes "config") ∷ []
-
-abbrev pub windows_rules : List Rule
-windows_rules = argument (codes "LEDGER") true ∷ flag (codes "strict") ∷ flag (codes "sparing") ∷ flag (codes "all")
-    ∷ flag (codes "tenths") ∷ flag (codes "csv") ∷ []
-
-abbrev pub holds_rules : List Rule
-holds_rules = argument (codes "LEDGER") true ∷ argument (codes "FILE") false ∷ []
-
-abbrev pub file_rules : List Rule
-file_rules = argument (codes "FILE") true ∷ []
-
-abbrev pub telling_rules : List Rule
-telling_rules = argument (codes "FILE") true ∷ flag (codes "csv") ∷ []
-
-abbrev pub slack_rules : List Rule
-slack_rules = argument (codes "FILE") true ∷ many_argument (codes "NAME=TICKS") false ∷ flag (codes "csv") ∷ []
-
-abbrev pub chain_rules : List Rule
-chain_rules = argument (codes "FILE") true ∷ many_argument (codes "NAME") true ∷ option (codes "ledger") ∷ []
-
-abbrev pub change_rules : List Rule
-change_rules = argument (codes "OLD") true ∷ argument (codes "NEW") true ∷ many_argument (codes "NAME") false
-    ∷ flag (codes "csv") ∷ []
-
-abbrev pub ticks_rules : List Rule
-ticks_rules = argument (codes "FILE") true ∷ argument (codes "TICKS") true ∷ []
-
-abbrev pub check_rules : List Rule
-check_rules = argument (codes "FILE") true ∷ argument (codes "NEEDS") true ∷ argument (codes "LEDGER") false
-    ∷ flag (codes "csv") ∷ flag (codes "junit") ∷ []
-
-abbrev pub replay_rules : List Rule
-replay_rules = argument (codes "PROFILE") true ∷ argument (codes "NAME") true ∷ argument (codes "FILE") true ∷ []
-
-abbrev pub rules_for : Command → List Rule
-rules_for command.Picture = picture_rules
-rules_for (command.Draw d) = range_rules
-rules_for command.Windows = windows_rules
-rules_for command.Holds = holds_rules
-rules_for command.Faults = file_rules
-rules_for (command.Tell t) = telling_rules
-rules_for command.Slack = slack_rules
-rules_for command.Chain = chain_rules
-rules_for command.Impact = change_rules
-rules_for command.Repeats = ticks_rules
-rules_for command.Check = check_rules
-rules_for command.Replay = replay_rules
+-- what `clap` is told of the arguments, flags and options of a command
+abbrev pub rules_for : Form → List Rule
+rules_for f =
+    word_rules f.needed true (takes_several f.kind && (length f.optional == 0))
+    ++ (word_rules f.optional false (takes_several f.kind) ++ map (mark_rule (nat_lt 0 (length f.value))) f.marks)
 
 abbrev pub with_rules : App → List Rule → App
 with_rules app [] = app
 with_rules app (rule ∷ rules) = with_rules (with_rule app rule) rules
 
 -- what `clap` is given for a command
-abbrev pub app_for : Command → App
-app_for c = with_rules (new_app (word_of c)) (rules_for c)
+abbrev pub app_for : Form → App
+app_for f = with_rules (new_app f.word) (rules_for f)
 
 -- the text of a flag is "true" or "false"
 abbrev pub is_true : Option Text → Bool

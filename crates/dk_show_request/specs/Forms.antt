@@ -1,82 +1,88 @@
--- What may stand behind each command word.
-use Rattle.std.specs.Prelude.{ℕ, Bool, false, true, codes, List, [], ◌∷◌, Option, Some, None}
+-- The table of commands: what may stand behind each command word.
+use Rattle.std.specs.Prelude.{ℕ, Bool, false, true, find, map, List, Option}
+use Rattle.std.specs.Borrow.{Bor}
+use Rattle.std.specs.Str.{bytes_eq}
 use Rattle.dk_show_request.specs.declared.commands.Command.{Command}
-use Rattle.dk_show_request.specs.declared.commands.Command.TheVariants as command
+use Rattle.dk_show_request.specs.declared.table.Kind.{Kind}
+use Rattle.dk_show_request.specs.declared.table.Kind.TheVariants as kind
+use Rattle.dk_show_request.specs.declared.table.TheConstants.{COMMANDS}
 
 pub record Form : Type 0 where
+  pub command : Command
+  pub word : List ℕ
   -- the names of the arguments that must stand, in order
   pub needed : List (List ℕ)
   -- of those behind them that all stand or none
   pub optional : List (List ℕ)
-  -- the name of the last of both, if it stands for one word or several
-  pub repeats : Option (List ℕ)
-  -- the flags or options, of which one at most may stand, anywhere
+  -- what stands for those behind the first
+  pub kind : Kind
+  -- the names of the flags or options, each behind two dashes, of which one at most may stand, anywhere
   pub marks : List (List ℕ)
-  -- the name of the word behind them, if they are options
-  pub value : Option (List ℕ)
-  -- whether the arguments behind the first are ticks
-  pub ticks : Bool
+  -- the name of the word behind them, if they are options, else nothing
+  pub value : List ℕ
+  -- what the command is for, and a call of it
+  pub about : List ℕ
+  pub example : List ℕ
 
--- a form of these arguments alone
-abbrev pub plain : List (List ℕ) → List (List ℕ) → Bool → Form
-plain needed optional ticks =
-    record { needed = needed; optional = optional; repeats = None; marks = []; value = None; ticks = ticks }
+-- the last argument stands for one word or several
+abbrev pub takes_several : Kind → Bool
+takes_several kind.Names = true
+takes_several kind.Processes = true
+takes_several kind.Allotments = true
+takes_several _ = false
 
-abbrev pub range_form : Form
-range_form = plain (codes "LEDGER" ∷ []) (codes "FROM" ∷ codes "TO" ∷ []) true
+-- those behind the first are ticks
+abbrev pub takes_ticks : Kind → Bool
+takes_ticks kind.Ticks = true
+takes_ticks _ = false
 
-abbrev pub picture_form : Form
-picture_form = record range_form { marks = codes "--config" ∷ []; value = Some (codes "FILE") }
+-- a row of the table as the program has it, by references
+abbrev pub Words : Type 0
+Words = Bor (List (Bor (List ℕ)))
 
-abbrev pub windows_form : Form
-windows_form = record (plain (codes "LEDGER" ∷ []) [] false) {
-  marks = codes "--strict" ∷ codes "--sparing" ∷ codes "--all" ∷ codes "--tenths" ∷ codes "--csv" ∷ [];
+abbrev pub RowLent : Type 0
+RowLent = Command × Bor (List ℕ) × (Words × Words × Kind) × (Words × Bor (List ℕ)) × (Bor (List ℕ) × Bor (List ℕ))
+
+abbrev pub form_lent : RowLent → Form
+form_lent r = record {
+  command = r.0;
+  word = r.1.now;
+  needed = map (λ w. w.now) r.2.0.now;
+  optional = map (λ w. w.now) r.2.1.now;
+  kind = r.2.2;
+  marks = map (λ w. w.now) r.3.0.now;
+  value = r.3.1.now;
+  about = r.4.0.now;
+  example = r.4.1.now;
 }
 
-abbrev pub holds_form : Form
-holds_form = plain (codes "LEDGER" ∷ []) (codes "FILE" ∷ []) false
+-- and as a statement has one of a constant
+abbrev pub Text : Type 0
+Text = record { now : List ℕ }
 
-abbrev pub file_form : Form
-file_form = plain (codes "FILE" ∷ []) [] false
+abbrev pub Texts : Type 0
+Texts = record { now : List Text }
 
-abbrev pub telling_form : Form
-telling_form = record (plain (codes "FILE" ∷ []) [] false) { marks = codes "--csv" ∷ [] }
+abbrev pub RowConstant : Type 0
+RowConstant = Command × Text × (Texts × Texts × Kind) × (Texts × Text) × (Text × Text)
 
-abbrev pub slack_form : Form
-slack_form = record (plain (codes "FILE" ∷ []) (codes "NAME=TICKS" ∷ []) false)
-    { repeats = Some (codes "NAME=TICKS"); marks = codes "--csv" ∷ [] }
-
-abbrev pub chain_form : Form
-chain_form = record (plain (codes "FILE" ∷ codes "NAME" ∷ []) [] false) {
-  repeats = Some (codes "NAME");
-  marks = codes "--ledger" ∷ [];
-  value = Some (codes "LEDGER");
+abbrev pub form_constant : RowConstant → Form
+form_constant r = record {
+  command = r.0;
+  word = r.1.now;
+  needed = map (λ w. w.now) r.2.0.now;
+  optional = map (λ w. w.now) r.2.1.now;
+  kind = r.2.2;
+  marks = map (λ w. w.now) r.3.0.now;
+  value = r.3.1.now;
+  about = r.4.0.now;
+  example = r.4.1.now;
 }
 
-abbrev pub change_form : Form
-change_form = record (plain (codes "OLD" ∷ codes "NEW" ∷ []) (codes "NAME" ∷ []) false)
-    { repeats = Some (codes "NAME"); marks = codes "--csv" ∷ [] }
+-- the commands, in the order of the usage line
+abbrev pub forms : List Form
+forms = map form_constant COMMANDS.now
 
-abbrev pub ticks_form : Form
-ticks_form = plain (codes "FILE" ∷ codes "TICKS" ∷ []) [] true
-
-abbrev pub check_form : Form
-check_form = record (plain (codes "FILE" ∷ codes "NEEDS" ∷ []) (codes "LEDGER" ∷ []) false)
-    { marks = codes "--csv" ∷ codes "--junit" ∷ [] }
-
-abbrev pub replay_form : Form
-replay_form = plain (codes "PROFILE" ∷ codes "NAME" ∷ codes "FILE" ∷ []) [] false
-
-abbrev pub form_of : Command → Form
-form_of command.Picture = picture_form
-form_of (command.Draw d) = range_form
-form_of command.Windows = windows_form
-form_of command.Holds = holds_form
-form_of command.Faults = file_form
-form_of (command.Tell t) = telling_form
-form_of command.Slack = slack_form
-form_of command.Chain = chain_form
-form_of command.Impact = change_form
-form_of command.Repeats = ticks_form
-form_of command.Check = check_form
-form_of command.Replay = replay_form
+-- the command of this word
+unfoldable pub form_named : List ℕ → Option Form
+form_named word = find (λ f. bytes_eq f.word word) forms

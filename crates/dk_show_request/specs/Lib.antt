@@ -1,5 +1,4 @@
 pub mod Numbers
-pub mod Commands
 pub mod Forms
 pub mod Words
 pub mod Clap

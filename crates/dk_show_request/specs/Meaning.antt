@@ -16,8 +16,7 @@ use Rattle.dk_show_request.specs.declared.request.Request.TheVariants as request
 use Rattle.dk_show_request.specs.Allotments.{allotment_of, is_no_allotment, repeated_name}
 use Rattle.dk_show_request.specs.Chain.{ChainAsk}
 use Rattle.dk_show_request.specs.Clap.{app_for, given_by, has}
-use Rattle.dk_show_request.specs.Commands.{command_named}
-use Rattle.dk_show_request.specs.Forms.{form_of}
+use Rattle.dk_show_request.specs.Forms.{Form, form_named}
 use Rattle.dk_show_request.specs.Numbers.{ticks_in}
 use Rattle.dk_show_request.specs.Words.{fits, word_at}
 
@@ -148,13 +147,13 @@ asked command.Replay rows = replay_by (first_of (codes "PROFILE") rows) (first_o
     (first_of (codes "FILE") rows)
 
 -- What a command is asked by the words from its own on. `clap` decides which words stand for which arguments.
-abbrev pub asked_by : Command → List (List ℕ) → Option Request
-asked_by c ws =
-    if fits (form_of c) (drop 1 ws) then option_and_then (asked c) (given_by (app_for c) ws) else None
+abbrev pub asked_by : Form → List (List ℕ) → Option Request
+asked_by f ws =
+    if fits f (drop 1 ws) then option_and_then (asked f.command) (given_by (app_for f) ws) else None
 
 -- what the words ask for; the first is the program's name and isn't looked at
 unfoldable pub meaning : List (List ℕ) → Option Request
-meaning words = option_and_then (λ c. asked_by c (drop 1 words)) (command_named (word_at words 1))
+meaning words = option_and_then (λ f. asked_by f (drop 1 words)) (form_named (word_at words 1))
 
 -- a drawing is written line by line, and all else once it is made
 abbrev pub DrawsNothing : Request → Type 0

@@ -3,11 +3,10 @@ use Rattle.std.specs.Prelude.{ℕ, ◌+◌, ◌-◌, ◌==◌, ◌&&◌, ◌||�
 use Rattle.std.specs.List.{list_any}
 use Rattle.std.specs.Option.{option_map_or}
 use Rattle.dk_config.specs.declared.TheConstants.{MAX_PROCESSES, MAX_RUN_TICKS}
-use Rattle.dk_show_request.specs.declared.commands.Command.{Command}
-use Rattle.dk_show_request.specs.declared.commands.Command.TheVariants as command
-use Rattle.dk_show_request.specs.Commands.{command_named, word_of}
+use Rattle.dk_show_request.specs.declared.table.Kind.{Kind}
+use Rattle.dk_show_request.specs.declared.table.Kind.TheVariants as kind
 use Rattle.dk_show_request.specs.Allotments.{is_no_allotment, repeated_name}
-use Rattle.dk_show_request.specs.Forms.{Form, form_of}
+use Rattle.dk_show_request.specs.Forms.{Form, form_named, takes_several, takes_ticks}
 use Rattle.dk_show_request.specs.Numbers.{ticks_in}
 use Rattle.dk_show_request.specs.Usage.{marks_text}
 use Rattle.dk_show_request.specs.Words.{arguments, ends_bare, is_repeated, unfit_word, word_at}
@@ -48,25 +47,26 @@ missing_name f n =
 
 -- the first word for which no argument is left
 abbrev pub surplus_word : Form → List (List ℕ) → Option (List ℕ)
-surplus_word f ps = if is_some f.repeats then None else slice_get ps (length f.needed + length f.optional)
+surplus_word f ps = if takes_several f.kind then None else slice_get (drop (length f.needed) ps) (length f.optional)
 
 abbrev pub is_no_ticks : List ℕ → Bool
 is_no_ticks w = not (is_some (ticks_in w))
 
 abbrev pub no_ticks_word : Form → List (List ℕ) → Option (List ℕ)
-no_ticks_word f ps = if f.ticks then find is_no_ticks (drop 1 ps) else None
+no_ticks_word f ps = if takes_ticks f.kind then find is_no_ticks (drop 1 ps) else None
 
 abbrev pub is_below : Option ℕ → Option ℕ → Bool
 is_below (Some from) (Some to) = nat_lt from to
 is_below _ _ = false
 
-abbrev pub has_many_names : Command → List (List ℕ) → Bool
-has_many_names command.Chain ps = nat_lt MAX_PROCESSES (length (drop 1 ps))
+-- more of a chain than a configuration has processes
+abbrev pub has_many_names : Kind → List (List ℕ) → Bool
+has_many_names kind.Processes ps = nat_lt MAX_PROCESSES (length (drop 1 ps))
 has_many_names _ ps = false
 
--- of a command that takes allotments the words that are to be such
-abbrev pub allotting : Command → List (List ℕ) → List (List ℕ)
-allotting command.Slack ps = drop 1 ps
+-- of the words those that are to be allotments
+abbrev pub allotting : Kind → List (List ℕ) → List (List ℕ)
+allotting kind.Allotments ps = drop 1 ps
 allotting _ ps = []
 
 -- of the flags and options
@@ -76,42 +76,41 @@ mark_reason f ws =
     else if ends_bare f ws then bare (word_at ws (length ws - 1))
     else other
 
-abbrev pub again_reason : Command → List (List ℕ) → List (List ℕ) → Reason
-again_reason c ps ws = option_map_or allotted_again (repeated_name (allotting c ps)) (mark_reason (form_of c) ws)
+abbrev pub again_reason : Form → List (List ℕ) → List (List ℕ) → Reason
+again_reason f ps ws = option_map_or allotted_again (repeated_name (allotting f.kind ps)) (mark_reason f ws)
 
 -- of allotments, and of the flags and options
-abbrev pub allotments_reason : Command → List (List ℕ) → List (List ℕ) → Reason
-allotments_reason c ps ws = option_map_or no_allotment (find is_no_allotment (allotting c ps)) (again_reason c ps ws)
+abbrev pub allotments_reason : Form → List (List ℕ) → List (List ℕ) → Reason
+allotments_reason f ps ws = option_map_or no_allotment (find is_no_allotment (allotting f.kind ps)) (again_reason f ps ws)
 
-abbrev pub names_reason : Command → List (List ℕ) → List (List ℕ) → Reason
-names_reason c ps ws = if has_many_names c ps then many_names else allotments_reason c ps ws
+abbrev pub names_reason : Form → List (List ℕ) → List (List ℕ) → Reason
+names_reason f ps ws = if has_many_names f.kind ps then many_names else allotments_reason f ps ws
 
 -- the words stand for a file, FROM and TO, and FROM isn't below TO
 abbrev pub is_disordered : Form → List (List ℕ) → Bool
 is_disordered f ps =
-    (f.ticks && (length ps == 3)) && not (is_below (ticks_in (word_at ps 1)) (ticks_in (word_at ps 2)))
+    (takes_ticks f.kind && (length ps == 3)) && not (is_below (ticks_in (word_at ps 1)) (ticks_in (word_at ps 2)))
 
-abbrev pub order_reason : Command → List (List ℕ) → List (List ℕ) → Reason
-order_reason c ps ws =
-    if is_disordered (form_of c) ps then disorder (word_at ps 1) (word_at ps 2) else names_reason c ps ws
+abbrev pub order_reason : Form → List (List ℕ) → List (List ℕ) → Reason
+order_reason f ps ws =
+    if is_disordered f ps then disorder (word_at ps 1) (word_at ps 2) else names_reason f ps ws
 
-abbrev pub ticks_reason : Command → List (List ℕ) → List (List ℕ) → Reason
-ticks_reason c ps ws = option_map_or no_ticks (no_ticks_word (form_of c) ps) (order_reason c ps ws)
+abbrev pub ticks_reason : Form → List (List ℕ) → List (List ℕ) → Reason
+ticks_reason f ps ws = option_map_or no_ticks (no_ticks_word f ps) (order_reason f ps ws)
 
-abbrev pub surplus_reason : Command → List (List ℕ) → List (List ℕ) → Reason
-surplus_reason c ps ws = option_map_or surplus (surplus_word (form_of c) ps) (ticks_reason c ps ws)
+abbrev pub surplus_reason : Form → List (List ℕ) → List (List ℕ) → Reason
+surplus_reason f ps ws = option_map_or surplus (surplus_word f ps) (ticks_reason f ps ws)
 
 -- of the words that stand for arguments, and all
-abbrev pub count_reason : Command → List (List ℕ) → List (List ℕ) → Reason
-count_reason c ps ws = option_map_or missing (missing_name (form_of c) (length ps)) (surplus_reason c ps ws)
+abbrev pub count_reason : Form → List (List ℕ) → List (List ℕ) → Reason
+count_reason f ps ws = option_map_or missing (missing_name f (length ps)) (surplus_reason f ps ws)
 
 abbrev pub unfit_reason : List ℕ → Reason
 unfit_reason w = if length w == 0 then empty else no_flag w
 
 -- why the words behind the command word are no call of the command
-abbrev pub reason : Command → List (List ℕ) → Reason
-reason c ws =
-    option_map_or unfit_reason (unfit_word (form_of c) ws) (count_reason c (arguments (form_of c) ws) ws)
+abbrev pub reason : Form → List (List ℕ) → Reason
+reason f ws = option_map_or unfit_reason (unfit_word f ws) (count_reason f (arguments f ws) ws)
 
 abbrev pub is_control : ℕ → Bool
 is_control b = nat_lt b 32 || b == 127
@@ -139,11 +138,11 @@ reason_text (bare w) = codes "a word is wanted behind " ++ (shown w ++ codes "\n
 reason_text other = codes "these words are no call of it\n"
 
 -- of a command the word, and why the words behind it are no call of it
-abbrev pub wrong_with : List ℕ → Option Command → List (List ℕ) → List ℕ
+abbrev pub wrong_with : List ℕ → Option Form → List (List ℕ) → List ℕ
 wrong_with w None ws = shown w ++ codes " is no command\n"
-wrong_with w (Some c) ws = word_of c ++ (codes ": " ++ reason_text (reason c ws))
+wrong_with w (Some f) ws = f.word ++ (codes ": " ++ reason_text (reason f ws))
 
 -- a line that says why the words mean nothing; the first is the program's name
 abbrev pub wrong_text : List (List ℕ) → List ℕ
-wrong_text (program ∷ w ∷ ws) = wrong_with w (command_named w) ws
+wrong_text (program ∷ w ∷ ws) = wrong_with w (form_named w) ws
 wrong_text _ = codes "a command is wanted\n"

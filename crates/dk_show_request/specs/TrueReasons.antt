@@ -2,10 +2,9 @@
 use Rattle.std.specs.Prelude.{ℕ, ◌≡◌, ◌<◌, ◌≤◌, ◌+◌, ◌-◌, ◌⊎◌, false, true, drop, filter, length, slice_get, List, [], ◌∷◌, ◌++◌, Some, None}
 use Rattle.std.specs.List.{list_any}
 use Rattle.dk_config.specs.declared.TheConstants.{MAX_PROCESSES}
-use Rattle.dk_show_request.specs.declared.commands.Command.{Command}
 use Rattle.std.specs.Str.{bytes_eq}
 use Rattle.dk_show_request.specs.Allotments.{name_in, ticks_behind}
-use Rattle.dk_show_request.specs.Forms.{Form, form_of}
+use Rattle.dk_show_request.specs.Forms.{Form, takes_several, takes_ticks}
 use Rattle.dk_show_request.specs.Numbers.{ticks_in}
 use Rattle.dk_show_request.specs.Reasons.{Reason, is_control, reason, wrong_text}
 use Rattle.dk_show_request.specs.Usage.{marks_text}
@@ -28,9 +27,9 @@ abbrev pub HoldsOf : Form → List (List ℕ) → List (List ℕ) → Reason →
 HoldsOf f ps ws (Reason.no_flag w) = StandsIn ws w × (is_plain_word w ≡ false) × (is_mark f w ≡ false)
 HoldsOf f ps ws Reason.empty = StandsIn ws []
 HoldsOf f ps ws (Reason.missing name) = LeavesOut f (length ps) name
-HoldsOf f ps ws (Reason.surplus w) = (f.repeats ≡ None) × (slice_get ps (length f.needed + length f.optional) ≡ Some w)
-HoldsOf f ps ws (Reason.no_ticks w) = (f.ticks ≡ true) × StandsIn (drop 1 ps) w × (ticks_in w ≡ None)
-HoldsOf f ps ws (Reason.disorder from to) = (f.ticks ≡ true) × (drop 1 ps ≡ from ∷ to ∷ []) × AreNotBelow from to
+HoldsOf f ps ws (Reason.surplus w) = (takes_several f.kind ≡ false) × (slice_get (drop (length f.needed) ps) (length f.optional) ≡ Some w)
+HoldsOf f ps ws (Reason.no_ticks w) = (takes_ticks f.kind ≡ true) × StandsIn (drop 1 ps) w × (ticks_in w ≡ None)
+HoldsOf f ps ws (Reason.disorder from to) = (takes_ticks f.kind ≡ true) × (drop 1 ps ≡ from ∷ to ∷ []) × AreNotBelow from to
 HoldsOf f ps ws Reason.many_names = MAX_PROCESSES < length (drop 1 ps)
 HoldsOf f ps ws (Reason.no_allotment w) = StandsIn (drop 1 ps) w × (ticks_behind w ≡ None)
 HoldsOf f ps ws (Reason.allotted_again name) = 1 < length (filter (λ w. bytes_eq name (name_in w)) (drop 1 ps))
@@ -39,11 +38,11 @@ HoldsOf f ps ws (Reason.bare w) = (slice_get ws (length ws - 1) ≡ Some w) × (
 HoldsOf f ps ws Reason.other = Unit {0}
 
 -- what the reason says holds of the words behind the command word
-abbrev pub Holds : Command → List (List ℕ) → Reason → Type 0
-Holds c ws r = HoldsOf (form_of c) (arguments (form_of c) ws) ws r
+abbrev pub Holds : Form → List (List ℕ) → Reason → Type 0
+Holds f ws r = HoldsOf f (arguments f ws) ws r
 
 abbrev pub ReasonsHold : Type 0
-ReasonsHold = (c : Command) (ws : List (List ℕ)) → Holds c ws (reason c ws)
+ReasonsHold = (f : Form) (ws : List (List ℕ)) → Holds f ws (reason f ws)
 
 -- a line: the line feed at its end is its only control character
 abbrev pub IsLine : List ℕ → Type 0

@@ -1,5 +1,5 @@
 -- Which words behind a command word stand for what.
-use Rattle.std.specs.Prelude.{ℕ, ◌-◌, ◌==◌, ◌&&◌, ◌||◌, not, Bool, false, filter, find, is_some, length, nat_lt, slice_get, slice_index, unwrap_or, List, [], ◌∷◌, Option, if◌then◌else◌}
+use Rattle.std.specs.Prelude.{ℕ, ◌-◌, ◌==◌, ◌&&◌, ◌||◌, not, Bool, false, codes, filter, find, is_some, length, nat_lt, slice_get, slice_index, unwrap_or, List, [], ◌∷◌, ◌++◌, Option, if◌then◌else◌}
 use Rattle.std.specs.List.{list_any}
 use Rattle.std.specs.Option.{option_map_or}
 use Rattle.std.specs.Str.{bytes_eq}
@@ -9,13 +9,17 @@ use Rattle.dk_show_request.specs.Forms.{Form}
 abbrev pub is_plain_word : List ℕ → Bool
 is_plain_word w = nat_lt 0 (length w) && not (slice_index w 0 == 45)
 
+-- a flag or an option of this name, as it is written
+abbrev pub dashed : List ℕ → List ℕ
+dashed name = codes "--" ++ name
+
 -- the word is a flag or an option
 abbrev pub is_mark : Form → List ℕ → Bool
-is_mark f w = list_any (bytes_eq w) f.marks
+is_mark f w = list_any (λ m. bytes_eq w (dashed m)) f.marks
 
 -- the word is an option
 abbrev pub is_option : Form → List ℕ → Bool
-is_option f w = is_some f.value && is_mark f w
+is_option f w = nat_lt 0 (length f.value) && is_mark f w
 
 -- the words that stand for arguments: no flag or option, and not the word behind an option
 abbrev pub arguments_behind : Form → Bool → List (List ℕ) → List (List ℕ)

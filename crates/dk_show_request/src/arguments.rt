@@ -1,9 +1,9 @@
 //! Which words behind a command word stand for what.
-ghost use Rattle.std.specs.Prelude.{◌≡◌, ◌+◌, ◌<◌, IfOk, filter, find, length, map, option_map, string_bytes};
+ghost use Rattle.std.specs.Prelude.{◌≡◌, IfOk, drop, filter, find, length, map, option_map, string_bytes};
 ghost use Rattle.std.specs.List.{list_any};
 ghost use Rattle.std.specs.Str.{bytes_eq};
 ghost use Rattle.dk_show_request.specs.Reasons.{is_no_ticks, missing_name, no_ticks_word, surplus_word};
-ghost use Rattle.dk_show_request.specs.Words.{arguments, fits, is_mark, is_option, is_plain_word, is_repeated, is_unfit, unfit_word};
+ghost use Rattle.dk_show_request.specs.Words.{arguments, dashed, fits, is_mark, is_option, is_plain_word, is_repeated, is_unfit, unfit_word};
 
 use crate::forms::Form;
 use crate::numbers::ticks_in;
@@ -18,10 +18,20 @@ fn is_plain_word(word: &String) -> bool
     }
 }
 
-fn is_among(marks: &[&str], word: &String) -> bool
-    ensures { result ≡ list_any (λ m. bytes_eq (string_bytes word.now) m.now) marks.now }
+/// Whether the word is a flag or an option of this name.
+fn is_dashed(word: &String, name: &str) -> bool
+    ensures { result ≡ bytes_eq (string_bytes word.now) (dashed name.now) }
 {
-    marks.iter().any(|mark| word.as_str() == *mark)
+    match word.as_bytes() {
+        [b'-', b'-', behind @ ..] => behind == name.as_bytes(),
+        _ => false,
+    }
+}
+
+fn is_among(names: &[&str], word: &String) -> bool
+    ensures { result ≡ list_any (λ m. bytes_eq (string_bytes word.now) (dashed m.now)) names.now }
+{
+    names.iter().any(|name| is_dashed(word, name))
 }
 
 /// The word is a flag or an option.
@@ -35,7 +45,7 @@ fn is_mark(form: &Form, word: &String) -> bool
 pub fn is_option(form: &Form, word: &String) -> bool
     ensures { result ≡ is_option form.now (string_bytes word.now) }
 {
-    form.value.is_some() && is_mark(form, word)
+    !form.value.is_empty() && is_mark(form, word)
 }
 
 /// The words that stand for arguments: no flag or option, and not the word behind an option.
@@ -93,15 +103,27 @@ pub fn missing_name(form: &Form, count: usize) -> Option<&'static str>
     }
 }
 
+/// The words behind so many.
+fn behind<'a, 'b>(given: &'b [&'a str], count: usize) -> &'b [&'a str]
+    ensures { map (λ w. w.now) result.now ≡ drop count (map (λ w. w.now) given.entry.now) }
+{
+    if count <= given.len() {
+        &given[count..]
+    } else {
+        &[]
+    }
+}
+
 /// The first word for which no argument is left.
 pub fn surplus_word<'a>(form: &Form, given: &[&'a str]) -> Option<&'a str>
-    requires { length form.now.needed + length form.now.optional < 100 }
     ensures { option_map (λ w. w.now) result ≡ surplus_word form.now (map (λ w. w.now) given.now) }
 {
-    if form.repeats.is_some() {
+    if form.kind.takes_several() {
         None
     } else {
-        given.get(form.needed.len() + form.optional.len()).copied()
+        behind(given, form.needed.len())
+            .get(form.optional.len())
+            .copied()
     }
 }
 
@@ -128,7 +150,7 @@ pub fn no_ticks_word<'a>(form: &Form, given: &[&'a str]) -> Option<&'a str>
     ensures { option_map (λ w. w.now) result ≡ no_ticks_word form.now (map (λ w. w.now) given.now) }
 {
     match given {
-        [_, ticks @ ..] if form.ticks => first_no_ticks(ticks),
+        [_, ticks @ ..] if form.kind.takes_ticks() => first_no_ticks(ticks),
         _ => None,
     }
 }

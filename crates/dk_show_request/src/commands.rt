@@ -1,6 +1,4 @@
 //! The commands.
-ghost use Rattle.std.specs.Prelude.{◌≡◌};
-ghost use Rattle.dk_show_request.specs.Commands.{command_named, word_of};
 
 /// What is drawn of a range of a ledger.
 #[derive(Clone, Copy)]
@@ -51,63 +49,4 @@ pub enum Command {
     Check,
     /// The source of a program that takes the times of a profile.
     Replay,
-}
-
-/// In the order of the usage line.
-const COMMANDS: [Command; 17] = [
-    Command::Picture,
-    Command::Draw(Drawing::Trace),
-    Command::Draw(Drawing::Vcd),
-    Command::Draw(Drawing::Csv),
-    Command::Windows,
-    Command::Holds,
-    Command::Faults,
-    Command::Tell(Telling::Certify),
-    Command::Tell(Telling::Margins),
-    Command::Tell(Telling::When),
-    Command::Slack,
-    Command::Tell(Telling::Warnings),
-    Command::Chain,
-    Command::Impact,
-    Command::Repeats,
-    Command::Check,
-    Command::Replay,
-];
-
-impl Command {
-    /// Its word.
-    pub fn word(self) -> &'static str
-        ensures { result.now ≡ word_of self }
-    {
-        match self {
-            Command::Picture => "svg",
-            Command::Draw(Drawing::Trace) => "trace",
-            Command::Draw(Drawing::Vcd) => "vcd",
-            Command::Draw(Drawing::Csv) => "csv",
-            Command::Windows => "windows",
-            Command::Holds => "holds",
-            Command::Faults => "faults",
-            Command::Tell(Telling::Certify) => "certify",
-            Command::Tell(Telling::Margins) => "margins",
-            Command::Tell(Telling::When) => "when",
-            Command::Slack => "slack",
-            Command::Tell(Telling::Warnings) => "warnings",
-            Command::Chain => "chain",
-            Command::Impact => "impact",
-            Command::Repeats => "repeats",
-            Command::Check => "check",
-            Command::Replay => "replay",
-        }
-    }
-
-    /// The one of this word.
-    #[tactic(auto, unfolding(crate::specs::Commands::command_named))]
-    pub fn named(word: &str) -> Option<Command>
-        ensures { result ≡ command_named word.now }
-    {
-        COMMANDS
-            .iter()
-            .copied()
-            .find(|command| command.word() == word)
-    }
 }

@@ -1,198 +1,103 @@
-//! What may stand behind each command word.
-ghost use Rattle.std.specs.Prelude.{◌≡◌, map};
-ghost use Rattle.dk_show_request.specs.Forms.{change_form, chain_form, check_form, form_of, picture_form, plain, slack_form, telling_form, windows_form};
+//! What may stand behind a command word, by the table of commands.
+ghost use Rattle.std.specs.Prelude.{◌≡◌, find, map};
+ghost use Rattle.std.specs.Str.{bytes_eq};
+ghost use Rattle.dk_show_request.specs.Forms.{form_lent, form_named, takes_several, takes_ticks};
 
 use crate::commands::Command;
+use crate::table::{COMMANDS, Kind, Row};
 use std::marker::Model;
 
-/// What may stand behind a command word: arguments, and at any place a flag or an option.
+/// A row of the table, with names for its parts.
 #[derive(Drop)]
 pub struct Form {
+    pub command: Command,
+    pub word: &'static str,
     /// The names of the arguments that must stand, in order.
     pub needed: &'static [&'static str],
     /// Of those behind them that all stand or none.
     pub optional: &'static [&'static str],
-    /// The name of the last of both, if it stands for one word or several.
-    pub repeats: Option<&'static str>,
-    /// The flags or options, of which one at most may stand.
+    /// What stands for those behind the first.
+    pub kind: Kind,
+    /// The names of the flags or options, of which one at most may stand.
     pub marks: &'static [&'static str],
-    /// The name of the word behind them, if they are options.
-    pub value: Option<&'static str>,
-    /// Whether the arguments behind the first are ticks.
-    pub ticks: bool,
+    /// The name of the word behind them, if they are options, else nothing.
+    pub value: &'static str,
+    /// What the command is for.
+    pub about: &'static str,
+    /// A call of it.
+    pub example: &'static str,
 }
 
 impl Model for Form {
-    ghost use Rattle.std.specs.Prelude.{map, option_map};
+    ghost use Rattle.std.specs.Prelude.{map};
     ghost use Rattle.dk_show_request.specs.Forms.{Form};
 
     ghost Value = { Form };
 
     ghost view = { λ f. record {
-      needed = map (λ name. name.now) f.needed.now;
-      optional = map (λ name. name.now) f.optional.now;
-      repeats = option_map (λ w. w.now) f.repeats;
+      command = f.command;
+      word = f.word.now;
+      needed = map (λ w. w.now) f.needed.now;
+      optional = map (λ w. w.now) f.optional.now;
+      kind = f.kind;
       marks = map (λ w. w.now) f.marks.now;
-      value = option_map (λ w. w.now) f.value;
-      ticks = f.ticks;
+      value = f.value.now;
+      about = f.about.now;
+      example = f.example.now;
     } };
 }
 
-const LEDGER: &[&str] = &["LEDGER"];
+impl Kind {
+    /// Whether the last argument stands for one word or several.
+    pub fn takes_several(self) -> bool
+        ensures { result ≡ takes_several self }
+    {
+        matches!(self, Kind::Names | Kind::Processes | Kind::Allotments)
+    }
 
-const FROM_TO: &[&str] = &["FROM", "TO"];
+    /// Whether the arguments behind the first are ticks.
+    pub fn takes_ticks(self) -> bool
+        ensures { result ≡ takes_ticks self }
+    {
+        matches!(self, Kind::Ticks)
+    }
+}
 
-const FILE: &[&str] = &["FILE"];
-
-const FILE_TICKS: &[&str] = &["FILE", "TICKS"];
-
-const FILE_NAME: &[&str] = &["FILE", "NAME"];
-
-const FILE_NEEDS: &[&str] = &["FILE", "NEEDS"];
-
-const OLD_NEW: &[&str] = &["OLD", "NEW"];
-
-const NAME: &[&str] = &["NAME"];
-
-const NAME_TICKS: &[&str] = &["NAME=TICKS"];
-
-const PROFILE_NAME_FILE: &[&str] = &["PROFILE", "NAME", "FILE"];
-
-const NONE: &[&str] = &[];
-
-const NO_MARKS: &[&str] = &[];
-
-const TABLE_MARKS: &[&str] = &["--csv"];
-
-const WINDOWS_MARKS: &[&str] = &["--strict", "--sparing", "--all", "--tenths", "--csv"];
-
-const CHAIN_MARKS: &[&str] = &["--ledger"];
-
-const PICTURE_MARKS: &[&str] = &["--config"];
-
-const CHECK_MARKS: &[&str] = &["--csv", "--junit"];
-
-/// A form of these arguments alone.
-fn plain(needed: &'static [&'static str], optional: &'static [&'static str], ticks: bool) -> Form
-    ensures { result ≡ plain (map (λ name. name.now) needed.now) (map (λ name. name.now) optional.now) ticks }
+/// The parts of a row by their names.
+pub fn form_of(row: &Row) -> Form
+    ensures { result ≡ form_lent row.now }
 {
+    let (command, word, (needed, optional, kind), (marks, value), (about, example)) = *row;
     Form {
+        command,
+        word,
         needed,
         optional,
-        repeats: None,
-        marks: NO_MARKS,
-        value: None,
-        ticks,
+        kind,
+        marks,
+        value,
+        about,
+        example,
     }
 }
 
-fn picture_form() -> Form
-    ensures { result ≡ picture_form }
+/// The row of this word.
+fn found(rows: &[Row], word: &str) -> Option<Form>
+    ensures { result ≡ find (λ f. bytes_eq f.word word.now) (map form_lent rows.now) }
 {
-    Form {
-        needed: LEDGER,
-        optional: FROM_TO,
-        repeats: None,
-        marks: PICTURE_MARKS,
-        value: Some("FILE"),
-        ticks: true,
+    for row in rows {
+        let form = form_of(row);
+        if form.word == word {
+            return Some(form);
+        }
     }
+    None
 }
 
-fn windows_form() -> Form
-    ensures { result ≡ windows_form }
+/// The command of this word.
+#[tactic(auto, unfolding(crate::specs::Forms::form_named))]
+pub fn form_named(word: &str) -> Option<Form>
+    ensures { result ≡ form_named word.now }
 {
-    Form {
-        needed: LEDGER,
-        optional: NONE,
-        repeats: None,
-        marks: WINDOWS_MARKS,
-        value: None,
-        ticks: false,
-    }
-}
-
-fn telling_form() -> Form
-    ensures { result ≡ telling_form }
-{
-    Form {
-        needed: FILE,
-        optional: NONE,
-        repeats: None,
-        marks: TABLE_MARKS,
-        value: None,
-        ticks: false,
-    }
-}
-
-fn slack_form() -> Form
-    ensures { result ≡ slack_form }
-{
-    Form {
-        needed: FILE,
-        optional: NAME_TICKS,
-        repeats: Some("NAME=TICKS"),
-        marks: TABLE_MARKS,
-        value: None,
-        ticks: false,
-    }
-}
-
-fn chain_form() -> Form
-    ensures { result ≡ chain_form }
-{
-    Form {
-        needed: FILE_NAME,
-        optional: NONE,
-        repeats: Some("NAME"),
-        marks: CHAIN_MARKS,
-        value: Some("LEDGER"),
-        ticks: false,
-    }
-}
-
-fn change_form() -> Form
-    ensures { result ≡ change_form }
-{
-    Form {
-        needed: OLD_NEW,
-        optional: NAME,
-        repeats: Some("NAME"),
-        marks: TABLE_MARKS,
-        value: None,
-        ticks: false,
-    }
-}
-
-fn check_form() -> Form
-    ensures { result ≡ check_form }
-{
-    Form {
-        needed: FILE_NEEDS,
-        optional: LEDGER,
-        repeats: None,
-        marks: CHECK_MARKS,
-        value: None,
-        ticks: false,
-    }
-}
-
-/// What may stand behind the word of a command.
-pub fn form_of(command: Command) -> Form
-    ensures { result ≡ form_of command }
-{
-    match command {
-        Command::Picture => picture_form(),
-        Command::Draw(_) => plain(LEDGER, FROM_TO, true),
-        Command::Windows => windows_form(),
-        Command::Holds => plain(LEDGER, FILE, false),
-        Command::Faults => plain(FILE, NONE, false),
-        Command::Tell(_) => telling_form(),
-        Command::Slack => slack_form(),
-        Command::Chain => chain_form(),
-        Command::Impact => change_form(),
-        Command::Repeats => plain(FILE_TICKS, NONE, true),
-        Command::Check => check_form(),
-        Command::Replay => plain(PROFILE_NAME_FILE, NONE, false),
-    }
+    found(COMMANDS, word)
 }

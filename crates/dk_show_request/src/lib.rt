@@ -1,6 +1,7 @@
 //! What the words of deosk-show ask for.
 //!
-//! A command's words are read by `clap` as its form has them (`forms.rt`, `reading.rt`), and mean a request (`asked.rt`).
+//! A command is a row of the table of commands (`table.rt`). Its words are read by `clap` as the row has them (`reading.rt`),
+//! and mean a request (`asked.rt`); the usage line and the reason why words mean nothing come of the same rows.
 #![tactic(auto)]
 
 mod allotments;
@@ -15,6 +16,7 @@ mod reading;
 mod reason_texts;
 mod reasons;
 mod request;
+mod table;
 mod usage_line;
 
 pub use allotments::Allotment;

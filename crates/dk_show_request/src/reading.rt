@@ -2,11 +2,10 @@
 //! the command word.
 ghost use Rattle.std.specs.Prelude.{◌≡◌, IfOk, map, string_bytes, true};
 ghost use Rattle.clap.specs.Words.{app_of, is_simple_and_free};
-ghost use Rattle.dk_show_request.specs.Commands.{word_of};
 ghost use Rattle.dk_show_request.specs.Clap.{app_for, given_by};
 
 use crate::clap_commands::command_for;
-use crate::commands::Command;
+use crate::forms::Form;
 use crate::given::Given;
 use clap::Command as ClapCommand;
 use clap::error::ErrorKind;
@@ -25,15 +24,14 @@ fn read<'a>(command: ClapCommand<'a>, words: &'a [String]) -> Result<Option<Give
     }
 }
 
-/// What the words give to a command, whose word is the first of them.
+/// What the words give to a command. The first of them is its word.
 pub fn read_words<'a>(
     alloc: Global,
-    command: Command,
-    word: &'a str,
+    form: &Form,
     words: &'a [String],
 ) -> Result<Option<Given<'a>>, NoMemory>
-    requires { word.now ≡ word_of command }
-    ensures { IfOk result (λ o. o ≡ given_by (app_for command) (map string_bytes words.entry.now)) }
+    requires { is_simple_and_free (app_for form.now) ≡ true }
+    ensures { IfOk result (λ o. o ≡ given_by (app_for form.now) (map string_bytes words.entry.now)) }
 {
-    read(command_for(alloc, command, word)?, words)
+    read(command_for(alloc, form)?, words)
 }

@@ -1,8 +1,6 @@
 //! Why words mean nothing: the first reason that is found.
 ghost use Rattle.std.specs.Prelude.{◌≡◌, ◌++◌, ◌-◌, codes, if◌then◌else◌, IfOk, length, map, None, option_map, Some, string_bytes};
-ghost use Rattle.dk_show_request.specs.Forms.{form_of};
-ghost use Rattle.dk_show_request.specs.Commands.{command_named, word_of};
-ghost use Rattle.dk_show_request.specs.Usage.{marks_text};
+ghost use Rattle.dk_show_request.specs.Forms.{form_named};
 ghost use Rattle.dk_show_request.specs.Words.{ends_bare, word_at};
 ghost use Rattle.dk_show_request.specs.Numbers.{ticks_in};
 ghost use Rattle.dk_show_request.specs.Reasons.{again_reason, allotments_reason, allotting, count_reason, has_many_names, is_below, is_disordered, mark_reason, names_reason, order_reason, reason, reason_text, surplus_reason, ticks_reason, wrong_text, wrong_with};
@@ -12,13 +10,14 @@ use crate::allotments::{no_allotment, repeated_name};
 use crate::arguments::{
     arguments, is_option, is_repeated, missing_name, no_ticks_word, surplus_word, unfit_word,
 };
-use crate::commands::Command;
-use crate::forms::{Form, form_of};
+use crate::forms::{Form, form_named};
 use crate::numbers::ticks_in;
 use crate::reason_texts::{
     bare_text, disorder_text, many_names_text, no_allotment_text, no_ticks_text, said_of, shown,
     unfit_text,
 };
+use crate::table::Kind;
+use crate::usage_line::marks_text;
 use dk_config::MAX_PROCESSES;
 use std::alloc::{AllocError, Global};
 
@@ -36,96 +35,82 @@ fn bare_option<'a>(form: &Form, words: &'a [String]) -> Option<&'a str>
     }
 }
 
-/// The flags or options of a command, parted by bars.
-fn marks_of(command: Command) -> &'static str
-    ensures { result.now ≡ marks_text (form_of command).marks }
-{
-    match command {
-        Command::Picture => "--config",
-        Command::Windows => "--strict|--sparing|--all|--tenths|--csv",
-        Command::Tell(_) | Command::Impact | Command::Slack => "--csv",
-        Command::Chain => "--ledger",
-        Command::Check => "--csv|--junit",
-        _ => "",
-    }
-}
-
 /// Of the flags and options.
-fn mark_text(alloc: Global, command: Command, words: &[String]) -> Result<String, AllocError>
-    ensures { IfOk result (λ s. string_bytes s ≡ reason_text (mark_reason (form_of command) (map string_bytes words.now))) }
+fn mark_text(alloc: Global, form: &Form, words: &[String]) -> Result<String, AllocError>
+    ensures { IfOk result (λ s. string_bytes s ≡ reason_text (mark_reason form.now (map string_bytes words.now))) }
 {
-    let form = form_of(command);
-    if is_repeated(&form, words) {
-        return said_of(alloc, marks_of(command), " stands more than once\n");
+    if is_repeated(form, words) {
+        let marks = marks_text(alloc, form.marks)?;
+        return said_of(alloc, marks.as_str(), " stands more than once\n");
     }
-    match bare_option(&form, words) {
+    match bare_option(form, words) {
         Some(word) => bare_text(alloc, word),
         None => String::from_str(alloc, "these words are no call of it\n"),
     }
 }
 
-fn has_many_names(command: Command, given: &[&str]) -> bool
-    ensures { result ≡ has_many_names command (map (λ w. w.now) given.now) }
+fn has_many_names(kind: Kind, given: &[&str]) -> bool
+    ensures { result ≡ has_many_names kind (map (λ w. w.now) given.now) }
 {
-    match (command, given) {
-        (Command::Chain, [_, names @ ..]) => names.len() > MAX_PROCESSES,
+    match (kind, given) {
+        (Kind::Processes, [_, names @ ..]) => names.len() > MAX_PROCESSES,
         _ => false,
     }
 }
 
 /// The words that are to be allotments.
-fn allotting<'a, 'b>(command: Command, given: &'b [&'a str]) -> &'b [&'a str]
-    ensures { map (λ w. w.now) result.now ≡ allotting command (map (λ w. w.now) given.entry.now) }
+fn allotting<'a, 'b>(kind: Kind, given: &'b [&'a str]) -> &'b [&'a str]
+    ensures { map (λ w. w.now) result.now ≡ allotting kind (map (λ w. w.now) given.entry.now) }
 {
-    match (command, given) {
-        (Command::Slack, [_, words @ ..]) => words,
+    match (kind, given) {
+        (Kind::Allotments, [_, words @ ..]) => words,
         _ => &[],
     }
 }
 
 fn again_text(
     alloc: Global,
-    command: Command,
+    form: &Form,
     given: &[&str],
     words: &[String],
 ) -> Result<String, AllocError>
-    ensures { IfOk result (λ s. string_bytes s ≡ reason_text (again_reason command (map (λ w. w.now) given.now) (map string_bytes words.now))) }
+    ensures { IfOk result (λ s. string_bytes s ≡ reason_text (again_reason form.now (map (λ w. w.now) given.now) (map string_bytes words.now))) }
 {
-    match repeated_name(allotting(command, given)) {
+    match repeated_name(allotting(form.kind, given)) {
         Some(name) => said_of(alloc, shown(name), " is allotted more than once\n"),
-        None => mark_text(alloc, command, words),
+        None => mark_text(alloc, form, words),
     }
 }
 
 /// Of allotments, and of the flags and options.
 fn allotments_text(
     alloc: Global,
-    command: Command,
+    form: &Form,
     given: &[&str],
     words: &[String],
 ) -> Result<String, AllocError>
     ensures { IfOk result (λ s. string_bytes s
-        ≡ reason_text (allotments_reason command (map (λ w. w.now) given.now) (map string_bytes words.now))) }
+        ≡ reason_text (allotments_reason form.now (map (λ w. w.now) given.now) (map string_bytes words.now))) }
 {
-    match no_allotment(allotting(command, given)) {
+    match no_allotment(allotting(form.kind, given)) {
         Some(word) => no_allotment_text(alloc, word),
-        None => again_text(alloc, command, given, words),
+        None => again_text(alloc, form, given, words),
     }
 }
 
 fn names_text(
     alloc: Global,
-    command: Command,
+    form: &Form,
     given: &[&str],
     words: &[String],
 ) -> Result<String, AllocError>
     ensures { IfOk result (λ s. string_bytes s
-        ≡ reason_text (names_reason command (map (λ w. w.now) given.now) (map string_bytes words.now))) }
+        ≡ reason_text (names_reason form.now (map (λ w. w.now) given.now) (map string_bytes words.now))) }
 {
-    if has_many_names(command, given) {
+    if has_many_names(form.kind, given) {
         many_names_text(alloc)
     } else {
-        allotments_text(alloc, command, given, words)
+        allotments_text(alloc, form, given, words)
     }
 }
 
@@ -152,91 +137,90 @@ fn word_at<'a>(given: &[&'a str], place: usize) -> &'a str
 fn is_disordered(form: &Form, given: &[&str]) -> bool
     ensures { result ≡ is_disordered form.now (map (λ w. w.now) given.now) }
 {
-    form.ticks && given.len() == 3 && !is_below(word_at(given, 1), word_at(given, 2))
+    form.kind.takes_ticks() && given.len() == 3 && !is_below(word_at(given, 1), word_at(given, 2))
 }
 
 fn order_text(
     alloc: Global,
-    command: Command,
+    form: &Form,
     given: &[&str],
     words: &[String],
 ) -> Result<String, AllocError>
     ensures { IfOk result (λ s. string_bytes s
-        ≡ reason_text (order_reason command (map (λ w. w.now) given.now) (map string_bytes words.now))) }
+        ≡ reason_text (order_reason form.now (map (λ w. w.now) given.now) (map string_bytes words.now))) }
 {
-    if is_disordered(&form_of(command), given) {
+    if is_disordered(form, given) {
         disorder_text(alloc, word_at(given, 1), word_at(given, 2))
     } else {
-        names_text(alloc, command, given, words)
+        names_text(alloc, form, given, words)
     }
 }
 
 fn ticks_text(
     alloc: Global,
-    command: Command,
+    form: &Form,
     given: &[&str],
     words: &[String],
 ) -> Result<String, AllocError>
     ensures { IfOk result (λ s. string_bytes s
-        ≡ reason_text (ticks_reason command (map (λ w. w.now) given.now) (map string_bytes words.now))) }
+        ≡ reason_text (ticks_reason form.now (map (λ w. w.now) given.now) (map string_bytes words.now))) }
 {
-    match no_ticks_word(&form_of(command), given) {
+    match no_ticks_word(form, given) {
         Some(word) => no_ticks_text(alloc, word),
-        None => order_text(alloc, command, given, words),
+        None => order_text(alloc, form, given, words),
     }
 }
 
 fn surplus_text(
     alloc: Global,
-    command: Command,
+    form: &Form,
     given: &[&str],
     words: &[String],
 ) -> Result<String, AllocError>
     ensures { IfOk result (λ s. string_bytes s
-        ≡ reason_text (surplus_reason command (map (λ w. w.now) given.now) (map string_bytes words.now))) }
+        ≡ reason_text (surplus_reason form.now (map (λ w. w.now) given.now) (map string_bytes words.now))) }
 {
-    match surplus_word(&form_of(command), given) {
+    match surplus_word(form, given) {
         Some(word) => said_of(alloc, shown(word), " is one word too many\n"),
-        None => ticks_text(alloc, command, given, words),
+        None => ticks_text(alloc, form, given, words),
     }
 }
 
 /// Of the words that stand for arguments, and all.
 fn count_text(
     alloc: Global,
-    command: Command,
+    form: &Form,
     given: &[&str],
     words: &[String],
 ) -> Result<String, AllocError>
     ensures { IfOk result (λ s. string_bytes s
-        ≡ reason_text (count_reason command (map (λ w. w.now) given.now) (map string_bytes words.now))) }
+        ≡ reason_text (count_reason form.now (map (λ w. w.now) given.now) (map string_bytes words.now))) }
 {
-    match missing_name(&form_of(command), given.len()) {
+    match missing_name(form, given.len()) {
         Some(name) => said_of(alloc, name, " is missing\n"),
-        None => surplus_text(alloc, command, given, words),
+        None => surplus_text(alloc, form, given, words),
     }
 }
 
 /// Why the words behind the command word are no call of the command.
-fn reason_text(alloc: Global, command: Command, words: &[String]) -> Result<String, AllocError>
-    ensures { IfOk result (λ s. string_bytes s ≡ reason_text (reason command (map string_bytes words.now))) }
+fn reason_text(alloc: Global, form: &Form, words: &[String]) -> Result<String, AllocError>
+    ensures { IfOk result (λ s. string_bytes s ≡ reason_text (reason form.now (map string_bytes words.now))) }
 {
-    let form = form_of(command);
-    match unfit_word(&form, words) {
+    match unfit_word(form, words) {
         Some(word) => unfit_text(alloc, word),
         None => {
-            let given = arguments(alloc, &form, words)?;
-            count_text(alloc, command, &given, words)
+            let given = arguments(alloc, form, words)?;
+            count_text(alloc, form, &given, words)
         }
     }
 }
 
-fn command_line(alloc: Global, command: Command, words: &[String]) -> Result<String, AllocError>
+fn command_line(alloc: Global, form: &Form, words: &[String]) -> Result<String, AllocError>
     ensures { IfOk result (λ s. string_bytes s
-        ≡ word_of command ++ (codes ": " ++ reason_text (reason command (map string_bytes words.now)))) }
+        ≡ form.now.word ++ (codes ": " ++ reason_text (reason form.now (map string_bytes words.now)))) }
 {
-    let word = command.word();
-    let text = reason_text(alloc, command, words)?;
+    let word = form.word;
+    let text = reason_text(alloc, form, words)?;
     let text = text.as_str();
     format!(in alloc; "{word}: {text}")
 }
@@ -254,10 +238,10 @@ pub fn lines_law()
 /// Why this command word and the words behind it mean nothing.
 fn wrong_call(alloc: Global, word: &str, behind: &[String]) -> Result<String, AllocError>
     ensures { IfOk result (λ s. string_bytes s
-        ≡ wrong_with word.now (command_named word.now) (map string_bytes behind.now)) }
+        ≡ wrong_with word.now (form_named word.now) (map string_bytes behind.now)) }
 {
-    match Command::named(word) {
-        Some(command) => command_line(alloc, command, behind),
+    match form_named(word) {
+        Some(form) => command_line(alloc, &form, behind),
         None => said_of(alloc, shown(word), " is no command\n"),
     }
 }

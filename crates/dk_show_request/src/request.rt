@@ -1,13 +1,15 @@
 //! What the words ask for.
-ghost use Rattle.std.specs.Prelude.{◌≡◌, IfOk, IfSome, drop, map, string_bytes};
+ghost use Rattle.std.specs.Prelude.{◌≡◌, IfOk, IfSome, drop, map, string_bytes, true};
+ghost use Rattle.clap.specs.Words.{is_simple_and_free};
+ghost use Rattle.dk_show_request.specs.Clap.{app_for};
 ghost use Rattle.dk_show_request.specs.Meaning.{HasFewNames, asked, asked_by, meaning};
 ghost use Rattle.dk_show_request.specs.Words.{word_at};
 
 use crate::allotments::Allotment;
 use crate::arguments::fits;
 use crate::asked::asked;
-use crate::commands::{Command, Drawing, Telling};
-use crate::forms::form_of;
+use crate::commands::{Drawing, Telling};
+use crate::forms::{Form, form_named};
 use crate::reading::read_words;
 use dk_config::{NoMemory, Text};
 use std::alloc::Global;
@@ -178,14 +180,15 @@ pub enum Request {
 }
 
 /// What a command is asked by the words from its own on.
-fn asked_by(alloc: Global, command: Command, words: &[String]) -> Result<Option<Request>, NoMemory>
-    ensures { IfOk result (λ r. r ≡ asked_by command (map string_bytes words.now)) }
+fn asked_by(alloc: Global, form: &Form, words: &[String]) -> Result<Option<Request>, NoMemory>
+    requires { is_simple_and_free (app_for form.now) ≡ true }
+    ensures { IfOk result (λ r. r ≡ asked_by form.now (map string_bytes words.now)) }
 {
-    if !fits(&form_of(command), words_behind(words)) {
+    if !fits(form, words_behind(words)) {
         return Ok(None);
     }
-    match read_words(alloc, command, command.word(), words)? {
-        Some(given) => asked(alloc, command, &given),
+    match read_words(alloc, form, words)? {
+        Some(given) => asked(alloc, form.command, &given),
         None => Ok(None),
     }
 }
@@ -217,8 +220,8 @@ pub fn meaning(alloc: Global, words: &[String]) -> Result<Option<Request>, NoMem
     ensures is { IfOk result (λ r. r ≡ meaning (map string_bytes words.now)) }
     ensures few { IfOk result (λ r. IfSome r HasFewNames) }
 {
-    match Command::named(second_word(words)) {
-        Some(command) => asked_by(alloc, command, words_behind(words)),
+    match form_named(second_word(words)) {
+        Some(form) => asked_by(alloc, &form, words_behind(words)),
         None => Ok(None),
     }
 }

@@ -1,14 +1,141 @@
-//! The usage line.
-ghost use Rattle.std.specs.Prelude.{◌≡◌};
-ghost use Rattle.dk_show_request.specs.Usage.{usage_text};
+//! The usage line, and a command as it stands there.
+ghost use Rattle.std.specs.Prelude.{◌≡◌, ◌++◌, codes, IfOk, OnOk, map, string_bytes};
+ghost use Rattle.dk_show_request.specs.Forms.{form_lent};
+ghost use Rattle.dk_show_request.specs.Usage.{arguments_in, bar, call_text, dots, marks_in, marks_text, spaced, usage_text, usages, valued};
+ghost use Rattle.dk_show_request.specs.Words.{dashed};
 
-/// The usage line. It lists the commands that stand.
-const USAGE: &str =
-    "usage: deosk-show svg LEDGER [FROM TO] [--config FILE] | trace LEDGER [FROM TO] | vcd LEDGER [FROM TO] | csv LEDGER [FROM TO] | windows LEDGER [--strict|--sparing|--all|--tenths|--csv] | holds LEDGER [FILE] | faults FILE | certify FILE [--csv] | margins FILE [--csv] | when FILE [--csv] | slack FILE [NAME=TICKS...] [--csv] | warnings FILE [--csv] | chain FILE NAME... [--ledger LEDGER] | impact OLD NEW [NAME...] [--csv] | repeats FILE TICKS | check FILE NEEDS [LEDGER] [--csv|--junit] | replay PROFILE NAME FILE\n";
+use crate::forms::{Form, form_of};
+use crate::table::{COMMANDS, Row};
+use std::alloc::{AllocError, Global};
 
-/// The usage line: each command with its arguments, in their order.
-pub fn usage() -> &'static str
-    ensures { result.now ≡ usage_text }
+/// Adds each name behind a space.
+fn add_spaced(text: &mut String, names: &[&str]) -> Result<(), AllocError>
+    ensures { OnOk result (string_bytes text.new ≡ string_bytes text.old ++ spaced (map (λ w. w.now) names.now)) }
 {
-    USAGE
+    for name in names {
+        text.push_str(" ")?;
+        text.push_str(name)?;
+    }
+    Ok(())
+}
+
+fn dots(repeats: bool) -> &'static str
+    ensures { result.now ≡ dots repeats }
+{
+    if repeats { "..." } else { "" }
+}
+
+/// Adds the names of the arguments, those that may stand in brackets.
+fn add_arguments(
+    text: &mut String,
+    needed: &[&str],
+    optional: &[&str],
+    repeats: bool,
+) -> Result<(), AllocError>
+    ensures { OnOk result (string_bytes text.new ≡ string_bytes text.old
+        ++ arguments_in (map (λ w. w.now) needed.now) (map (λ w. w.now) optional.now) repeats) }
+{
+    add_spaced(text, needed)?;
+    let [name, more @ ..] = optional else {
+        return text.push_str(dots(repeats));
+    };
+    text.push_str(" [")?;
+    text.push_str(name)?;
+    add_spaced(text, more)?;
+    text.push_str(dots(repeats))?;
+    text.push_str("]")
+}
+
+/// Adds the flags or options of these names, parted by bars.
+fn add_marks(text: &mut String, names: &[&str]) -> Result<(), AllocError>
+    ensures { OnOk result (string_bytes text.new ≡ string_bytes text.old ++ marks_text (map (λ w. w.now) names.now)) }
+{
+    let [name, more @ ..] = names else {
+        return Ok(());
+    };
+    text.push_str("--")?;
+    text.push_str(name)?;
+    if more.is_empty() {
+        return Ok(());
+    }
+    text.push_str("|")?;
+    add_marks(text, more)
+}
+
+/// The flags or options of these names, parted by bars.
+pub fn marks_text(alloc: Global, names: &[&str]) -> Result<String, AllocError>
+    ensures { IfOk result (λ s. string_bytes s ≡ marks_text (map (λ w. w.now) names.now)) }
+{
+    let mut text = String::new(alloc);
+    add_marks(&mut text, names)?;
+    Ok(text)
+}
+
+/// Adds the name of the word behind an option.
+fn add_value(text: &mut String, name: &str) -> Result<(), AllocError>
+    ensures { OnOk result (string_bytes text.new ≡ string_bytes text.old ++ valued name.now) }
+{
+    if name.is_empty() {
+        return Ok(());
+    }
+    text.push_str(" ")?;
+    text.push_str(name)
+}
+
+/// Adds the flags or options in brackets.
+fn add_bracketed(text: &mut String, names: &[&str], value: &str) -> Result<(), AllocError>
+    ensures { OnOk result (string_bytes text.new ≡ string_bytes text.old ++ marks_in (map (λ w. w.now) names.now) value.now) }
+{
+    if names.is_empty() {
+        return Ok(());
+    }
+    text.push_str(" [")?;
+    add_marks(text, names)?;
+    add_value(text, value)?;
+    text.push_str("]")
+}
+
+/// Adds a command with its arguments, flags and options.
+pub fn add_call(text: &mut String, form: &Form) -> Result<(), AllocError>
+    ensures { OnOk result (string_bytes text.new ≡ string_bytes text.old ++ call_text form.now) }
+{
+    text.push_str(form.word)?;
+    add_arguments(text, form.needed, form.optional, form.kind.takes_several())?;
+    add_bracketed(text, form.marks, form.value)
+}
+
+/// What parts a command from those behind it.
+fn bar(rows: &[Row]) -> &'static str
+    ensures { result.now ≡ bar (map form_lent rows.now) }
+{
+    if rows.is_empty() { "" } else { " | " }
+}
+
+/// Adds the commands of these rows, parted by bars.
+fn add_usages(text: &mut String, rows: &[Row]) -> Result<(), AllocError>
+    ensures { OnOk result (string_bytes text.new ≡ string_bytes text.old ++ usages (map form_lent rows.now)) }
+{
+    let [row, more @ ..] = rows else {
+        return Ok(());
+    };
+    add_call(text, &form_of(row))?;
+    text.push_str(bar(more))?;
+    add_usages(text, more)
+}
+
+/// The usage line of these rows.
+fn usage_of(alloc: Global, rows: &[Row]) -> Result<String, AllocError>
+    ensures { IfOk result (λ s. string_bytes s ≡ codes "usage: deosk-show " ++ (usages (map form_lent rows.now) ++ codes "\n")) }
+{
+    let mut text = String::from_str(alloc, "usage: deosk-show ")?;
+    add_usages(&mut text, rows)?;
+    text.push_str("\n")?;
+    Ok(text)
+}
+
+/// The usage line: each command with its arguments, in the order of the table.
+pub fn usage(alloc: Global) -> Result<String, AllocError>
+    ensures { IfOk result (λ s. string_bytes s ≡ usage_text) }
+{
+    usage_of(alloc, COMMANDS)
 }
