@@ -1,5 +1,5 @@
 -- The words never ask for a chain of more than 32 processes.
-use Rattle.dk_show_request.proofs.Names.{ℕ, ◌≡◌, ◌<◌, inl, inr, List, [], ◌∷◌, length, arith, drop, subst, sym, Bool, Option, Some, None, IfOk, IfSome, Result, Ok, Err, nat_lt, option_and_then, option_map, cases_Bool, nat_tests, Row, all_of, first_of, MAX_PROCESSES, Command, Drawing, Telling, CheckForm, Range, Request, WindowsForm, app_for, given_by, has, Form, HasFewNames, asked, asked_by, chain_by, chain_of, chain_with, check_by, check_form_in, drawing_by, faults_by, holds_by, impact_by, picture_by, range_in, repeats_by, repeats_of, replay_by, slack_by, slack_with, repeated_name, is_no_allotment, is_some, find, unwrap_or, if◌then◌else◌, ◌||◌, true, false, telling_by, windows_by, windows_form_in, ticks_in, fits}
+use Rattle.dk_show_request.proofs.Names.{ℕ, ◌≡◌, ◌<◌, inl, inr, List, [], ◌∷◌, length, arith, drop, subst, sym, Bool, Option, Some, None, IfOk, IfSome, Result, Ok, Err, nat_lt, option_and_then, option_map, cases_Bool, nat_tests, Row, all_of, first_of, MAX_PROCESSES, Command, Drawing, Telling, CheckForm, Range, Request, WindowsForm, app_for, given_by, has, Form, HasFewNames, asked, asked_by, chain_by, chain_of, chain_with, check_by, check_form_in, drawing_by, faults_by, help_by, holds_by, impact_by, picture_by, range_in, repeats_by, repeats_of, replay_by, slack_by, slack_with, repeated_name, is_no_allotment, is_no_command, is_some, find, unwrap_or, if◌then◌else◌, ◌||◌, true, false, telling_by, windows_by, windows_form_in, ticks_in, fits}
 use Rattle.std.specs.Prelude.{codes}
 use Rattle.dk_show_request.specs.declared.commands.Command.TheVariants as command
 
@@ -89,7 +89,15 @@ replay_few (Some profile) None file = tt
 replay_few (Some profile) (Some name) None = tt
 replay_few (Some profile) (Some name) (Some file) = tt
 
-asked_few : (c : Command) (rows : List Row) → Few (asked c rows)
+help_few : (name : Word) → Few (help_by name)
+help_few None = tt
+help_few (Some name) =
+    elim (cases_Bool (is_no_command name)) [
+      | inl unknown ↦ rw unknown tt
+      | inr known ↦ rw known tt
+    ]
+
+pub asked_few : (c : Command) (rows : List Row) → Few (asked c rows)
 asked_few (command.Draw d) rows = drawing_few d (first_of (codes "LEDGER") rows) (range_in rows)
 asked_few command.Picture rows = picture_few (first_of (codes "config") rows) (first_of (codes "LEDGER") rows) (range_in rows)
 asked_few command.Windows rows = windows_few (windows_form_in rows) (first_of (codes "LEDGER") rows)
@@ -105,13 +113,8 @@ asked_few command.Check rows =
     check_few (check_form_in rows) (first_of (codes "LEDGER") rows) (first_of (codes "FILE") rows) (first_of (codes "NEEDS") rows)
 asked_few command.Replay rows =
     replay_few (first_of (codes "PROFILE") rows) (first_of (codes "NAME") rows) (first_of (codes "FILE") rows)
-
-pub asked_by_few : (f : Form) (ws : List (List ℕ)) → Few (asked_by f ws)
-asked_by_few f ws =
-    elim (cases_Bool (fits f (drop 1 ws))) [
-      | inl fit ↦ rw fit (then_few (asked f.command) (given_by (app_for f) ws) (asked_few f.command))
-      | inr unfit ↦ rw unfit tt
-    ]
+asked_few command.Help rows = help_few (first_of (codes "COMMAND") rows)
+asked_few command.Version rows = tt
 
 pub answers_few : {E : Type 0} (r : Result (Option Request) E) (o : Option Request) → IfOk r (λ x. x ≡ o) → Few o → IfOk r Few
 answers_few (Ok x) o is few = subst Few (sym is) few

@@ -1,6 +1,5 @@
 -- Each command of `clap` that is made here is simple, and no argument of it has a rule on another.
-use Rattle.dk_show_request.proofs.Names.{ℕ, ◌≡◌, refl, true, inl, inr, List, [], ◌∷◌, Bool, Some, find, list_all, subst, cases_Bool, and_parts, bytes_eq, is_simple_and_free, Form, app_for, forms}
-use Rattle.dk_show_request.specs.Forms.{form_named}
+use Rattle.dk_show_request.proofs.Names.{ℕ, ◌≡◌, refl, true, inl, inr, List, [], ◌∷◌, Bool, Option, Some, None, IfSome, sym, find, list_all, subst, cases_Bool, and_parts, bytes_eq, is_simple_and_free, Form, app_for, forms}
 use Rattle.clap.proofs.OnLiterals.{clap_on_literals}
 
 abbrev is_simple_form : Form → Bool
@@ -19,6 +18,6 @@ found_simple p (g ∷ gs) f all e =
       | inr isnt ↦ found_simple p gs f parts.1 (rw isnt at e)
     ]
 
-pub simple_named : (w : List ℕ) (f : Form) → form_named w ≡ Some f → is_simple_and_free (app_for f) ≡ true
-unfolding form_named
-simple_named w f e = found_simple (λ g. bytes_eq g.word w) forms f simple_forms e
+pub found_named : (w : List ℕ) (o : Option Form) → o ≡ find (λ f. bytes_eq f.word w) forms → IfSome o (λ f. is_simple_and_free (app_for f) ≡ true)
+found_named w None is = tt
+found_named w (Some f) is = found_simple (λ g. bytes_eq g.word w) forms f simple_forms (sym is)

@@ -1,5 +1,5 @@
 -- The reason that is told holds of the words.
-use Rattle.dk_show_request.proofs.Names.{ℕ, ◌≡◌, ◌<◌, ◌+◌, ◌==◌, ◌∙◌, true, false, List, [], ◌∷◌, length, refl, sym, subst, arith, inl, inr, ◌-◌, ◌&&◌, ◌||◌, not, Option, Some, None, find, is_some, nat_lt, slice_get, unwrap_or, if◌then◌else◌, option_map_or, cases_Bool, and_parts, nat_tests, find_at, position_or_len, MAX_PROCESSES, Form, Kind, takes_several, takes_ticks, ticks_in, marks_text, arguments, ends_bare, is_mark, is_option, is_plain_word, is_repeated, is_unfit, unfit_word, word_at, bytes_eq, filter, list_any, allotments_reason, again_reason, allotting, has_same_name, is_no_allotment, name_in, repeated_name, ticks_behind, Reason, count_reason, has_many_names, is_below, is_disordered, is_no_ticks, mark_reason, missing_name, names_reason, no_ticks_word, order_reason, surplus_reason, surplus_word, ticks_reason, unfit_reason, AreNotBelow, HoldsOf, LeavesOut, ReasonsHold, StandsIn}
+use Rattle.dk_show_request.proofs.Names.{ℕ, ◌≡◌, ◌<◌, ◌+◌, ◌==◌, ◌∙◌, true, false, List, [], ◌∷◌, length, refl, sym, subst, arith, inl, inr, ◌-◌, ◌&&◌, ◌||◌, not, Option, Some, None, find, is_some, nat_lt, slice_get, unwrap_or, if◌then◌else◌, option_map_or, cases_Bool, and_parts, nat_tests, find_at, position_or_len, MAX_PROCESSES, Form, Kind, takes_several, takes_ticks, ticks_in, marks_text, arguments, ends_bare, is_mark, is_option, is_plain_word, is_repeated, is_unfit, unfit_word, word_at, bytes_eq, filter, list_any, allotments_reason, again_reason, allotting, has_same_name, is_no_allotment, is_no_command, form_named, naming, commands_reason, name_in, repeated_name, ticks_behind, Reason, count_reason, has_many_names, is_below, is_disordered, is_no_ticks, mark_reason, missing_name, names_reason, no_ticks_word, order_reason, surplus_reason, surplus_word, ticks_reason, unfit_reason, AreNotBelow, HoldsOf, LeavesOut, ReasonsHold, StandsIn}
 use Rattle.std.proofs.Common.{Bool, ◌≤◌, ◌⊎◌}
 use Rattle.std.specs.Prelude.{drop}
 use Rattle.std.proofs.lemmas.Slice.Eq.{bytes_eq-Decides}
@@ -92,6 +92,25 @@ marks f ps ws =
     (λ once. if_so P (ends_bare f ws) (Reason.bare last) Reason.other (ended f ws) (λ _. tt))
 
 -- what the allotments of a command are among its words
+no_command_in : (k : Kind) (ps ws : List (List ℕ)) (f : Form) (w : List ℕ) → find is_no_command (naming k ps) ≡ Some w
+    → HoldsOf f ps ws (Reason.no_command w)
+no_command_in kind.Commands ps ws f w e =
+    (stands is_no_command ps w e, no_form (form_named w) (passes is_no_command ps w e))
+  where
+    no_form : (o : Option Form) → not (is_some o) ≡ true → o ≡ None
+    no_form None h = refl
+    no_form (Some g) h = absurd (cc)
+no_command_in kind.Words ps ws f w e = absurd (cc)
+no_command_in kind.Ticks ps ws f w e = absurd (cc)
+no_command_in kind.Names ps ws f w e = absurd (cc)
+no_command_in kind.Processes ps ws f w e = absurd (cc)
+no_command_in kind.Allotments ps ws f w e = absurd (cc)
+
+commanded : (f : Form) (ps ws : List (List ℕ)) → HoldsOf f ps ws (commands_reason f ps ws)
+commanded f ps ws =
+    or_else (λ (r : Reason). HoldsOf f ps ws r) Reason.no_command (find is_no_command (naming f.kind ps)) (mark_reason f ws)
+    (no_command_in f.kind ps ws f) (λ _. marks f ps ws)
+
 allots : (k : Kind) (ps : List (List ℕ)) → (allotting k ps ≡ drop 1 ps) ⊎ (allotting k ps ≡ [])
 allots kind.Allotments ps = inl refl
 allots kind.Words ps = inr refl
@@ -154,8 +173,8 @@ allotments : (f : Form) (ps ws : List (List ℕ)) → HoldsOf f ps ws (allotment
 allotments f ps ws =
     let P = λ (r : Reason). HoldsOf f ps ws r in
     or_else P Reason.no_allotment (find is_no_allotment (allotting f.kind ps)) (again_reason f ps ws) (no_allot f ps ws)
-    (λ _. or_else P Reason.allotted_again (repeated_name (allotting f.kind ps)) (mark_reason f ws) (allotted_twice f ps ws)
-    (λ _. marks f ps ws))
+    (λ _. or_else P Reason.allotted_again (repeated_name (allotting f.kind ps)) (commands_reason f ps ws) (allotted_twice f ps ws)
+    (λ _. commanded f ps ws))
 
 many : (k : Kind) (ps : List (List ℕ)) → has_many_names k ps ≡ true → MAX_PROCESSES < length (drop 1 ps)
 many kind.Processes ps h = grind (arith, nat_tests)

@@ -1,5 +1,5 @@
 -- What `clap` is given for a command, and what it makes of words.
-use Rattle.std.specs.Prelude.{ℕ, Bool, true, false, ◌==◌, ◌&&◌, nat_lt, codes, length, map, List, [], ◌∷◌, ◌++◌, Option, Some, None, if◌then◌else◌}
+use Rattle.std.specs.Prelude.{ℕ, Bool, true, false, ◌==◌, ◌&&◌, nat_lt, codes, length, map, List, [], ◌∷◌, Option, Some, None, if◌then◌else◌}
 use Rattle.std.specs.Str.{bytes_eq}
 use Rattle.clap.specs.Words.{App, Row, Rule, Text, first_of, fault_of, matches_of, new_app, new_rule, with_rule}
 use Rattle.clap.specs.declared.builder.action.ArgAction.TheVariants.{Append, Set, SetTrue}
@@ -25,28 +25,33 @@ option name = record (new_rule name) { long = Some name; action = Some Set }
 abbrev pub word_rule : List ℕ → Bool → Bool → Rule
 word_rule name required repeats = if repeats then many_argument name required else argument name required
 
+-- the last argument repeats
+abbrev pub is_several : Bool → List (List ℕ) → Bool
+is_several repeats behind = repeats && (length behind == 0)
+
 -- of arguments, of which the last may repeat
 abbrev pub word_rules : List (List ℕ) → Bool → Bool → List Rule
 word_rules [] required repeats = []
 word_rules (name ∷ rest) required repeats =
-    word_rule name required (repeats && (length rest == 0)) ∷ word_rules rest required repeats
+    word_rule name required (is_several repeats rest) ∷ word_rules rest required repeats
 
 abbrev pub mark_rule : Bool → List ℕ → Rule
 mark_rule valued name = if valued then option name else flag name
-
--- what `clap` is told of the arguments, flags and options of a command
-abbrev pub rules_for : Form → List Rule
-rules_for f =
-    word_rules f.needed true (takes_several f.kind && (length f.optional == 0))
-    ++ (word_rules f.optional false (takes_several f.kind) ++ map (mark_rule (nat_lt 0 (length f.value))) f.marks)
 
 abbrev pub with_rules : App → List Rule → App
 with_rules app [] = app
 with_rules app (rule ∷ rules) = with_rules (with_rule app rule) rules
 
+-- for the arguments that must stand, and then for those that may
+abbrev pub needed_app : Form → App
+needed_app f = with_rules (new_app f.word) (word_rules f.needed true (is_several (takes_several f.kind) f.optional))
+
+abbrev pub words_app : Form → App
+words_app f = with_rules (needed_app f) (word_rules f.optional false (takes_several f.kind))
+
 -- what `clap` is given for a command
 abbrev pub app_for : Form → App
-app_for f = with_rules (new_app f.word) (rules_for f)
+app_for f = with_rules (words_app f) (map (mark_rule (nat_lt 0 (length f.value))) f.marks)
 
 -- the text of a flag is "true" or "false"
 abbrev pub is_true : Option Text → Bool

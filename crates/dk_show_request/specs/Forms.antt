@@ -1,5 +1,5 @@
 -- The table of commands: what may stand behind each command word.
-use Rattle.std.specs.Prelude.{ℕ, Bool, false, true, find, map, List, Option}
+use Rattle.std.specs.Prelude.{ℕ, Bool, false, true, codes, find, is_some, map, not, ◌||◌, List, Option, if◌then◌else◌}
 use Rattle.std.specs.Borrow.{Bor}
 use Rattle.std.specs.Str.{bytes_eq}
 use Rattle.dk_show_request.specs.declared.commands.Command.{Command}
@@ -83,6 +83,13 @@ form_constant r = record {
 abbrev pub forms : List Form
 forms = map form_constant COMMANDS.now
 
+-- the word of a command, for one of the flags that ask for help the word "help"
+abbrev pub meant : List ℕ → List ℕ
+meant word = if bytes_eq word (codes "--help") || bytes_eq word (codes "-h") then codes "help" else word
+
 -- the command of this word
 unfoldable pub form_named : List ℕ → Option Form
-form_named word = find (λ f. bytes_eq f.word word) forms
+form_named word = find (λ f. bytes_eq f.word (meant word)) forms
+
+abbrev pub is_no_command : List ℕ → Bool
+is_no_command word = not (is_some (form_named word))

@@ -8,5 +8,6 @@ pub mod Allotments
 pub mod Slack
 pub mod Meaning
 pub mod Usage
+pub mod Help
 pub mod Reasons
 pub mod TrueReasons

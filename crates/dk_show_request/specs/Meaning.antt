@@ -16,7 +16,7 @@ use Rattle.dk_show_request.specs.declared.request.Request.TheVariants as request
 use Rattle.dk_show_request.specs.Allotments.{allotment_of, is_no_allotment, repeated_name}
 use Rattle.dk_show_request.specs.Chain.{ChainAsk}
 use Rattle.dk_show_request.specs.Clap.{app_for, given_by, has}
-use Rattle.dk_show_request.specs.Forms.{Form, form_named}
+use Rattle.dk_show_request.specs.Forms.{Form, form_named, is_no_command}
 use Rattle.dk_show_request.specs.Numbers.{ticks_in}
 use Rattle.dk_show_request.specs.Words.{fits, word_at}
 
@@ -125,6 +125,11 @@ replay_by (Some profile) (Some name) (Some file) =
     Some (request.Replay (record { profile = profile; name = name; file = file }))
 replay_by _ _ _ = None
 
+-- of all commands, or of the one of this name
+abbrev pub help_by : Option (List ℕ) → Option Request
+help_by None = Some (request.Help None)
+help_by (Some name) = if is_no_command name then None else Some (request.Help (Some name))
+
 -- what a command is asked by the words of its arguments
 abbrev pub asked : Command → List Row → Option Request
 asked (command.Draw d) rows = drawing_by d (first_of (codes "LEDGER") rows) (range_in rows)
@@ -145,6 +150,8 @@ asked command.Check rows = check_by (check_form_in rows) (first_of (codes "LEDGE
     (first_of (codes "FILE") rows) (first_of (codes "NEEDS") rows)
 asked command.Replay rows = replay_by (first_of (codes "PROFILE") rows) (first_of (codes "NAME") rows)
     (first_of (codes "FILE") rows)
+asked command.Help rows = help_by (first_of (codes "COMMAND") rows)
+asked command.Version rows = Some request.Version
 
 -- What a command is asked by the words from its own on. `clap` decides which words stand for which arguments.
 abbrev pub asked_by : Form → List (List ℕ) → Option Request

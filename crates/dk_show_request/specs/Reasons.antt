@@ -6,7 +6,7 @@ use Rattle.dk_config.specs.declared.TheConstants.{MAX_PROCESSES, MAX_RUN_TICKS}
 use Rattle.dk_show_request.specs.declared.table.Kind.{Kind}
 use Rattle.dk_show_request.specs.declared.table.Kind.TheVariants as kind
 use Rattle.dk_show_request.specs.Allotments.{is_no_allotment, repeated_name}
-use Rattle.dk_show_request.specs.Forms.{Form, form_named, takes_several, takes_ticks}
+use Rattle.dk_show_request.specs.Forms.{Form, form_named, is_no_command, takes_several, takes_ticks}
 use Rattle.dk_show_request.specs.Numbers.{ticks_in}
 use Rattle.dk_show_request.specs.Usage.{marks_text}
 use Rattle.dk_show_request.specs.Words.{arguments, ends_bare, is_repeated, unfit_word, word_at}
@@ -31,6 +31,8 @@ pub data Reason : Type 0 where
   no_allotment : List ℕ → Reason
   -- the process of this name has more than one allotment
   allotted_again : List ℕ → Reason
+  -- this word is no command
+  no_command : List ℕ → Reason
   -- more than one of these flags and options stands, or one of them twice
   repeated : List ℕ → Reason
   -- no word stands behind this option
@@ -76,8 +78,16 @@ mark_reason f ws =
     else if ends_bare f ws then bare (word_at ws (length ws - 1))
     else other
 
+-- the words that are to be those of commands
+abbrev pub naming : Kind → List (List ℕ) → List (List ℕ)
+naming kind.Commands ps = ps
+naming _ ps = []
+
+abbrev pub commands_reason : Form → List (List ℕ) → List (List ℕ) → Reason
+commands_reason f ps ws = option_map_or no_command (find is_no_command (naming f.kind ps)) (mark_reason f ws)
+
 abbrev pub again_reason : Form → List (List ℕ) → List (List ℕ) → Reason
-again_reason f ps ws = option_map_or allotted_again (repeated_name (allotting f.kind ps)) (mark_reason f ws)
+again_reason f ps ws = option_map_or allotted_again (repeated_name (allotting f.kind ps)) (commands_reason f ps ws)
 
 -- of allotments, and of the flags and options
 abbrev pub allotments_reason : Form → List (List ℕ) → List (List ℕ) → Reason
@@ -133,6 +143,7 @@ reason_text many_names = codes "more than " ++ (decimal MAX_PROCESSES ++ codes "
 reason_text (no_allotment w) =
     shown w ++ (codes " is no NAME=TICKS, with TICKS from 0 to " ++ (decimal MAX_RUN_TICKS ++ codes "\n"))
 reason_text (allotted_again name) = shown name ++ codes " is allotted more than once\n"
+reason_text (no_command w) = shown w ++ codes " is no command\n"
 reason_text (repeated flags) = flags ++ codes " stands more than once\n"
 reason_text (bare w) = codes "a word is wanted behind " ++ (shown w ++ codes "\n")
 reason_text other = codes "these words are no call of it\n"

@@ -2,10 +2,11 @@
 ghost use Rattle.std.specs.Prelude.{◌≡◌, [], codes, IfOk, map, option_map, unwrap_or};
 ghost use Rattle.dk_show_request.specs.Clap.{has};
 ghost use Rattle.dk_show_request.specs.Numbers.{ticks_in};
-ghost use Rattle.dk_show_request.specs.Meaning.{asked, chain_by, chain_of, chain_with, check_by, check_form_in, drawing_by, faults_by, holds_by, impact_by, picture_by, range_by, range_in, range_of, repeats_by, repeats_of, replay_by, slack_by, slack_of, slack_with, telling_by, windows_by, windows_form_in};
+ghost use Rattle.dk_show_request.specs.Meaning.{asked, chain_by, chain_of, chain_with, check_by, check_form_in, drawing_by, faults_by, help_by, holds_by, impact_by, picture_by, range_by, range_in, range_of, repeats_by, repeats_of, replay_by, slack_by, slack_of, slack_with, telling_by, windows_by, windows_form_in};
 
 use crate::allotments::{allotments_of, no_allotment, repeated_name};
 use crate::commands::{Command, Drawing, Telling};
+use crate::forms::is_no_command;
 use crate::given::Given;
 use crate::numbers::ticks_in;
 use crate::request::{
@@ -387,6 +388,16 @@ fn replay_by(
     }
 }
 
+/// Of all commands, or of the one of this name, where there is one.
+fn help_by(alloc: Global, name: Option<&str>) -> Result<Option<Request>, NoMemory>
+    ensures { IfOk result (λ r. r ≡ help_by (option_map (λ w. w.now) name.entry)) }
+{
+    match name {
+        Some(name) if is_no_command(name) => Ok(None),
+        name => Ok(Some(Request::Help(copy_if(alloc, name)?))),
+    }
+}
+
 /// What a command is asked by the words of its arguments.
 pub fn asked(alloc: Global, command: Command, given: &Given) -> Result<Option<Request>, NoMemory>
     ensures { IfOk result (λ r. r ≡ asked command given.now) }
@@ -440,5 +451,7 @@ pub fn asked(alloc: Global, command: Command, given: &Given) -> Result<Option<Re
             given.word("NAME"),
             given.word("FILE"),
         ),
+        Command::Help => help_by(alloc, given.word("COMMAND")),
+        Command::Version => Ok(Some(Request::Version)),
     }
 }

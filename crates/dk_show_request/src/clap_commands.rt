@@ -1,7 +1,7 @@
 //! What `clap` is given for each command.
-ghost use Rattle.std.specs.Prelude.{◌≡◌, IfOk, map};
+ghost use Rattle.std.specs.Prelude.{◌≡◌, IfOk, length, map, nat_lt};
 ghost use Rattle.clap.specs.Words.{app_of, with_rule};
-ghost use Rattle.dk_show_request.specs.Clap.{app_for, mark_rule, word_rule, word_rules, with_rules};
+ghost use Rattle.dk_show_request.specs.Clap.{app_for, is_several, mark_rule, needed_app, word_rule, word_rules, words_app, with_rules};
 
 use crate::forms::Form;
 use clap::{Arg, ArgAction, Command as ClapCommand};
@@ -25,6 +25,13 @@ fn add_word<'a>(
     }
 }
 
+/// Whether an argument repeats, with these behind it.
+fn is_several(repeats: bool, behind: &[&str]) -> bool
+    ensures { result ≡ is_several repeats (map (λ w. w.now) behind.now) }
+{
+    repeats && behind.is_empty()
+}
+
 /// The command with these arguments more, of which the last may repeat.
 fn add_words<'a>(
     alloc: Global,
@@ -38,7 +45,7 @@ fn add_words<'a>(
     let mut made = command;
     let mut left = names;
     while let [name, rest @ ..] = left {
-        made = add_word(alloc, made, name, required, repeats && rest.is_empty())?;
+        made = add_word(alloc, made, name, required, is_several(repeats, rest))?;
         left = rest;
     }
     Ok(made)
@@ -77,13 +84,35 @@ fn add_marks<'a>(
     Ok(made)
 }
 
+/// What `clap` is given for the arguments that must stand.
+fn needed_for<'a>(alloc: Global, form: &Form) -> Result<ClapCommand<'a>, AllocError>
+    ensures { IfOk result (λ c. app_of c ≡ needed_app form.now) }
+{
+    let repeats = is_several(form.kind.takes_several(), form.optional);
+    let made = ClapCommand::new(alloc, form.word);
+    add_words(alloc, made, form.needed, true, repeats)
+}
+
+/// What `clap` is given for all arguments.
+fn words_for<'a>(alloc: Global, form: &Form) -> Result<ClapCommand<'a>, AllocError>
+    ensures { IfOk result (λ c. app_of c ≡ words_app form.now) }
+{
+    let made = needed_for(alloc, form)?;
+    add_words(alloc, made, form.optional, false, form.kind.takes_several())
+}
+
+/// Whether the flags of the command are options.
+fn takes_value(form: &Form) -> bool
+    ensures { result ≡ nat_lt 0 (length form.now.value) }
+{
+    !form.value.is_empty()
+}
+
 /// What `clap` is given for a command.
 pub fn command_for<'a>(alloc: Global, form: &Form) -> Result<ClapCommand<'a>, AllocError>
     ensures { IfOk result (λ c. app_of c ≡ app_for form.now) }
 {
-    let repeats = form.kind.takes_several();
-    let made = ClapCommand::new(alloc, form.word);
-    let made = add_words(alloc, made, form.needed, true, repeats && form.optional.is_empty())?;
-    let made = add_words(alloc, made, form.optional, false, repeats)?;
-    add_marks(alloc, made, form.marks, !form.value.is_empty())
+    let made = words_for(alloc, form)?;
+    let valued = takes_value(form);
+    add_marks(alloc, made, form.marks, valued)
 }

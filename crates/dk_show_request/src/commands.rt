@@ -49,4 +49,8 @@ pub enum Command {
     Check,
     /// The source of a program that takes the times of a profile.
     Replay,
+    /// What the commands are for.
+    Help,
+    /// Which documents the program reads.
+    Version,
 }

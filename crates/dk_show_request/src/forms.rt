@@ -1,7 +1,9 @@
 //! What may stand behind a command word, by the table of commands.
-ghost use Rattle.std.specs.Prelude.{◌≡◌, find, map};
+ghost use Rattle.std.specs.Prelude.{◌≡◌, find, IfSome, map, true};
 ghost use Rattle.std.specs.Str.{bytes_eq};
-ghost use Rattle.dk_show_request.specs.Forms.{form_lent, form_named, takes_several, takes_ticks};
+ghost use Rattle.clap.specs.Words.{is_simple_and_free};
+ghost use Rattle.dk_show_request.specs.Clap.{app_for};
+ghost use Rattle.dk_show_request.specs.Forms.{form_lent, form_named, is_no_command, meant, takes_several, takes_ticks};
 
 use crate::commands::Command;
 use crate::table::{COMMANDS, Kind, Row};
@@ -94,10 +96,28 @@ fn found(rows: &[Row], word: &str) -> Option<Form>
     None
 }
 
+/// The word of a command, for one of the flags that ask for help the word `help`.
+fn meant(word: &str) -> &str
+    ensures { result.now ≡ meant word.entry.now }
+{
+    match word {
+        "--help" | "-h" => "help",
+        word => word,
+    }
+}
+
 /// The command of this word.
 #[tactic(auto, unfolding(crate::specs::Forms::form_named))]
 pub fn form_named(word: &str) -> Option<Form>
-    ensures { result ≡ form_named word.now }
+    ensures is { result ≡ form_named word.now }
+    ensures simple { IfSome result (λ f. is_simple_and_free (app_for f) ≡ true) }
 {
-    found(COMMANDS, word)
+    found(COMMANDS, meant(word))
+}
+
+/// Whether no command has this word.
+pub fn is_no_command(word: &str) -> bool
+    ensures { result ≡ is_no_command word.now }
+{
+    form_named(word).is_none()
 }

@@ -11,6 +11,7 @@ mod clap_commands;
 mod commands;
 mod forms;
 mod given;
+mod help;
 mod numbers;
 mod reading;
 mod reason_texts;
@@ -21,6 +22,7 @@ mod usage_line;
 
 pub use allotments::Allotment;
 pub use commands::{Command, Drawing, Telling};
+pub use help::{help_text, versions};
 pub use reason_texts::shown;
 pub use reasons::{lines_law, reasons_law, wrong_words};
 pub use request::{

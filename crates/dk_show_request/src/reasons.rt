@@ -1,16 +1,16 @@
 //! Why words mean nothing: the first reason that is found.
-ghost use Rattle.std.specs.Prelude.{◌≡◌, ◌++◌, ◌-◌, codes, if◌then◌else◌, IfOk, length, map, None, option_map, Some, string_bytes};
-ghost use Rattle.dk_show_request.specs.Forms.{form_named};
+ghost use Rattle.std.specs.Prelude.{◌≡◌, ◌++◌, ◌-◌, codes, find, if◌then◌else◌, IfOk, length, map, None, option_map, Some, string_bytes};
+ghost use Rattle.dk_show_request.specs.Forms.{form_named, is_no_command};
 ghost use Rattle.dk_show_request.specs.Words.{ends_bare, word_at};
 ghost use Rattle.dk_show_request.specs.Numbers.{ticks_in};
-ghost use Rattle.dk_show_request.specs.Reasons.{again_reason, allotments_reason, allotting, count_reason, has_many_names, is_below, is_disordered, mark_reason, names_reason, order_reason, reason, reason_text, surplus_reason, ticks_reason, wrong_text, wrong_with};
+ghost use Rattle.dk_show_request.specs.Reasons.{again_reason, allotments_reason, allotting, commands_reason, count_reason, has_many_names, is_below, is_disordered, mark_reason, names_reason, naming, order_reason, reason, reason_text, surplus_reason, ticks_reason, wrong_text, wrong_with};
 ghost use Rattle.dk_show_request.specs.TrueReasons.{AreLines, ReasonsHold};
 
 use crate::allotments::{no_allotment, repeated_name};
 use crate::arguments::{
     arguments, is_option, is_repeated, missing_name, no_ticks_word, surplus_word, unfit_word,
 };
-use crate::forms::{Form, form_named};
+use crate::forms::{Form, form_named, is_no_command};
 use crate::numbers::ticks_in;
 use crate::reason_texts::{
     bare_text, disorder_text, many_names_text, no_allotment_text, no_ticks_text, said_of, shown,
@@ -68,6 +68,44 @@ fn allotting<'a, 'b>(kind: Kind, given: &'b [&'a str]) -> &'b [&'a str]
     }
 }
 
+/// The words that are to be those of commands.
+fn naming<'a, 'b>(kind: Kind, given: &'b [&'a str]) -> &'b [&'a str]
+    ensures { map (λ w. w.now) result.now ≡ naming kind (map (λ w. w.now) given.entry.now) }
+{
+    match kind {
+        Kind::Commands => given,
+        _ => &[],
+    }
+}
+
+fn found_no_command<'a>(words: &[&'a str]) -> Option<&'a str>
+    ensures { result ≡ find (λ w. is_no_command w.now) words.now }
+{
+    words.iter().copied().find(|word| is_no_command(word))
+}
+
+/// The first word that is no command.
+fn no_command<'a>(words: &[&'a str]) -> Option<&'a str>
+    ensures { option_map (λ w. w.now) result ≡ find is_no_command (map (λ w. w.now) words.now) }
+{
+    found_no_command(words)
+}
+
+fn commands_text(
+    alloc: Global,
+    form: &Form,
+    given: &[&str],
+    words: &[String],
+) -> Result<String, AllocError>
+    ensures { IfOk result (λ s. string_bytes s
+        ≡ reason_text (commands_reason form.now (map (λ w. w.now) given.now) (map string_bytes words.now))) }
+{
+    match no_command(naming(form.kind, given)) {
+        Some(word) => said_of(alloc, shown(word), " is no command\n"),
+        None => mark_text(alloc, form, words),
+    }
+}
+
 fn again_text(
     alloc: Global,
     form: &Form,
@@ -78,7 +116,7 @@ fn again_text(
 {
     match repeated_name(allotting(form.kind, given)) {
         Some(name) => said_of(alloc, shown(name), " is allotted more than once\n"),
-        None => mark_text(alloc, form, words),
+        None => commands_text(alloc, form, given, words),
     }
 }
 

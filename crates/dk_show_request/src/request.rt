@@ -177,12 +177,17 @@ pub enum Request {
     Check(CheckRequest),
     /// The source of a program that takes the times of a profile.
     Replay(ReplayRequest),
+    /// What the commands are for, or the one of this name.
+    Help(Option<Text>),
+    /// Which documents the program reads.
+    Version,
 }
 
 /// What a command is asked by the words from its own on.
 fn asked_by(alloc: Global, form: &Form, words: &[String]) -> Result<Option<Request>, NoMemory>
     requires { is_simple_and_free (app_for form.now) ≡ true }
-    ensures { IfOk result (λ r. r ≡ asked_by form.now (map string_bytes words.now)) }
+    ensures is { IfOk result (λ r. r ≡ asked_by form.now (map string_bytes words.now)) }
+    ensures few { IfOk result (λ r. IfSome r HasFewNames) }
 {
     if !fits(form, words_behind(words)) {
         return Ok(None);

@@ -96,12 +96,21 @@ fn add_bracketed(text: &mut String, names: &[&str], value: &str) -> Result<(), A
 }
 
 /// Adds a command with its arguments, flags and options.
-pub fn add_call(text: &mut String, form: &Form) -> Result<(), AllocError>
+fn add_call(text: &mut String, form: &Form) -> Result<(), AllocError>
     ensures { OnOk result (string_bytes text.new ≡ string_bytes text.old ++ call_text form.now) }
 {
     text.push_str(form.word)?;
     add_arguments(text, form.needed, form.optional, form.kind.takes_several())?;
     add_bracketed(text, form.marks, form.value)
+}
+
+/// A command with its arguments, flags and options.
+pub fn call_text(alloc: Global, form: &Form) -> Result<String, AllocError>
+    ensures { IfOk result (λ s. string_bytes s ≡ call_text form.now) }
+{
+    let mut text = String::new(alloc);
+    add_call(&mut text, form)?;
+    Ok(text)
 }
 
 /// What parts a command from those behind it.
