@@ -182,6 +182,8 @@ request_ends (request.Replay r) at x y s known one two =
     of_ends (certified_at (at r.file)) (λ c. IsOfNamed at r.profile MAX_PROFILE_BYTES why.LongProfile (IsOfProfile c r.profile r.name)) x y s
     (λ c. named_ends at r.profile MAX_PROFILE_BYTES why.LongProfile (IsOfProfile c r.profile r.name) x y s (λ bad. cc) (λ bytes a b. b.1 ∙ sym a.1))
     one two
+request_ends (request.Help command) at x y s known one two = two.1
+request_ends request.Version at x y s known one two = two.1
 
 -- a call that ends otherwise has met the outside or want of memory
 pub completes : (files : Option Files) (r : Request) (s : Status) → (IsAnswer s → (y : List ℕ) × IfSome files (λ at. IsOfRequest r at y s))

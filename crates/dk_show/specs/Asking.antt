@@ -74,6 +74,8 @@ handed_for (request.Check r) at = handed_ready at r + handed_after (λ _. handed
 handed_for (request.Replay r) at =
     handed_out MAX_CONFIG_BYTES (at r.file)
     + handed_after (λ _. handed_out MAX_PROFILE_BYTES (at r.profile)) (certified_at (at r.file))
+handed_for (request.Help command) at = 0
+handed_for request.Version at = 0
 
 -- a file of the first part isn't there, or one of the second, where the first comes to something
 abbrev pub MissesAfter : {X : Type 0} → (X → Type 0) → Result X Refusal → Type 0
@@ -108,6 +110,8 @@ Misses (request.Impact r) at = MissesAfter (λ _. loaded at r.new ≡ Err why.De
 Misses (request.Repeats file ticks) at = loaded at file ≡ Err why.Depot
 Misses (request.Check r) at = MissesAfter (λ _. MissesLedger at r.ledger) (ready_at at r)
 Misses (request.Replay r) at = MissesAfter (λ _. at r.profile ≡ None) (certified_at (at r.file))
+Misses (request.Help command) at = ⊥
+Misses request.Version at = ⊥
 
 abbrev pub IsLoud : {A : Type 0} → Result A Refusal → Type 0
 IsLoud (Ok x) = Unit {0}

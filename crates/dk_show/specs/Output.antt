@@ -40,7 +40,9 @@ pub use Rattle.dk_show.specs.Pictured.{from_of, to_of}
 use Rattle.dk_show.specs.Needed.{IsOfCheck, ready_at}
 use Rattle.dk_show_request.specs.Meaning.{meaning}
 use Rattle.dk_show_request.specs.Reasons.{wrong_text}
+use Rattle.dk_show_request.specs.Help.{help_text}
 use Rattle.dk_show_request.specs.Usage.{usage_text}
+use Rattle.dk_show_request.specs.declared.table.TheConstants.{VERSIONS}
 use Rattle.dk_show.specs.Repeats.{IsOfRepeats}
 use Rattle.dk_show.specs.Replays.{IsOfProfile}
 use Rattle.dk_profile.specs.declared.TheConstants.{MAX_PROFILE_BYTES}
@@ -123,6 +125,10 @@ IsAllWrong at file text ended = MatchBool (is_source_name file)
     (IsOfNamed at file MAX_SOURCE_BYTES why.LongSource IsOfSource text ended)
     (IsOfNamed at file MAX_CONFIG_BYTES why.LongConfig IsOfFaults text ended)
 
+-- it is this text, whatever the files are
+abbrev pub IsTold : List ℕ → List ℕ → Status → Type 0
+IsTold wanted text ended = (text ≡ wanted) × (ended ≡ status.Done)
+
 abbrev pub IsOfRequest : Request → Files → List ℕ → Status → Type 0
 IsOfRequest (request.Draw r) at text ended =
     IsOfNamed at r.ledger MAX_LEDGER_BYTES why.LongLedger (IsOfBytes r) text ended
@@ -143,6 +149,8 @@ IsOfRequest (request.Check r) at text ended = IsOf (ready_at at r) (IsOfCheck at
 IsOfRequest (request.Replay r) at text ended =
     IsOf (certified_at (at r.file))
     (λ c. IsOfNamed at r.profile MAX_PROFILE_BYTES why.LongProfile (IsOfProfile c r.profile r.name)) text ended
+IsOfRequest (request.Help command) at text ended = IsTold (help_text command) text ended
+IsOfRequest request.Version at text ended = IsTold VERSIONS.now text ended
 
 -- the usage line, and why the words mean nothing
 abbrev pub IsUsage : List (List ℕ) → List ℕ → Status → Type 0

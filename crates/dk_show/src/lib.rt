@@ -5,6 +5,7 @@ mod chains;
 mod checks;
 mod faults;
 mod files;
+mod helps;
 mod holds;
 mod impacts;
 mod loading;

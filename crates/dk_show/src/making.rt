@@ -13,6 +13,7 @@ use crate::chains::chain_work;
 use crate::checks::check_work;
 use crate::faults::faults_work;
 use crate::files::file_at;
+use crate::helps::{help_work, version_work};
 use crate::holds::holds_work;
 use crate::impacts::impact_work;
 use crate::pictures::picture_work;
@@ -129,5 +130,7 @@ pub(crate) fn work_for<D: Depot>(
         Request::Repeats { file, ticks } => repeats_work(alloc, file.as_str(), *ticks, depot),
         Request::Check(request) => check_work(alloc, request, depot),
         Request::Replay(request) => replay_work(alloc, request, depot),
+        Request::Help(command) => help_work(alloc, command),
+        Request::Version => version_work(alloc),
     }
 }

@@ -112,7 +112,7 @@ fn put<S: Sink>(alloc: Global, work: &Work, sink: &mut S) -> Status
 fn usage_of(alloc: Global, words: &[String]) -> Result<String, AllocError>
     ensures { IfOk result (λ s. string_bytes s ≡ usage_text ++ wrong_text (map string_bytes words.now)) }
 {
-    let mut text = String::from_str(alloc, usage())?;
+    let mut text = usage(alloc)?;
     let why = wrong_words(alloc, words)?;
     text.push_str(why.as_str())?;
     Ok(text)

@@ -237,19 +237,19 @@ const VERSION: Row = (
     "--version",
     (&[], &[], Kind::Words),
     (&[], ""),
-    (
-        "which documents the program reads",
-        "--version",
-    ),
+    ("which documents the program reads", "--version"),
 );
 
 /// The commands, in the order of the usage line.
 pub const COMMANDS: &[Row] = &[
-    PICTURE, TRACE, VCD, CSV, WINDOWS, HOLDS, FAULTS, CERTIFY, MARGINS, WHEN, SLACK, WARNINGS, CHAIN, IMPACT, REPEATS, CHECK, REPLAY, HELP, VERSION,
+    PICTURE, TRACE, VCD, CSV, WINDOWS, HOLDS, FAULTS, CERTIFY, MARGINS, WHEN, SLACK, WARNINGS,
+    CHAIN, IMPACT, REPEATS, CHECK, REPLAY, HELP, VERSION,
 ];
 
 /// What the statuses mean, at the end of the page of help.
-pub const STATUSES: &str = "statuses:\n  0\n      done\n  1\n      the words are no command; the usage line is printed\n  2\n      the configuration is refused, or the needs are, or for faults something is wrong with it\n  3\n      the configuration isn't certified\n  4\n      a name is that of no process; for slack a process has no right to it, or the allotments don't hold together; for impact a process that isn't named isn't the same; for repeats the run as a whole isn't found to repeat; for check a need isn't met; for replay something is wrong with the profile; a program is too long; or the ledger is refused or of another configuration, the range ends behind it or has too many lines for a picture, or it isn't clean where it must be\n  5\n      a file couldn't be read\n  6\n      the output couldn't be written\n  7\n      memory ran out\n  127\n      there is no program to run, and none could be built\n";
+pub const STATUSES: &str =
+    "statuses:\n  0\n      done\n  1\n      the words are no command; the usage line is printed\n  2\n      the configuration is refused, or the needs are, or for faults something is wrong with it\n  3\n      the configuration isn't certified\n  4\n      a name is that of no process; for slack a process has no right to it, or the allotments don't hold together; for impact a process that isn't named isn't the same; for repeats the run as a whole isn't found to repeat; for check a need isn't met; for replay something is wrong with the profile; a program is too long; or the ledger is refused or of another configuration, the range ends behind it or has too many lines for a picture, or it isn't clean where it must be\n  5\n      a file couldn't be read\n  6\n      the output couldn't be written\n  7\n      memory ran out\n  127\n      there is no program to run, and none could be built\n";
 
 /// What the program tells of itself.
-pub const VERSIONS: &str = "deosk-show, for configurations of versions 1 and 2 and needs of version 1\n";
+pub const VERSIONS: &str =
+    "deosk-show, for configurations of versions 1 and 2 and needs of version 1\n";
