@@ -1,5 +1,5 @@
 -- What is told of words that mean nothing is one line.
-use Rattle.dk_show_request.proofs.Names.{ℕ, zero, suc, ◌≡◌, ◌==◌, ◌∙◌, true, false, List, [], ◌∷◌, ◌++◌, codes, refl, sym, ap, subst, length, append_assoc, inl, inr, ◌||◌, Option, Some, None, decimal, slice_get, list_any, cases_Bool, list_any-append, MAX_PROCESSES, MAX_RUN_TICKS, Form, forms, meant, find, bytes_eq, rules, Reason, is_control, reason, reason_text, shown, wrong_with, marks_text, AreLines, Holds, IsLine}
+use Rattle.dk_show_request.proofs.Names.{ℕ, zero, suc, ◌≡◌, ◌==◌, ◌∙◌, true, false, List, [], ◌∷◌, ◌++◌, codes, refl, sym, ap, subst, length, append_assoc, inl, inr, ◌||◌, Option, Some, None, decimal, slice_get, list_any, cases_Bool, list_any-append, MAX_PROCESSES, MAX_RUN_TICKS, Form, forms, meant, find, bytes_eq, rules, Reason, is_control, reason, reason_text, shown, wrong_with, flags_text, dashed, AreLines, Holds, IsLine}
 use Rattle.dk_show_request.specs.Forms.{form_named}
 use Rattle.std.specs.Fmt.{digits}
 use Rattle.std.proofs.Common.{Bool}
@@ -52,7 +52,8 @@ record IsCleanForm (f : Form) : Type 0 where
   word : IsClean f.word
   needed : AllClean f.needed
   optional : AllClean f.optional
-  marks : IsClean (marks_text f.marks)
+  flags : IsClean (flags_text f.flags)
+  option : IsClean (dashed f.option)
 
 abbrev AreCleanForms : List Form → Type 0
 AreCleanForms [] = Unit {0}
@@ -86,7 +87,13 @@ reason_line f ws (Reason.no_allotment w) clean h = line-append (shown w) _ (show
     (line-append (codes " is no NAME=TICKS, with TICKS from 0 to ") _ refl (line-append (decimal MAX_RUN_TICKS) _ most_ticks ([], refl, refl)))
 reason_line f ws (Reason.allotted_again name) clean h = line-append (shown name) _ (shown_clean name) (codes " is allotted more than once", refl, refl)
 reason_line f ws (Reason.no_command w) clean h = line-append (shown w) _ (shown_clean w) (codes " is no command", refl, refl)
-reason_line f ws (Reason.repeated flags) clean h = line-append flags _ (subst IsClean (sym h.0) clean.marks) (codes " stands more than once", refl, refl)
+reason_line f ws (Reason.repeated marks) clean h = line-append marks _ marks_clean (codes " stands more than once", refl, refl)
+  where
+    marks_clean : IsClean marks
+    marks_clean = elim h [
+      | inl flags ↦ subst IsClean (sym flags.0) clean.flags
+      | inr option ↦ subst IsClean (sym option.0) clean.option
+    ]
 reason_line f ws (Reason.bare w) clean h = line-append (codes "a word is wanted behind ") _ refl (line-append (shown w) _ (shown_clean w) ([], refl, refl))
 reason_line f ws Reason.other clean h = (codes "these words are no call of it", refl, refl)
 

@@ -1,5 +1,5 @@
 -- The reason that is told holds of the words.
-use Rattle.dk_show_request.proofs.Names.{ℕ, ◌≡◌, ◌<◌, ◌+◌, ◌==◌, ◌∙◌, true, false, List, [], ◌∷◌, length, refl, sym, subst, arith, inl, inr, ◌-◌, ◌&&◌, ◌||◌, not, Option, Some, None, find, is_some, nat_lt, slice_get, unwrap_or, if◌then◌else◌, option_map_or, cases_Bool, and_parts, nat_tests, find_at, position_or_len, MAX_PROCESSES, Form, Kind, takes_several, takes_ticks, ticks_in, marks_text, arguments, ends_bare, is_mark, is_option, is_plain_word, is_repeated, is_unfit, unfit_word, word_at, bytes_eq, filter, list_any, allotments_reason, again_reason, allotting, has_same_name, is_no_allotment, is_no_command, form_named, naming, commands_reason, name_in, repeated_name, ticks_behind, Reason, count_reason, has_many_names, is_below, is_disordered, is_no_ticks, mark_reason, missing_name, names_reason, no_ticks_word, order_reason, surplus_reason, surplus_word, ticks_reason, unfit_reason, AreNotBelow, HoldsOf, LeavesOut, ReasonsHold, StandsIn}
+use Rattle.dk_show_request.proofs.Names.{ℕ, ◌≡◌, ◌<◌, ◌+◌, ◌==◌, ◌∙◌, true, false, List, [], ◌∷◌, length, refl, sym, subst, arith, inl, inr, ◌-◌, ◌&&◌, ◌||◌, not, Option, Some, None, find, is_some, nat_lt, slice_get, unwrap_or, if◌then◌else◌, option_map_or, cases_Bool, and_parts, nat_tests, find_at, position_or_len, MAX_PROCESSES, Form, Kind, takes_several, takes_ticks, ticks_in, flags_text, arguments, ends_bare, dashed, has_flags, has_options, is_flag, is_mark, is_option, is_plain_word, is_unfit, unfit_word, word_at, bytes_eq, filter, list_any, allotments_reason, again_reason, allotting, has_same_name, is_no_allotment, is_no_command, form_named, naming, commands_reason, name_in, repeated_name, ticks_behind, Reason, count_reason, has_many_names, is_below, is_disordered, is_no_ticks, mark_reason, missing_name, names_reason, no_ticks_word, order_reason, surplus_reason, surplus_word, ticks_reason, unfit_reason, AreNotBelow, HoldsOf, LeavesOut, ReasonsHold, StandsIn}
 use Rattle.std.proofs.Common.{Bool, ◌≤◌, ◌⊎◌}
 use Rattle.std.specs.Prelude.{drop}
 use Rattle.std.proofs.lemmas.Slice.Eq.{bytes_eq-Decides}
@@ -87,9 +87,12 @@ marks : (f : Form) (ps ws : List (List ℕ)) → HoldsOf f ps ws (mark_reason f 
 marks f ps ws =
     let P = λ (r : Reason). HoldsOf f ps ws r in
     let last = word_at ws (length ws - 1) in
-    if_so P (is_repeated f ws) (Reason.repeated (marks_text f.marks)) (if ends_bare f ws then Reason.bare last else Reason.other)
-    (λ twice. (refl, grind (arith, nat_tests)))
-    (λ once. if_so P (ends_bare f ws) (Reason.bare last) Reason.other (ended f ws) (λ _. tt))
+    let bare = if ends_bare f ws then Reason.bare last else Reason.other in
+    if_so P (has_flags f ws) (Reason.repeated (flags_text f.flags)) (if has_options f ws then Reason.repeated (dashed f.option) else bare)
+    (λ twice. inl (refl, grind (arith, nat_tests)))
+    (λ _. if_so P (has_options f ws) (Reason.repeated (dashed f.option)) bare
+    (λ twice. inr (refl, grind (arith, nat_tests)))
+    (λ once. if_so P (ends_bare f ws) (Reason.bare last) Reason.other (ended f ws) (λ _. tt)))
 
 -- what the allotments of a command are among its words
 no_command_in : (k : Kind) (ps ws : List (List ℕ)) (f : Form) (w : List ℕ) → find is_no_command (naming k ps) ≡ Some w

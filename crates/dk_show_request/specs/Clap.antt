@@ -35,9 +35,6 @@ word_rules [] required repeats = []
 word_rules (name ∷ rest) required repeats =
     word_rule name required (is_several repeats rest) ∷ word_rules rest required repeats
 
-abbrev pub mark_rule : Bool → List ℕ → Rule
-mark_rule valued name = if valued then option name else flag name
-
 abbrev pub with_rules : App → List Rule → App
 with_rules app [] = app
 with_rules app (rule ∷ rules) = with_rules (with_rule app rule) rules
@@ -49,9 +46,16 @@ needed_app f = with_rules (new_app f.word) (word_rules f.needed true (is_several
 abbrev pub words_app : Form → App
 words_app f = with_rules (needed_app f) (word_rules f.optional false (takes_several f.kind))
 
+-- and for the flags, and the option, if there is one
+abbrev pub flags_app : Form → App
+flags_app f = with_rules (words_app f) (map flag f.flags)
+
+abbrev pub with_option : App → List ℕ → App
+with_option app name = if nat_lt 0 (length name) then with_rule app (option name) else app
+
 -- what `clap` is given for a command
 abbrev pub app_for : Form → App
-app_for f = with_rules (words_app f) (map (mark_rule (nat_lt 0 (length f.value))) f.marks)
+app_for f = with_option (flags_app f) f.option
 
 -- the text of a flag is "true" or "false"
 abbrev pub is_true : Option Text → Bool

@@ -16,9 +16,11 @@ pub record Form : Type 0 where
   pub optional : List (List ℕ)
   -- what stands for those behind the first
   pub kind : Kind
-  -- the names of the flags or options, each behind two dashes, of which one at most may stand, anywhere
-  pub marks : List (List ℕ)
-  -- the name of the word behind them, if they are options, else nothing
+  -- the names of the flags, each behind two dashes, of which one at most may stand, anywhere
+  pub flags : List (List ℕ)
+  -- the name of the option, which may stand once, anywhere, and nothing where there is none
+  pub option : List ℕ
+  -- that of the word behind it
   pub value : List ℕ
   -- what the command is for, and a call of it
   pub about : List ℕ
@@ -41,7 +43,7 @@ abbrev pub Words : Type 0
 Words = Bor (List (Bor (List ℕ)))
 
 abbrev pub RowLent : Type 0
-RowLent = Command × Bor (List ℕ) × (Words × Words × Kind) × (Words × Bor (List ℕ)) × (Bor (List ℕ) × Bor (List ℕ))
+RowLent = Command × Bor (List ℕ) × (Words × Words × Kind) × (Words × (Bor (List ℕ) × Bor (List ℕ))) × (Bor (List ℕ) × Bor (List ℕ))
 
 abbrev pub form_lent : RowLent → Form
 form_lent r = record {
@@ -50,8 +52,9 @@ form_lent r = record {
   needed = map (λ w. w.now) r.2.0.now;
   optional = map (λ w. w.now) r.2.1.now;
   kind = r.2.2;
-  marks = map (λ w. w.now) r.3.0.now;
-  value = r.3.1.now;
+  flags = map (λ w. w.now) r.3.0.now;
+  option = r.3.1.0.now;
+  value = r.3.1.1.now;
   about = r.4.0.now;
   example = r.4.1.now;
 }
@@ -64,7 +67,7 @@ abbrev pub Texts : Type 0
 Texts = record { now : List Text }
 
 abbrev pub RowConstant : Type 0
-RowConstant = Command × Text × (Texts × Texts × Kind) × (Texts × Text) × (Text × Text)
+RowConstant = Command × Text × (Texts × Texts × Kind) × (Texts × (Text × Text)) × (Text × Text)
 
 abbrev pub form_constant : RowConstant → Form
 form_constant r = record {
@@ -73,8 +76,9 @@ form_constant r = record {
   needed = map (λ w. w.now) r.2.0.now;
   optional = map (λ w. w.now) r.2.1.now;
   kind = r.2.2;
-  marks = map (λ w. w.now) r.3.0.now;
-  value = r.3.1.now;
+  flags = map (λ w. w.now) r.3.0.now;
+  option = r.3.1.0.now;
+  value = r.3.1.1.now;
   about = r.4.0.now;
   example = r.4.1.now;
 }

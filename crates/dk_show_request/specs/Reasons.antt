@@ -8,8 +8,8 @@ use Rattle.dk_show_request.specs.declared.table.Kind.TheVariants as kind
 use Rattle.dk_show_request.specs.Allotments.{is_no_allotment, repeated_name}
 use Rattle.dk_show_request.specs.Forms.{Form, form_named, is_no_command, takes_several, takes_ticks}
 use Rattle.dk_show_request.specs.Numbers.{ticks_in}
-use Rattle.dk_show_request.specs.Usage.{marks_text}
-use Rattle.dk_show_request.specs.Words.{arguments, ends_bare, is_repeated, unfit_word, word_at}
+use Rattle.dk_show_request.specs.Usage.{flags_text}
+use Rattle.dk_show_request.specs.Words.{arguments, dashed, ends_bare, has_flags, has_options, unfit_word, word_at}
 
 -- why the words behind a command word are no call of it
 pub data Reason : Type 0 where
@@ -74,7 +74,8 @@ allotting _ ps = []
 -- of the flags and options
 abbrev pub mark_reason : Form → List (List ℕ) → Reason
 mark_reason f ws =
-    if is_repeated f ws then repeated (marks_text f.marks)
+    if has_flags f ws then repeated (flags_text f.flags)
+    else if has_options f ws then repeated (dashed f.option)
     else if ends_bare f ws then bare (word_at ws (length ws - 1))
     else other
 

@@ -7,8 +7,8 @@ use Rattle.dk_show_request.specs.Allotments.{name_in, ticks_behind}
 use Rattle.dk_show_request.specs.Forms.{Form, form_named, takes_several, takes_ticks}
 use Rattle.dk_show_request.specs.Numbers.{ticks_in}
 use Rattle.dk_show_request.specs.Reasons.{Reason, is_control, reason, wrong_text}
-use Rattle.dk_show_request.specs.Usage.{marks_text}
-use Rattle.dk_show_request.specs.Words.{arguments, is_mark, is_option, is_plain_word}
+use Rattle.dk_show_request.specs.Usage.{flags_text}
+use Rattle.dk_show_request.specs.Words.{arguments, dashed, is_flag, is_mark, is_option, is_plain_word}
 
 abbrev pub StandsIn : List (List ℕ) → List ℕ → Type 0
 StandsIn ws w = (i : ℕ) × (slice_get ws i ≡ Some w)
@@ -34,7 +34,9 @@ HoldsOf f ps ws Reason.many_names = MAX_PROCESSES < length (drop 1 ps)
 HoldsOf f ps ws (Reason.no_allotment w) = StandsIn (drop 1 ps) w × (ticks_behind w ≡ None)
 HoldsOf f ps ws (Reason.allotted_again name) = 1 < length (filter (λ w. bytes_eq name (name_in w)) (drop 1 ps))
 HoldsOf f ps ws (Reason.no_command w) = StandsIn ps w × (form_named w ≡ None)
-HoldsOf f ps ws (Reason.repeated flags) = (flags ≡ marks_text f.marks) × (1 < length (filter (is_mark f) ws))
+HoldsOf f ps ws (Reason.repeated marks) =
+    ((marks ≡ flags_text f.flags) × (1 < length (filter (is_flag f) ws)))
+    ⊎ ((marks ≡ dashed f.option) × (1 < length (filter (is_option f) ws)))
 HoldsOf f ps ws (Reason.bare w) = (slice_get ws (length ws - 1) ≡ Some w) × (is_option f w ≡ true)
 HoldsOf f ps ws Reason.other = Unit {0}
 

@@ -16,22 +16,24 @@ abbrev pub arguments_in : List (List ℕ) → List (List ℕ) → Bool → List 
 arguments_in needed [] repeats = spaced needed ++ dots repeats
 arguments_in needed (name ∷ more) repeats = spaced needed ++ bracketed (name ++ (spaced more ++ dots repeats))
 
--- flags or options of these names, parted by bars
-abbrev pub marks_text : List (List ℕ) → List ℕ
-marks_text [] = []
-marks_text (m ∷ []) = dashed m
-marks_text (m ∷ next ∷ more) = dashed m ++ (codes "|" ++ marks_text (next ∷ more))
+-- flags of these names, parted by bars
+abbrev pub flags_text : List (List ℕ) → List ℕ
+flags_text [] = []
+flags_text (m ∷ []) = dashed m
+flags_text (m ∷ next ∷ more) = dashed m ++ (codes "|" ++ flags_text (next ∷ more))
 
-abbrev pub valued : List ℕ → List ℕ
-valued name = if nat_lt 0 (length name) then codes " " ++ name else []
+abbrev pub flags_in : List (List ℕ) → List ℕ
+flags_in [] = []
+flags_in (m ∷ more) = bracketed (flags_text (m ∷ more))
 
-abbrev pub marks_in : List (List ℕ) → List ℕ → List ℕ
-marks_in [] value = []
-marks_in (m ∷ more) value = bracketed (marks_text (m ∷ more) ++ valued value)
+-- an option with the name of its word
+abbrev pub option_in : List ℕ → List ℕ → List ℕ
+option_in name value = if nat_lt 0 (length name) then bracketed (dashed name ++ (codes " " ++ value)) else []
 
--- a command with its arguments, flags and options
+-- a command with its arguments, its option and its flags
 abbrev pub call_text : Form → List ℕ
-call_text f = f.word ++ (arguments_in f.needed f.optional (takes_several f.kind) ++ marks_in f.marks f.value)
+call_text f =
+    f.word ++ (arguments_in f.needed f.optional (takes_several f.kind) ++ (option_in f.option f.value ++ flags_in f.flags))
 
 abbrev pub bar : List Form → List ℕ
 bar [] = []

@@ -3,7 +3,7 @@ ghost use Rattle.std.specs.Prelude.{◌≡◌, IfOk, drop, filter, find, length,
 ghost use Rattle.std.specs.List.{list_any};
 ghost use Rattle.std.specs.Str.{bytes_eq};
 ghost use Rattle.dk_show_request.specs.Reasons.{is_no_ticks, missing_name, no_ticks_word, surplus_word};
-ghost use Rattle.dk_show_request.specs.Words.{arguments, dashed, fits, is_mark, is_option, is_plain_word, is_repeated, is_unfit, unfit_word};
+ghost use Rattle.dk_show_request.specs.Words.{arguments, dashed, fits, has_flags, has_options, is_flag, is_mark, is_option, is_plain_word, is_unfit, unfit_word};
 
 use crate::forms::Form;
 use crate::numbers::ticks_in;
@@ -34,18 +34,24 @@ fn is_among(names: &[&str], word: &String) -> bool
     names.iter().any(|name| is_dashed(word, name))
 }
 
+fn is_flag(form: &Form, word: &String) -> bool
+    ensures { result ≡ is_flag form.now (string_bytes word.now) }
+{
+    is_among(form.flags, word)
+}
+
+/// The word is the option.
+pub fn is_option(form: &Form, word: &String) -> bool
+    ensures { result ≡ is_option form.now (string_bytes word.now) }
+{
+    !form.option.is_empty() && is_dashed(word, form.option)
+}
+
 /// The word is a flag or an option.
 fn is_mark(form: &Form, word: &String) -> bool
     ensures { result ≡ is_mark form.now (string_bytes word.now) }
 {
-    is_among(form.marks, word)
-}
-
-/// The word is an option.
-pub fn is_option(form: &Form, word: &String) -> bool
-    ensures { result ≡ is_option form.now (string_bytes word.now) }
-{
-    !form.value.is_empty() && is_mark(form, word)
+    is_flag(form, word) || is_option(form, word)
 }
 
 /// The words that stand for arguments: no flag or option, and not the word behind an option.
@@ -155,22 +161,35 @@ pub fn no_ticks_word<'a>(form: &Form, given: &[&'a str]) -> Option<&'a str>
     }
 }
 
-fn mark_count(form: &Form, words: &[String]) -> usize
-    ensures { result ≡ length (filter (λ w. is_mark form.now (string_bytes w)) words.now) }
+fn flag_count(form: &Form, words: &[String]) -> usize
+    ensures { result ≡ length (filter (λ w. is_flag form.now (string_bytes w)) words.now) }
 {
-    words.iter().filter(|word| is_mark(form, word)).count()
+    words.iter().filter(|word| is_flag(form, word)).count()
 }
 
-/// Whether more than one word is a flag or an option.
-pub fn is_repeated(form: &Form, words: &[String]) -> bool
-    ensures { result ≡ is_repeated form.now (map string_bytes words.now) }
+fn option_count(form: &Form, words: &[String]) -> usize
+    ensures { result ≡ length (filter (λ w. is_option form.now (string_bytes w)) words.now) }
 {
-    mark_count(form, words) > 1
+    words.iter().filter(|word| is_option(form, word)).count()
 }
 
-/// Whether no word is unfit, and one at most is a flag or an option.
+/// Whether more than one word is a flag.
+pub fn has_flags(form: &Form, words: &[String]) -> bool
+    ensures { result ≡ has_flags form.now (map string_bytes words.now) }
+{
+    flag_count(form, words) > 1
+}
+
+/// Whether more than one word is the option.
+pub fn has_options(form: &Form, words: &[String]) -> bool
+    ensures { result ≡ has_options form.now (map string_bytes words.now) }
+{
+    option_count(form, words) > 1
+}
+
+/// Whether no word is unfit, and one at most is a flag, and one the option.
 pub fn fits(form: &Form, words: &[String]) -> bool
     ensures { result ≡ fits form.now (map string_bytes words.now) }
 {
-    unfit_word(form, words).is_none() && !is_repeated(form, words)
+    unfit_word(form, words).is_none() && !(has_flags(form, words) || has_options(form, words))
 }

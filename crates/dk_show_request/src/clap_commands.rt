@@ -1,7 +1,7 @@
 //! What `clap` is given for each command.
-ghost use Rattle.std.specs.Prelude.{◌≡◌, IfOk, length, map, nat_lt};
+ghost use Rattle.std.specs.Prelude.{◌≡◌, IfOk, map};
 ghost use Rattle.clap.specs.Words.{app_of, with_rule};
-ghost use Rattle.dk_show_request.specs.Clap.{app_for, is_several, mark_rule, needed_app, word_rule, word_rules, words_app, with_rules};
+ghost use Rattle.dk_show_request.specs.Clap.{app_for, flag, flags_app, is_several, needed_app, option, with_option, with_rules, word_rule, word_rules, words_app};
 
 use crate::forms::Form;
 use clap::{Arg, ArgAction, Command as ClapCommand};
@@ -51,37 +51,55 @@ fn add_words<'a>(
     Ok(made)
 }
 
-/// The command with a flag of this name more, or an option, which stands before its word.
-fn add_mark<'a>(
+/// The command with a flag of this name more.
+fn add_flag<'a>(
     alloc: Global,
     command: ClapCommand<'a>,
     name: &'static str,
-    valued: bool,
 ) -> Result<ClapCommand<'a>, AllocError>
-    ensures { IfOk result (λ c. app_of c ≡ with_rule (app_of command.entry) (mark_rule valued name.entry.now)) }
+    ensures { IfOk result (λ c. app_of c ≡ with_rule (app_of command.entry) (flag name.entry.now)) }
 {
-    let mark = Arg::new(alloc, name).long(name);
-    if valued {
-        command.arg(mark.action(ArgAction::Set))
-    } else {
-        command.arg(mark.action(ArgAction::SetTrue))
-    }
+    command.arg(Arg::new(alloc, name).long(name).action(ArgAction::SetTrue))
 }
 
-/// The command with these flags or options more.
-fn add_marks<'a>(
+/// The command with these flags more.
+fn add_flags<'a>(
     alloc: Global,
     command: ClapCommand<'a>,
     names: &'static [&'static str],
-    valued: bool,
 ) -> Result<ClapCommand<'a>, AllocError>
-    ensures { IfOk result (λ c. app_of c ≡ with_rules (app_of command.entry) (map (mark_rule valued) (map (λ w. w.now) names.entry.now))) }
+    ensures { IfOk result (λ c. app_of c ≡ with_rules (app_of command.entry) (map flag (map (λ w. w.now) names.entry.now))) }
 {
     let mut made = command;
     for name in names {
-        made = add_mark(alloc, made, name, valued)?;
+        made = add_flag(alloc, made, name)?;
     }
     Ok(made)
+}
+
+/// The command with an option of this name more, which stands before its word.
+fn add_valued<'a>(
+    alloc: Global,
+    command: ClapCommand<'a>,
+    name: &'static str,
+) -> Result<ClapCommand<'a>, AllocError>
+    ensures { IfOk result (λ c. app_of c ≡ with_rule (app_of command.entry) (option name.entry.now)) }
+{
+    command.arg(Arg::new(alloc, name).long(name).action(ArgAction::Set))
+}
+
+/// The same, and none where the name is empty.
+fn add_option<'a>(
+    alloc: Global,
+    command: ClapCommand<'a>,
+    name: &'static str,
+) -> Result<ClapCommand<'a>, AllocError>
+    ensures { IfOk result (λ c. app_of c ≡ with_option (app_of command.entry) name.entry.now) }
+{
+    if name.is_empty() {
+        return Ok(command);
+    }
+    add_valued(alloc, command, name)
 }
 
 /// What `clap` is given for the arguments that must stand.
@@ -101,18 +119,18 @@ fn words_for<'a>(alloc: Global, form: &Form) -> Result<ClapCommand<'a>, AllocErr
     add_words(alloc, made, form.optional, false, form.kind.takes_several())
 }
 
-/// Whether the flags of the command are options.
-fn takes_value(form: &Form) -> bool
-    ensures { result ≡ nat_lt 0 (length form.now.value) }
+/// What `clap` is given for all arguments and flags.
+fn flags_for<'a>(alloc: Global, form: &Form) -> Result<ClapCommand<'a>, AllocError>
+    ensures { IfOk result (λ c. app_of c ≡ flags_app form.now) }
 {
-    !form.value.is_empty()
+    let made = words_for(alloc, form)?;
+    add_flags(alloc, made, form.flags)
 }
 
 /// What `clap` is given for a command.
 pub fn command_for<'a>(alloc: Global, form: &Form) -> Result<ClapCommand<'a>, AllocError>
     ensures { IfOk result (λ c. app_of c ≡ app_for form.now) }
 {
-    let made = words_for(alloc, form)?;
-    let valued = takes_value(form);
-    add_marks(alloc, made, form.marks, valued)
+    let made = flags_for(alloc, form)?;
+    add_option(alloc, made, form.option)
 }

@@ -20,9 +20,11 @@ pub struct Form {
     pub optional: &'static [&'static str],
     /// What stands for those behind the first.
     pub kind: Kind,
-    /// The names of the flags or options, of which one at most may stand.
-    pub marks: &'static [&'static str],
-    /// The name of the word behind them, if they are options, else nothing.
+    /// The names of the flags, of which one at most may stand.
+    pub flags: &'static [&'static str],
+    /// The name of the option, if there is one, else nothing.
+    pub option: &'static str,
+    /// That of the word behind it.
     pub value: &'static str,
     /// What the command is for.
     pub about: &'static str,
@@ -42,7 +44,8 @@ impl Model for Form {
       needed = map (λ w. w.now) f.needed.now;
       optional = map (λ w. w.now) f.optional.now;
       kind = f.kind;
-      marks = map (λ w. w.now) f.marks.now;
+      flags = map (λ w. w.now) f.flags.now;
+      option = f.option.now;
       value = f.value.now;
       about = f.about.now;
       example = f.example.now;
@@ -69,14 +72,15 @@ impl Kind {
 pub fn form_of(row: &Row) -> Form
     ensures { result ≡ form_lent row.now }
 {
-    let (command, word, (needed, optional, kind), (marks, value), (about, example)) = *row;
+    let (command, word, (needed, optional, kind), (flags, (option, value)), (about, example)) = *row;
     Form {
         command,
         word,
         needed,
         optional,
         kind,
-        marks,
+        flags,
+        option,
         value,
         about,
         example,

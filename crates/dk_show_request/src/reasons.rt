@@ -8,7 +8,7 @@ ghost use Rattle.dk_show_request.specs.TrueReasons.{AreLines, ReasonsHold};
 
 use crate::allotments::{no_allotment, repeated_name};
 use crate::arguments::{
-    arguments, is_option, is_repeated, missing_name, no_ticks_word, surplus_word, unfit_word,
+    arguments, has_flags, has_options, is_option, missing_name, no_ticks_word, surplus_word, unfit_word,
 };
 use crate::forms::{Form, form_named, is_no_command};
 use crate::numbers::ticks_in;
@@ -17,7 +17,7 @@ use crate::reason_texts::{
     unfit_text,
 };
 use crate::table::Kind;
-use crate::usage_line::marks_text;
+use crate::usage_line::flags_text;
 use dk_config::MAX_PROCESSES;
 use std::alloc::{AllocError, Global};
 
@@ -39,9 +39,13 @@ fn bare_option<'a>(form: &Form, words: &'a [String]) -> Option<&'a str>
 fn mark_text(alloc: Global, form: &Form, words: &[String]) -> Result<String, AllocError>
     ensures { IfOk result (λ s. string_bytes s ≡ reason_text (mark_reason form.now (map string_bytes words.now))) }
 {
-    if is_repeated(form, words) {
-        let marks = marks_text(alloc, form.marks)?;
-        return said_of(alloc, marks.as_str(), " stands more than once\n");
+    if has_flags(form, words) {
+        let flags = flags_text(alloc, form.flags)?;
+        return said_of(alloc, flags.as_str(), " stands more than once\n");
+    }
+    if has_options(form, words) {
+        let option = form.option;
+        return format!(in alloc; "--{option} stands more than once\n");
     }
     match bare_option(form, words) {
         Some(word) => bare_text(alloc, word),

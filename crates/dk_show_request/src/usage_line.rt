@@ -1,7 +1,7 @@
 //! The usage line, and a command as it stands there.
 ghost use Rattle.std.specs.Prelude.{◌≡◌, ◌++◌, codes, IfOk, OnOk, map, string_bytes};
 ghost use Rattle.dk_show_request.specs.Forms.{form_lent};
-ghost use Rattle.dk_show_request.specs.Usage.{arguments_in, bar, call_text, dots, marks_in, marks_text, spaced, usage_text, usages, valued};
+ghost use Rattle.dk_show_request.specs.Usage.{arguments_in, bar, call_text, dots, flags_in, flags_text, option_in, spaced, usage_text, usages};
 ghost use Rattle.dk_show_request.specs.Words.{dashed};
 
 use crate::forms::{Form, form_of};
@@ -46,9 +46,9 @@ fn add_arguments(
     text.push_str("]")
 }
 
-/// Adds the flags or options of these names, parted by bars.
-fn add_marks(text: &mut String, names: &[&str]) -> Result<(), AllocError>
-    ensures { OnOk result (string_bytes text.new ≡ string_bytes text.old ++ marks_text (map (λ w. w.now) names.now)) }
+/// Adds the flags of these names, parted by bars.
+fn add_flags(text: &mut String, names: &[&str]) -> Result<(), AllocError>
+    ensures { OnOk result (string_bytes text.new ≡ string_bytes text.old ++ flags_text (map (λ w. w.now) names.now)) }
 {
     let [name, more @ ..] = names else {
         return Ok(());
@@ -59,52 +59,55 @@ fn add_marks(text: &mut String, names: &[&str]) -> Result<(), AllocError>
         return Ok(());
     }
     text.push_str("|")?;
-    add_marks(text, more)
+    add_flags(text, more)
 }
 
-/// The flags or options of these names, parted by bars.
-pub fn marks_text(alloc: Global, names: &[&str]) -> Result<String, AllocError>
-    ensures { IfOk result (λ s. string_bytes s ≡ marks_text (map (λ w. w.now) names.now)) }
+/// The flags of these names, parted by bars.
+pub fn flags_text(alloc: Global, names: &[&str]) -> Result<String, AllocError>
+    ensures { IfOk result (λ s. string_bytes s ≡ flags_text (map (λ w. w.now) names.now)) }
 {
     let mut text = String::new(alloc);
-    add_marks(&mut text, names)?;
+    add_flags(&mut text, names)?;
     Ok(text)
 }
 
-/// Adds the name of the word behind an option.
-fn add_value(text: &mut String, name: &str) -> Result<(), AllocError>
-    ensures { OnOk result (string_bytes text.new ≡ string_bytes text.old ++ valued name.now) }
-{
-    if name.is_empty() {
-        return Ok(());
-    }
-    text.push_str(" ")?;
-    text.push_str(name)
-}
-
-/// Adds the flags or options in brackets.
-fn add_bracketed(text: &mut String, names: &[&str], value: &str) -> Result<(), AllocError>
-    ensures { OnOk result (string_bytes text.new ≡ string_bytes text.old ++ marks_in (map (λ w. w.now) names.now) value.now) }
+/// Adds the flags in brackets.
+fn add_bracketed(text: &mut String, names: &[&str]) -> Result<(), AllocError>
+    ensures { OnOk result (string_bytes text.new ≡ string_bytes text.old ++ flags_in (map (λ w. w.now) names.now)) }
 {
     if names.is_empty() {
         return Ok(());
     }
     text.push_str(" [")?;
-    add_marks(text, names)?;
-    add_value(text, value)?;
+    add_flags(text, names)?;
     text.push_str("]")
 }
 
-/// Adds a command with its arguments, flags and options.
+/// Adds the option in brackets, if there is one, with the name of its word.
+fn add_option(text: &mut String, name: &str, value: &str) -> Result<(), AllocError>
+    ensures { OnOk result (string_bytes text.new ≡ string_bytes text.old ++ option_in name.now value.now) }
+{
+    if name.is_empty() {
+        return Ok(());
+    }
+    text.push_str(" [--")?;
+    text.push_str(name)?;
+    text.push_str(" ")?;
+    text.push_str(value)?;
+    text.push_str("]")
+}
+
+/// Adds a command with its arguments, its option and its flags.
 fn add_call(text: &mut String, form: &Form) -> Result<(), AllocError>
     ensures { OnOk result (string_bytes text.new ≡ string_bytes text.old ++ call_text form.now) }
 {
     text.push_str(form.word)?;
     add_arguments(text, form.needed, form.optional, form.kind.takes_several())?;
-    add_bracketed(text, form.marks, form.value)
+    add_option(text, form.option, form.value)?;
+    add_bracketed(text, form.flags)
 }
 
-/// A command with its arguments, flags and options.
+/// A command with its arguments, its option and its flags.
 pub fn call_text(alloc: Global, form: &Form) -> Result<String, AllocError>
     ensures { IfOk result (λ s. string_bytes s ≡ call_text form.now) }
 {

@@ -1,6 +1,0 @@
-use Rattle.dk_show_request.proofs.Names.{arith, string_bytes, nat_tests, is_mark}
-use Rattle.dk_show_request.proofs.Finding.{length-filter-map}
-use Rattle.dk_show_request.proofs.arguments.is_repeated.Goals as goal
-
-pub returns : goal.returns
-returns c = grind (arith, nat_tests, length-filter-map string_bytes (is_mark c.args.form.now) c.args.words.now)
