@@ -1,5 +1,5 @@
 -- The words never ask for a chain of more than 32 processes.
-use Rattle.dk_show_request.proofs.Names.{ℕ, ◌≡◌, ◌<◌, inl, inr, List, [], ◌∷◌, length, arith, drop, subst, sym, Bool, Option, Some, None, IfOk, IfSome, Result, Ok, Err, nat_lt, option_and_then, option_map, cases_Bool, nat_tests, Row, all_of, first_of, MAX_PROCESSES, Command, Drawing, Telling, CheckForm, Range, Request, WindowsForm, app_for, given_by, has, Form, HasFewNames, asked, asked_by, chain_by, chain_of, chain_with, check_by, check_form_in, drawing_by, faults_by, help_by, holds_by, impact_by, picture_by, range_in, repeats_by, repeats_of, replay_by, slack_by, slack_with, repeated_name, is_no_allotment, is_no_command, is_some, find, unwrap_or, if◌then◌else◌, ◌||◌, true, false, telling_by, windows_by, windows_form_in, ticks_in, fits}
+use Rattle.dk_show_request.proofs.Names.{ℕ, ◌≡◌, ◌<◌, inl, inr, List, [], ◌∷◌, length, arith, drop, subst, sym, Bool, Option, Some, None, IfOk, IfSome, Result, Ok, Err, nat_lt, option_and_then, option_map, cases_Bool, nat_tests, Row, all_of, first_of, MAX_PROCESSES, Command, Drawing, Telling, CheckForm, Range, Request, WindowsForm, app_for, given_by, has, Form, HasFewNames, asked, asked_by, BudgetsForm, budgets_by, budgets_form_in, percent_by, chain_by, chain_of, chain_with, check_by, check_form_in, drawing_by, faults_by, help_by, holds_by, impact_by, picture_by, range_in, repeats_by, repeats_of, replay_by, slack_by, slack_with, repeated_name, is_no_allotment, is_no_command, is_some, find, unwrap_or, if◌then◌else◌, ◌||◌, true, false, telling_by, windows_by, windows_form_in, ticks_in, fits}
 use Rattle.std.specs.Prelude.{codes}
 use Rattle.dk_show_request.specs.declared.commands.Command.TheVariants as command
 
@@ -89,6 +89,12 @@ replay_few (Some profile) None file = tt
 replay_few (Some profile) (Some name) None = tt
 replay_few (Some profile) (Some name) (Some file) = tt
 
+budgets_few : (form : BudgetsForm) (percent : Option ℕ) (times file : Word) → Few (budgets_by form percent times file)
+budgets_few form None times file = tt
+budgets_few form (Some percent) None file = tt
+budgets_few form (Some percent) (Some times) None = tt
+budgets_few form (Some percent) (Some times) (Some file) = tt
+
 help_few : (name : Word) → Few (help_by name)
 help_few None = tt
 help_few (Some name) =
@@ -113,6 +119,8 @@ asked_few command.Check rows =
     check_few (check_form_in rows) (first_of (codes "LEDGER") rows) (first_of (codes "FILE") rows) (first_of (codes "NEEDS") rows)
 asked_few command.Replay rows =
     replay_few (first_of (codes "PROFILE") rows) (first_of (codes "NAME") rows) (first_of (codes "FILE") rows)
+asked_few command.Budgets rows =
+    budgets_few (budgets_form_in rows) (percent_by (first_of (codes "reserve") rows)) (first_of (codes "TIMES") rows) (first_of (codes "FILE") rows)
 asked_few command.Help rows = help_few (first_of (codes "COMMAND") rows)
 asked_few command.Version rows = tt
 

@@ -1,5 +1,5 @@
 -- What is told of words that mean nothing is one line.
-use Rattle.dk_show_request.proofs.Names.{ℕ, zero, suc, ◌≡◌, ◌==◌, ◌∙◌, true, false, List, [], ◌∷◌, ◌++◌, codes, refl, sym, ap, subst, length, append_assoc, inl, inr, ◌||◌, Option, Some, None, decimal, slice_get, list_any, cases_Bool, list_any-append, MAX_PROCESSES, MAX_RUN_TICKS, Form, forms, meant, find, bytes_eq, rules, Reason, is_control, reason, reason_text, shown, wrong_with, flags_text, dashed, AreLines, Holds, IsLine}
+use Rattle.dk_show_request.proofs.Names.{ℕ, zero, suc, ◌≡◌, ◌==◌, ◌∙◌, true, false, List, [], ◌∷◌, ◌++◌, codes, refl, sym, ap, subst, length, append_assoc, inl, inr, ◌||◌, Option, Some, None, decimal, slice_get, list_any, cases_Bool, list_any-append, MAX_PROCESSES, MAX_RUN_TICKS, MAX_RESERVE, Form, forms, meant, find, bytes_eq, rules, Reason, is_control, reason, reason_text, shown, wrong_with, flags_text, dashed, AreLines, Holds, IsLine}
 use Rattle.dk_show_request.specs.Forms.{form_named}
 use Rattle.std.specs.Fmt.{digits}
 use Rattle.std.proofs.Common.{Bool}
@@ -33,6 +33,10 @@ shown_clean w =
 most_ticks : IsClean (decimal MAX_RUN_TICKS)
 unfolding digits
 most_ticks = refl
+
+most_percent : IsClean (decimal MAX_RESERVE)
+unfolding digits
+most_percent = refl
 
 most_names : IsClean (decimal MAX_PROCESSES)
 unfolding digits
@@ -87,6 +91,8 @@ reason_line f ws (Reason.no_allotment w) clean h = line-append (shown w) _ (show
     (line-append (codes " is no NAME=TICKS, with TICKS from 0 to ") _ refl (line-append (decimal MAX_RUN_TICKS) _ most_ticks ([], refl, refl)))
 reason_line f ws (Reason.allotted_again name) clean h = line-append (shown name) _ (shown_clean name) (codes " is allotted more than once", refl, refl)
 reason_line f ws (Reason.no_command w) clean h = line-append (shown w) _ (shown_clean w) (codes " is no command", refl, refl)
+reason_line f ws (Reason.no_percent w) clean h = line-append (shown w) _ (shown_clean w)
+    (line-append (codes " is no number of percent from 0 to ") _ refl (line-append (decimal MAX_RESERVE) _ most_percent ([], refl, refl)))
 reason_line f ws (Reason.repeated marks) clean h = line-append marks _ marks_clean (codes " stands more than once", refl, refl)
   where
     marks_clean : IsClean marks

@@ -1,5 +1,5 @@
 -- The reason that is told holds of the words.
-use Rattle.dk_show_request.proofs.Names.{ℕ, ◌≡◌, ◌<◌, ◌+◌, ◌==◌, ◌∙◌, true, false, List, [], ◌∷◌, length, refl, sym, subst, arith, inl, inr, ◌-◌, ◌&&◌, ◌||◌, not, Option, Some, None, find, is_some, nat_lt, slice_get, unwrap_or, if◌then◌else◌, option_map_or, cases_Bool, and_parts, nat_tests, find_at, position_or_len, MAX_PROCESSES, Form, Kind, takes_several, takes_ticks, ticks_in, flags_text, arguments, ends_bare, dashed, has_flags, has_options, is_flag, is_mark, is_option, is_plain_word, is_unfit, unfit_word, word_at, bytes_eq, filter, list_any, allotments_reason, again_reason, allotting, has_same_name, is_no_allotment, is_no_command, form_named, naming, commands_reason, name_in, repeated_name, ticks_behind, Reason, count_reason, has_many_names, is_below, is_disordered, is_no_ticks, mark_reason, missing_name, names_reason, no_ticks_word, order_reason, surplus_reason, surplus_word, ticks_reason, unfit_reason, AreNotBelow, HoldsOf, LeavesOut, ReasonsHold, StandsIn}
+use Rattle.dk_show_request.proofs.Names.{ℕ, suc, ◌≡◌, ◌<◌, ◌+◌, ◌==◌, ◌∙◌, true, false, List, [], ◌∷◌, length, refl, sym, subst, arith, inl, inr, ◌-◌, ◌&&◌, ◌||◌, not, Option, Some, None, find, is_some, nat_lt, slice_get, unwrap_or, if◌then◌else◌, option_map_or, cases_Bool, and_parts, nat_tests, find_at, position_or_len, MAX_PROCESSES, Form, Kind, takes_several, takes_ticks, ticks_in, flags_text, arguments, ends_bare, dashed, has_flags, has_options, is_flag, is_mark, is_option, is_plain_word, is_unfit, unfit_word, word_at, bytes_eq, filter, list_any, allotments_reason, again_reason, allotting, has_same_name, is_no_allotment, is_no_command, option_word, option_filter, is_no_percent, percent_in, percent_reason, no_percent_word, codes, form_named, naming, commands_reason, name_in, repeated_name, ticks_behind, Reason, count_reason, has_many_names, is_below, is_disordered, is_no_ticks, mark_reason, missing_name, names_reason, no_ticks_word, order_reason, surplus_reason, surplus_word, ticks_reason, unfit_reason, AreNotBelow, HoldsOf, LeavesOut, ReasonsHold, StandsIn}
 use Rattle.std.proofs.Common.{Bool, ◌≤◌, ◌⊎◌}
 use Rattle.std.specs.Prelude.{drop}
 use Rattle.std.proofs.lemmas.Slice.Eq.{bytes_eq-Decides}
@@ -95,6 +95,41 @@ marks f ps ws =
     (λ once. if_so P (ends_bare f ws) (Reason.bare last) Reason.other (ended f ws) (λ _. tt)))
 
 -- what the allotments of a command are among its words
+behind_in : (f : Form) (behind : Bool) (ws : List (List ℕ)) (w : List ℕ) → option_word f behind ws ≡ Some w → StandsIn ws w
+behind_in f behind [] w e = absurd (cc)
+behind_in f behind (v ∷ ws) w e =
+    elim (cases_Bool behind) [
+      | inl is ↦ let found : Some v ≡ Some w = rw is at e in (0, found)
+      | inr not_yet ↦ let rest = behind_in f (is_option f v) ws w (rw not_yet at e) in (suc rest.0, rest.1)
+    ]
+
+no_percent_in : (o : Option ℕ) → not (is_some o) ≡ true → o ≡ None
+no_percent_in None h = refl
+no_percent_in (Some n) h = absurd (cc)
+
+no_percents : (f : Form) (ps ws : List (List ℕ)) (w : List ℕ) → no_percent_word f ws ≡ Some w → HoldsOf f ps ws (Reason.no_percent w)
+no_percents f ps ws w e =
+    elim (cases_Bool (bytes_eq f.option (codes "reserve"))) [
+      | inl reserves ↦ go (option_word f false ws) refl (rw reserves at e)
+      | inr other ↦ let no : None ≡ Some w = rw other at e in absurd (cc)
+    ]
+  where
+    go : (o : Option (List ℕ)) → option_word f false ws ≡ o → option_filter is_no_percent o ≡ Some w → StandsIn ws w × (percent_in w ≡ None)
+    go None is e = absurd (cc)
+    go (Some v) is e =
+        elim (cases_Bool (is_no_percent v)) [
+          | inl bad ↦
+              let found : Some v ≡ Some w = rw bad at e in
+              let same : v ≡ w = cc in
+              (behind_in f false ws w (is ∙ found), no_percent_in (percent_in w) (subst (λ (k : List ℕ). is_no_percent k ≡ true) same bad))
+          | inr good ↦ let no : None ≡ Some w = rw good at e in absurd (cc)
+        ]
+
+percented : (f : Form) (ps ws : List (List ℕ)) → HoldsOf f ps ws (percent_reason f ws)
+percented f ps ws =
+    or_else (λ (r : Reason). HoldsOf f ps ws r) Reason.no_percent (no_percent_word f ws) (mark_reason f ws)
+    (no_percents f ps ws) (λ _. marks f ps ws)
+
 no_command_in : (k : Kind) (ps ws : List (List ℕ)) (f : Form) (w : List ℕ) → find is_no_command (naming k ps) ≡ Some w
     → HoldsOf f ps ws (Reason.no_command w)
 no_command_in kind.Commands ps ws f w e =
@@ -111,8 +146,8 @@ no_command_in kind.Allotments ps ws f w e = absurd (cc)
 
 commanded : (f : Form) (ps ws : List (List ℕ)) → HoldsOf f ps ws (commands_reason f ps ws)
 commanded f ps ws =
-    or_else (λ (r : Reason). HoldsOf f ps ws r) Reason.no_command (find is_no_command (naming f.kind ps)) (mark_reason f ws)
-    (no_command_in f.kind ps ws f) (λ _. marks f ps ws)
+    or_else (λ (r : Reason). HoldsOf f ps ws r) Reason.no_command (find is_no_command (naming f.kind ps)) (percent_reason f ws)
+    (no_command_in f.kind ps ws f) (λ _. percented f ps ws)
 
 allots : (k : Kind) (ps : List (List ℕ)) → (allotting k ps ≡ drop 1 ps) ⊎ (allotting k ps ≡ [])
 allots kind.Allotments ps = inl refl

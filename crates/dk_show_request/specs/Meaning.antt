@@ -7,6 +7,8 @@ use Rattle.dk_show_request.specs.declared.commands.Telling.{Telling}
 use Rattle.dk_show_request.specs.declared.commands.Command.{Command}
 use Rattle.dk_show_request.specs.declared.commands.Command.TheVariants as command
 use Rattle.dk_show_request.specs.declared.request.Range.{Range}
+use Rattle.dk_show_request.specs.declared.request.BudgetsForm.{BudgetsForm}
+use Rattle.dk_show_request.specs.declared.request.BudgetsForm.TheVariants as budgets_form
 use Rattle.dk_show_request.specs.declared.request.CheckForm.{CheckForm}
 use Rattle.dk_show_request.specs.declared.request.CheckForm.TheVariants as check_form
 use Rattle.dk_show_request.specs.declared.request.WindowsForm.{WindowsForm}
@@ -17,7 +19,7 @@ use Rattle.dk_show_request.specs.Allotments.{allotment_of, is_no_allotment, repe
 use Rattle.dk_show_request.specs.Chain.{ChainAsk}
 use Rattle.dk_show_request.specs.Clap.{app_for, given_by, has}
 use Rattle.dk_show_request.specs.Forms.{Form, form_named, is_no_command}
-use Rattle.dk_show_request.specs.Numbers.{ticks_in}
+use Rattle.dk_show_request.specs.Numbers.{percent_in, ticks_in}
 use Rattle.dk_show_request.specs.Words.{fits, word_at}
 
 abbrev pub range_of : Option ℕ → Option ℕ → Option (Option Range)
@@ -125,6 +127,26 @@ replay_by (Some profile) (Some name) (Some file) =
     Some (request.Replay (record { profile = profile; name = name; file = file }))
 replay_by _ _ _ = None
 
+abbrev pub budgets_form_in : List Row → BudgetsForm
+budgets_form_in rows =
+    if has (codes "csv") rows then budgets_form.Csv
+    else if has (codes "toml") rows then budgets_form.Toml
+    else budgets_form.Plain
+
+-- the reserve, 0 where none is named
+abbrev pub percent_by : Option (List ℕ) → Option ℕ
+percent_by None = Some 0
+percent_by (Some word) = percent_in word
+
+abbrev pub budgets_of : BudgetsForm → ℕ → Option (List ℕ) → Option (List ℕ) → Option Request
+budgets_of form percent (Some times) (Some file) =
+    Some (request.Budgets (record { times = times; file = file; percent = percent; form = form }))
+budgets_of form percent _ _ = None
+
+abbrev pub budgets_by : BudgetsForm → Option ℕ → Option (List ℕ) → Option (List ℕ) → Option Request
+budgets_by form None times file = None
+budgets_by form (Some percent) times file = budgets_of form percent times file
+
 -- of all commands, or of the one of this name
 abbrev pub help_by : Option (List ℕ) → Option Request
 help_by None = Some (request.Help None)
@@ -150,6 +172,8 @@ asked command.Check rows = check_by (check_form_in rows) (first_of (codes "LEDGE
     (first_of (codes "FILE") rows) (first_of (codes "NEEDS") rows)
 asked command.Replay rows = replay_by (first_of (codes "PROFILE") rows) (first_of (codes "NAME") rows)
     (first_of (codes "FILE") rows)
+asked command.Budgets rows = budgets_by (budgets_form_in rows) (percent_by (first_of (codes "reserve") rows))
+    (first_of (codes "TIMES") rows) (first_of (codes "FILE") rows)
 asked command.Help rows = help_by (first_of (codes "COMMAND") rows)
 asked command.Version rows = Some request.Version
 

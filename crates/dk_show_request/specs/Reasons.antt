@@ -7,9 +7,11 @@ use Rattle.dk_show_request.specs.declared.table.Kind.{Kind}
 use Rattle.dk_show_request.specs.declared.table.Kind.TheVariants as kind
 use Rattle.dk_show_request.specs.Allotments.{is_no_allotment, repeated_name}
 use Rattle.dk_show_request.specs.Forms.{Form, form_named, is_no_command, takes_several, takes_ticks}
-use Rattle.dk_show_request.specs.Numbers.{ticks_in}
+use Rattle.dk_show_request.specs.Numbers.{percent_in, ticks_in}
+use Rattle.dk_show_request.specs.declared.numbers.TheConstants.{MAX_RESERVE}
+use Rattle.std.specs.Str.{bytes_eq}
 use Rattle.dk_show_request.specs.Usage.{flags_text}
-use Rattle.dk_show_request.specs.Words.{arguments, dashed, ends_bare, has_flags, has_options, unfit_word, word_at}
+use Rattle.dk_show_request.specs.Words.{arguments, dashed, ends_bare, has_flags, has_options, option_word, unfit_word, word_at}
 
 -- why the words behind a command word are no call of it
 pub data Reason : Type 0 where
@@ -33,6 +35,8 @@ pub data Reason : Type 0 where
   allotted_again : List ℕ → Reason
   -- this word is no command
   no_command : List ℕ → Reason
+  -- this word stands for a number of percent, and spells none
+  no_percent : List ℕ → Reason
   -- more than one of these flags and options stands, or one of them twice
   repeated : List ℕ → Reason
   -- no word stands behind this option
@@ -57,6 +61,14 @@ is_no_ticks w = not (is_some (ticks_in w))
 abbrev pub no_ticks_word : Form → List (List ℕ) → Option (List ℕ)
 no_ticks_word f ps = if takes_ticks f.kind then find is_no_ticks (drop 1 ps) else None
 
+abbrev pub is_no_percent : List ℕ → Bool
+is_no_percent w = not (is_some (percent_in w))
+
+-- the value, where the test holds of it
+abbrev pub option_filter : (List ℕ → Bool) → Option (List ℕ) → Option (List ℕ)
+option_filter test None = None
+option_filter test (Some w) = if test w then Some w else None
+
 abbrev pub is_below : Option ℕ → Option ℕ → Bool
 is_below (Some from) (Some to) = nat_lt from to
 is_below _ _ = false
@@ -79,13 +91,21 @@ mark_reason f ws =
     else if ends_bare f ws then bare (word_at ws (length ws - 1))
     else other
 
+-- of a command with a reserve the word that is to be a number of percent
+abbrev pub no_percent_word : Form → List (List ℕ) → Option (List ℕ)
+no_percent_word f ws =
+    if bytes_eq f.option (codes "reserve") then option_filter is_no_percent (option_word f false ws) else None
+
+abbrev pub percent_reason : Form → List (List ℕ) → Reason
+percent_reason f ws = option_map_or no_percent (no_percent_word f ws) (mark_reason f ws)
+
 -- the words that are to be those of commands
 abbrev pub naming : Kind → List (List ℕ) → List (List ℕ)
 naming kind.Commands ps = ps
 naming _ ps = []
 
 abbrev pub commands_reason : Form → List (List ℕ) → List (List ℕ) → Reason
-commands_reason f ps ws = option_map_or no_command (find is_no_command (naming f.kind ps)) (mark_reason f ws)
+commands_reason f ps ws = option_map_or no_command (find is_no_command (naming f.kind ps)) (percent_reason f ws)
 
 abbrev pub again_reason : Form → List (List ℕ) → List (List ℕ) → Reason
 again_reason f ps ws = option_map_or allotted_again (repeated_name (allotting f.kind ps)) (commands_reason f ps ws)
@@ -145,6 +165,7 @@ reason_text (no_allotment w) =
     shown w ++ (codes " is no NAME=TICKS, with TICKS from 0 to " ++ (decimal MAX_RUN_TICKS ++ codes "\n"))
 reason_text (allotted_again name) = shown name ++ codes " is allotted more than once\n"
 reason_text (no_command w) = shown w ++ codes " is no command\n"
+reason_text (no_percent w) = shown w ++ (codes " is no number of percent from 0 to " ++ (decimal MAX_RESERVE ++ codes "\n"))
 reason_text (repeated flags) = flags ++ codes " stands more than once\n"
 reason_text (bare w) = codes "a word is wanted behind " ++ (shown w ++ codes "\n")
 reason_text other = codes "these words are no call of it\n"

@@ -5,7 +5,7 @@ use Rattle.dk_config.specs.declared.TheConstants.{MAX_PROCESSES}
 use Rattle.std.specs.Str.{bytes_eq}
 use Rattle.dk_show_request.specs.Allotments.{name_in, ticks_behind}
 use Rattle.dk_show_request.specs.Forms.{Form, form_named, takes_several, takes_ticks}
-use Rattle.dk_show_request.specs.Numbers.{ticks_in}
+use Rattle.dk_show_request.specs.Numbers.{percent_in, ticks_in}
 use Rattle.dk_show_request.specs.Reasons.{Reason, is_control, reason, wrong_text}
 use Rattle.dk_show_request.specs.Usage.{flags_text}
 use Rattle.dk_show_request.specs.Words.{arguments, dashed, is_flag, is_mark, is_option, is_plain_word}
@@ -34,6 +34,7 @@ HoldsOf f ps ws Reason.many_names = MAX_PROCESSES < length (drop 1 ps)
 HoldsOf f ps ws (Reason.no_allotment w) = StandsIn (drop 1 ps) w × (ticks_behind w ≡ None)
 HoldsOf f ps ws (Reason.allotted_again name) = 1 < length (filter (λ w. bytes_eq name (name_in w)) (drop 1 ps))
 HoldsOf f ps ws (Reason.no_command w) = StandsIn ps w × (form_named w ≡ None)
+HoldsOf f ps ws (Reason.no_percent w) = StandsIn ws w × (percent_in w ≡ None)
 HoldsOf f ps ws (Reason.repeated marks) =
     ((marks ≡ flags_text f.flags) × (1 < length (filter (is_flag f) ws)))
     ⊎ ((marks ≡ dashed f.option) × (1 < length (filter (is_option f) ws)))

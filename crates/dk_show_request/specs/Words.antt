@@ -1,5 +1,5 @@
 -- Which words behind a command word stand for what.
-use Rattle.std.specs.Prelude.{ℕ, ◌-◌, ◌==◌, ◌&&◌, ◌||◌, not, Bool, false, codes, filter, find, is_some, length, nat_lt, slice_get, slice_index, unwrap_or, List, [], ◌∷◌, ◌++◌, Option, if◌then◌else◌}
+use Rattle.std.specs.Prelude.{ℕ, ◌-◌, ◌==◌, ◌&&◌, ◌||◌, not, Bool, false, codes, filter, find, is_some, length, nat_lt, slice_get, slice_index, unwrap_or, List, [], ◌∷◌, ◌++◌, Option, Some, None, if◌then◌else◌}
 use Rattle.std.specs.List.{list_any}
 use Rattle.std.specs.Option.{option_map_or}
 use Rattle.std.specs.Str.{bytes_eq}
@@ -33,6 +33,11 @@ arguments_behind f behind (w ∷ ws) =
 
 abbrev pub arguments : Form → List (List ℕ) → List (List ℕ)
 arguments f ws = arguments_behind f false ws
+
+-- the first word behind an option
+abbrev pub option_word : Form → Bool → List (List ℕ) → Option (List ℕ)
+option_word f behind [] = None
+option_word f behind (w ∷ ws) = if behind then Some w else option_word f (is_option f w) ws
 
 abbrev pub is_unfit : Form → List ℕ → Bool
 is_unfit f w = not (is_mark f w || is_plain_word w)

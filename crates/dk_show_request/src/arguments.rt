@@ -1,9 +1,9 @@
 //! Which words behind a command word stand for what.
-ghost use Rattle.std.specs.Prelude.{◌≡◌, IfOk, drop, filter, find, length, map, option_map, string_bytes};
+ghost use Rattle.std.specs.Prelude.{◌≡◌, IfOk, drop, false, filter, find, length, map, option_map, string_bytes};
 ghost use Rattle.std.specs.List.{list_any};
 ghost use Rattle.std.specs.Str.{bytes_eq};
 ghost use Rattle.dk_show_request.specs.Reasons.{is_no_ticks, missing_name, no_ticks_word, surplus_word};
-ghost use Rattle.dk_show_request.specs.Words.{arguments, dashed, fits, has_flags, has_options, is_flag, is_mark, is_option, is_plain_word, is_unfit, unfit_word};
+ghost use Rattle.dk_show_request.specs.Words.{arguments, dashed, fits, has_flags, has_options, is_flag, is_mark, is_option, is_plain_word, is_unfit, option_word, unfit_word};
 
 use crate::forms::Form;
 use crate::numbers::ticks_in;
@@ -71,6 +71,20 @@ pub fn arguments<'a>(
         behind = is_option(form, word);
     }
     Ok(given)
+}
+
+/// The first word behind an option.
+pub fn option_word<'a>(form: &Form, words: &'a [String]) -> Option<&'a str>
+    ensures { option_map (λ w. w.now) result ≡ option_word form.now false (map string_bytes words.entry.now) }
+{
+    let mut behind = false;
+    for word in words {
+        if behind {
+            return Some(word.as_str());
+        }
+        behind = is_option(form, word);
+    }
+    None
 }
 
 fn is_unfit(form: &Form, word: &String) -> bool

@@ -2,15 +2,15 @@
 ghost use Rattle.std.specs.Prelude.{◌≡◌, [], codes, IfOk, map, option_map, unwrap_or};
 ghost use Rattle.dk_show_request.specs.Clap.{has};
 ghost use Rattle.dk_show_request.specs.Numbers.{ticks_in};
-ghost use Rattle.dk_show_request.specs.Meaning.{asked, chain_by, chain_of, chain_with, check_by, check_form_in, drawing_by, faults_by, help_by, holds_by, impact_by, picture_by, range_by, range_in, range_of, repeats_by, repeats_of, replay_by, slack_by, slack_of, slack_with, telling_by, windows_by, windows_form_in};
+ghost use Rattle.dk_show_request.specs.Meaning.{asked, budgets_by, budgets_form_in, budgets_of, chain_by, chain_of, chain_with, check_by, check_form_in, drawing_by, faults_by, help_by, holds_by, impact_by, percent_by, picture_by, range_by, range_in, range_of, repeats_by, repeats_of, replay_by, slack_by, slack_of, slack_with, telling_by, windows_by, windows_form_in};
 
 use crate::allotments::{allotments_of, no_allotment, repeated_name};
 use crate::commands::{Command, Drawing, Telling};
 use crate::forms::is_no_command;
 use crate::given::Given;
-use crate::numbers::ticks_in;
+use crate::numbers::{percent_in, ticks_in};
 use crate::request::{
-    ChainRequest, ChangeRequest, CheckForm, CheckRequest, Range, RangeRequest, ReplayRequest,
+    BudgetsForm, BudgetsRequest, ChainRequest, ChangeRequest, CheckForm, CheckRequest, Range, RangeRequest, ReplayRequest,
     Request, SlackRequest, TellRequest, WindowsForm,
 };
 use dk_config::{MAX_PROCESSES, NoMemory, Text};
@@ -388,6 +388,63 @@ fn replay_by(
     }
 }
 
+fn budgets_form_in(given: &Given) -> BudgetsForm
+    ensures { result ≡ budgets_form_in given.now }
+{
+    if given.has("csv") {
+        BudgetsForm::Csv
+    } else if given.has("toml") {
+        BudgetsForm::Toml
+    } else {
+        BudgetsForm::Plain
+    }
+}
+
+/// The reserve, 0 where none is named, and nothing where it is no number of percent.
+fn percent_by(word: Option<&str>) -> Option<u32>
+    ensures { result ≡ percent_by (option_map (λ w. w.now) word.entry) }
+{
+    match word {
+        Some(word) => percent_in(word),
+        None => Some(0),
+    }
+}
+
+fn budgets_of(
+    alloc: Global,
+    form: BudgetsForm,
+    percent: u32,
+    times: Option<&str>,
+    file: Option<&str>,
+) -> Result<Option<Request>, NoMemory>
+    ensures { IfOk result (λ r. r ≡ budgets_of form percent (option_map (λ w. w.now) times.entry) (option_map (λ w. w.now) file.entry)) }
+{
+    match (times, file) {
+        (Some(times), Some(file)) => Ok(Some(Request::Budgets(BudgetsRequest {
+            times: copy_of(alloc, times)?,
+            file: copy_of(alloc, file)?,
+            percent,
+            form,
+        }))),
+        _ => Ok(None),
+    }
+}
+
+fn budgets_by(
+    alloc: Global,
+    form: BudgetsForm,
+    percent: Option<u32>,
+    times: Option<&str>,
+    file: Option<&str>,
+) -> Result<Option<Request>, NoMemory>
+    ensures { IfOk result (λ r. r ≡ budgets_by form percent (option_map (λ w. w.now) times.entry) (option_map (λ w. w.now) file.entry)) }
+{
+    match percent {
+        Some(percent) => budgets_of(alloc, form, percent, times, file),
+        None => Ok(None),
+    }
+}
+
 /// Of all commands, or of the one of this name, where there is one.
 fn help_by(alloc: Global, name: Option<&str>) -> Result<Option<Request>, NoMemory>
     ensures { IfOk result (λ r. r ≡ help_by (option_map (λ w. w.now) name.entry)) }
@@ -449,6 +506,13 @@ pub fn asked(alloc: Global, command: Command, given: &Given) -> Result<Option<Re
             alloc,
             given.word("PROFILE"),
             given.word("NAME"),
+            given.word("FILE"),
+        ),
+        Command::Budgets => budgets_by(
+            alloc,
+            budgets_form_in(given),
+            percent_by(given.word("reserve")),
+            given.word("TIMES"),
             given.word("FILE"),
         ),
         Command::Help => help_by(alloc, given.word("COMMAND")),

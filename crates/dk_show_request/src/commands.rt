@@ -49,6 +49,8 @@ pub enum Command {
     Check,
     /// The source of a program that takes the times of a profile.
     Replay,
+    /// The budgets that measured times need.
+    Budgets,
     /// What the commands are for.
     Help,
     /// Which documents the program reads.

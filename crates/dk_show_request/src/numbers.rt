@@ -1,9 +1,12 @@
 //! How the words spell ticks.
 ghost use Rattle.std.specs.Prelude.{◌≡◌, ◌≤◌, IfSome};
 ghost use Rattle.std.specs.List.{list_all};
-ghost use Rattle.dk_show_request.specs.Numbers.{is_digit_byte, is_spelled, ticks_in};
+ghost use Rattle.dk_show_request.specs.Numbers.{is_digit_byte, is_spelled, percent_in, percent_of, ticks_in};
 
 use dk_config::MAX_RUN_TICKS;
+
+/// The greatest reserve, in percent.
+pub const MAX_RESERVE: u32 = 1000;
 
 fn all_digits(word: &[u8]) -> bool
     ensures { result ≡ list_all is_digit_byte word.now }
@@ -34,5 +37,15 @@ pub fn ticks_in(word: &str) -> Option<u32>
             }
         }
         Err(_) => None,
+    }
+}
+
+/// The number of percent that the word spells, from 0 to 1,000.
+pub fn percent_in(word: &str) -> Option<u32>
+    ensures { result ≡ percent_in word.now }
+{
+    match ticks_in(word) {
+        Some(percent) if percent <= MAX_RESERVE => Some(percent),
+        _ => None,
     }
 }

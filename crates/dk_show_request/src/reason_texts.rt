@@ -3,6 +3,7 @@ ghost use Rattle.std.specs.Prelude.{◌≡◌, ◌++◌, IfOk, string_bytes};
 ghost use Rattle.std.specs.List.{list_any};
 ghost use Rattle.dk_show_request.specs.Reasons.{Reason, is_control, reason_text, shown, unfit_reason};
 
+use crate::numbers::MAX_RESERVE;
 use dk_config::{MAX_PROCESSES, MAX_RUN_TICKS};
 use std::alloc::{AllocError, Global};
 
@@ -77,6 +78,14 @@ pub fn no_allotment_text(alloc: Global, word: &str) -> Result<String, AllocError
     let word = shown(word);
     let most = MAX_RUN_TICKS;
     format!(in alloc; "{word} is no NAME=TICKS, with TICKS from 0 to {most}\n")
+}
+
+pub fn no_percent_text(alloc: Global, word: &str) -> Result<String, AllocError>
+    ensures { IfOk result (λ s. string_bytes s ≡ reason_text (Reason.no_percent word.now)) }
+{
+    let word = shown(word);
+    let most = MAX_RESERVE;
+    format!(in alloc; "{word} is no number of percent from 0 to {most}\n")
 }
 
 pub fn bare_text(alloc: Global, word: &str) -> Result<String, AllocError>

@@ -3,17 +3,17 @@ ghost use Rattle.std.specs.Prelude.{◌≡◌, ◌++◌, ◌-◌, codes, find, i
 ghost use Rattle.dk_show_request.specs.Forms.{form_named, is_no_command};
 ghost use Rattle.dk_show_request.specs.Words.{ends_bare, word_at};
 ghost use Rattle.dk_show_request.specs.Numbers.{ticks_in};
-ghost use Rattle.dk_show_request.specs.Reasons.{again_reason, allotments_reason, allotting, commands_reason, count_reason, has_many_names, is_below, is_disordered, mark_reason, names_reason, naming, order_reason, reason, reason_text, surplus_reason, ticks_reason, wrong_text, wrong_with};
+ghost use Rattle.dk_show_request.specs.Reasons.{again_reason, allotments_reason, allotting, commands_reason, count_reason, has_many_names, is_below, is_disordered, mark_reason, names_reason, naming, no_percent_word, order_reason, percent_reason, reason, reason_text, surplus_reason, ticks_reason, wrong_text, wrong_with};
 ghost use Rattle.dk_show_request.specs.TrueReasons.{AreLines, ReasonsHold};
 
 use crate::allotments::{no_allotment, repeated_name};
 use crate::arguments::{
-    arguments, has_flags, has_options, is_option, missing_name, no_ticks_word, surplus_word, unfit_word,
+    arguments, has_flags, has_options, is_option, missing_name, no_ticks_word, option_word, surplus_word, unfit_word,
 };
 use crate::forms::{Form, form_named, is_no_command};
-use crate::numbers::ticks_in;
+use crate::numbers::{percent_in, ticks_in};
 use crate::reason_texts::{
-    bare_text, disorder_text, many_names_text, no_allotment_text, no_ticks_text, said_of, shown,
+    bare_text, disorder_text, many_names_text, no_allotment_text, no_percent_text, no_ticks_text, said_of, shown,
     unfit_text,
 };
 use crate::table::Kind;
@@ -72,6 +72,28 @@ fn allotting<'a, 'b>(kind: Kind, given: &'b [&'a str]) -> &'b [&'a str]
     }
 }
 
+/// Of a command with a reserve the word that is to be a number of percent.
+fn no_percent_word<'a>(form: &Form, words: &'a [String]) -> Option<&'a str>
+    ensures { option_map (λ w. w.now) result ≡ no_percent_word form.now (map string_bytes words.entry.now) }
+{
+    if form.option != "reserve" {
+        return None;
+    }
+    match option_word(form, words) {
+        Some(word) if percent_in(word).is_none() => Some(word),
+        _ => None,
+    }
+}
+
+fn percent_text(alloc: Global, form: &Form, words: &[String]) -> Result<String, AllocError>
+    ensures { IfOk result (λ s. string_bytes s ≡ reason_text (percent_reason form.now (map string_bytes words.now))) }
+{
+    match no_percent_word(form, words) {
+        Some(word) => no_percent_text(alloc, word),
+        None => mark_text(alloc, form, words),
+    }
+}
+
 /// The words that are to be those of commands.
 fn naming<'a, 'b>(kind: Kind, given: &'b [&'a str]) -> &'b [&'a str]
     ensures { map (λ w. w.now) result.now ≡ naming kind (map (λ w. w.now) given.entry.now) }
@@ -106,7 +128,7 @@ fn commands_text(
 {
     match no_command(naming(form.kind, given)) {
         Some(word) => said_of(alloc, shown(word), " is no command\n"),
-        None => mark_text(alloc, form, words),
+        None => percent_text(alloc, form, words),
     }
 }
 

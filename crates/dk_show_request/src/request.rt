@@ -131,6 +131,25 @@ pub struct ReplayRequest {
     pub file: Text,
 }
 
+/// How budgets are told.
+#[derive(Clone, Copy)]
+pub enum BudgetsForm {
+    Plain,
+    Csv,
+    /// Lines of TOML.
+    Toml,
+}
+
+/// The files of a table of measured times and of a configuration, the reserve in percent, from 0 to 1,000, and how it is
+/// told.
+#[derive(Drop)]
+pub struct BudgetsRequest {
+    pub times: Text,
+    pub file: Text,
+    pub percent: u32,
+    pub form: BudgetsForm,
+}
+
 /// What the words ask for.
 #[derive(Drop)]
 pub enum Request {
@@ -177,6 +196,8 @@ pub enum Request {
     Check(CheckRequest),
     /// The source of a program that takes the times of a profile.
     Replay(ReplayRequest),
+    /// The budgets that measured times need.
+    Budgets(BudgetsRequest),
     /// What the commands are for, or the one of this name.
     Help(Option<Text>),
     /// Which documents the program reads.

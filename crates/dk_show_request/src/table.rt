@@ -221,6 +221,17 @@ const REPLAY: Row = (
     ),
 );
 
+const BUDGETS: Row = (
+    Command::Budgets,
+    "budgets",
+    (&["TIMES", "FILE"], &[], Kind::Words),
+    (&["csv", "toml"], ("reserve", "PERCENT")),
+    (
+        "for each process with a column in a table of measured times the least budget with which each of its jobs is done in one window, with so many percent of reserve, and whether the configuration is certified with all of them; status 3 where it isn't, 4 where something is wrong with the table, which is told line by line; with --csv as a table, with --toml as lines for the configuration",
+        "budgets times.csv frame.toml --reserve 10",
+    ),
+);
+
 const HELP: Row = (
     Command::Help,
     "help",
@@ -243,7 +254,7 @@ const VERSION: Row = (
 /// The commands, in the order of the usage line.
 pub const COMMANDS: &[Row] = &[
     PICTURE, TRACE, VCD, CSV, WINDOWS, HOLDS, FAULTS, CERTIFY, MARGINS, WHEN, SLACK, WARNINGS,
-    CHAIN, IMPACT, REPEATS, CHECK, REPLAY, HELP, VERSION,
+    CHAIN, IMPACT, REPEATS, CHECK, REPLAY, BUDGETS, HELP, VERSION,
 ];
 
 /// What the statuses mean, at the end of the page of help.
