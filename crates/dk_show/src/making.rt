@@ -4,7 +4,7 @@ ghost use Rattle.std.specs.Result.{IsErrAnd};
 ghost use Rattle.dk_ledger.specs.Readable.{Journal, IsReadable, text_of};
 ghost use Rattle.dk_show.specs.Asking.{Asks, Misses, WordsMiss, handed_for, handed_for_words, handed_out};
 ghost use Rattle.dk_show.specs.Leaves.{Reads};
-ghost use Rattle.dk_show_request.specs.Meaning.{DrawsNothing, HasFewNames, MeansNothing, meaning};
+ghost use Rattle.dk_show_request.specs.Meaning.{DrawsNothing, KeepsLimits, MeansNothing, meaning};
 ghost use Rattle.dk_show.specs.Output.{from_of, to_of, IsBehind, IsDrawn, IsOfBytes, IsOfNamed, IsOfRequest, IsOutput};
 ghost use Rattle.dk_show.specs.Works.{ComesTo, IsMade, IsReady, IsWhole};
 
@@ -102,7 +102,7 @@ pub(crate) fn work_for<D: Depot>(
     depot: &mut D,
 ) -> Result<Work, Refusal>
     requires given { (D.seen depot.old).given < 2 ^ 62 }
-    requires few { HasFewNames request.now }
+    requires few { KeepsLimits request.now }
     ensures comes { IfSome (D.seen depot.old).files (λ at. ComesTo (IsOfRequest request.now at) result) }
     ensures ready { IfOk result IsReady }
     ensures whole { DrawsNothing request.now → IfOk result IsWhole }

@@ -4,7 +4,7 @@ ghost use Rattle.dk_outside.specs.Counts.{Rises};
 ghost use Rattle.dk_show.specs.Answers.{IsAnswer, IsEnd, IsFault, IsFaulty, is_silent, refusal_status};
 ghost use Rattle.dk_show.specs.Asking.{Misses, WordsMiss, handed_for, handed_for_words};
 ghost use Rattle.dk_show.specs.Leaves.{Leaves};
-ghost use Rattle.dk_show_request.specs.Meaning.{DrawsNothing, HasFewNames, IsSought, MeansNothing, meaning};
+ghost use Rattle.dk_show_request.specs.Meaning.{DrawsNothing, KeepsLimits, IsSought, MeansNothing, meaning};
 ghost use Rattle.dk_show_request.specs.Reasons.{wrong_text};
 ghost use Rattle.dk_show_request.specs.Usage.{usage_text};
 ghost use Rattle.dk_show.specs.Output.{IsOfRequest, IsOutput, IsUsage, Says, StandsInOutput};
@@ -139,7 +139,7 @@ fn perform<D: Depot, S: Sink>(
     sink: &mut S,
 ) -> Status
     requires given { (D.seen depot.old).given < 2 ^ 62 }
-    requires few { HasFewNames request.now }
+    requires few { KeepsLimits request.now }
     ensures output { Leaves S.seen (λ text s. IfSome (D.seen depot.old).files (λ at. IsOfRequest request.now at text s))
         sink.old sink.new result }
     ensures complete { IfSome (D.seen depot.old).files (λ at. (text : List ℕ) → ¬ IsSought (Some request.now)

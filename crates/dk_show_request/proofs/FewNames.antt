@@ -1,10 +1,10 @@
 -- The words never ask for a chain of more than 32 processes.
-use Rattle.dk_show_request.proofs.Names.{ℕ, ◌≡◌, ◌<◌, inl, inr, List, [], ◌∷◌, length, arith, drop, subst, sym, Bool, Option, Some, None, IfOk, IfSome, Result, Ok, Err, nat_lt, option_and_then, option_map, cases_Bool, nat_tests, Row, all_of, first_of, MAX_PROCESSES, Command, Drawing, Telling, CheckForm, Range, Request, WindowsForm, app_for, given_by, has, Form, HasFewNames, asked, asked_by, BudgetsForm, budgets_by, budgets_form_in, percent_by, chain_by, chain_of, chain_with, check_by, check_form_in, drawing_by, faults_by, help_by, holds_by, impact_by, picture_by, range_in, repeats_by, repeats_of, replay_by, slack_by, slack_with, repeated_name, is_no_allotment, is_no_command, is_some, find, unwrap_or, if◌then◌else◌, ◌||◌, true, false, telling_by, windows_by, windows_form_in, ticks_in, fits}
-use Rattle.std.specs.Prelude.{codes}
+use Rattle.dk_show_request.proofs.Names.{ℕ, ◌≡◌, ◌<◌, inl, inr, List, [], ◌∷◌, length, arith, drop, subst, sym, Bool, Option, Some, None, IfOk, IfSome, Result, Ok, Err, nat_lt, option_and_then, option_map, cases_Bool, nat_tests, Row, all_of, first_of, MAX_PROCESSES, Command, Drawing, Telling, CheckForm, Range, Request, WindowsForm, app_for, given_by, has, Form, KeepsLimits, asked, asked_by, BudgetsForm, budgets_by, budgets_form_in, percent_by, percent_of, nat_le, MAX_RESERVE, chain_by, chain_of, chain_with, check_by, check_form_in, drawing_by, faults_by, help_by, holds_by, impact_by, picture_by, range_in, repeats_by, repeats_of, replay_by, slack_by, slack_with, repeated_name, is_no_allotment, is_no_command, is_some, find, unwrap_or, if◌then◌else◌, ◌||◌, true, false, telling_by, windows_by, windows_form_in, ticks_in, fits}
+use Rattle.std.specs.Prelude.{codes, ◌≤◌}
 use Rattle.dk_show_request.specs.declared.commands.Command.TheVariants as command
 
 abbrev pub Few : Option Request → Type 0
-Few o = IfSome o HasFewNames
+Few o = IfSome o KeepsLimits
 
 abbrev Word : Type 0
 Word = Option (List ℕ)
@@ -55,7 +55,7 @@ chain_few file (first ∷ rest) ledger =
       | inr many ↦ rw many tt
     ]
   where
-    with_few : (ledger : Word) → length rest < MAX_PROCESSES → HasFewNames (chain_with (record { file = file; first = first; rest = rest }) ledger)
+    with_few : (ledger : Word) → length rest < MAX_PROCESSES → KeepsLimits (chain_with (record { file = file; first = first; rest = rest }) ledger)
     with_few None few = few
     with_few (Some name) few = few
 
@@ -89,11 +89,23 @@ replay_few (Some profile) None file = tt
 replay_few (Some profile) (Some name) None = tt
 replay_few (Some profile) (Some name) (Some file) = tt
 
-budgets_few : (form : BudgetsForm) (percent : Option ℕ) (times file : Word) → Few (budgets_by form percent times file)
-budgets_few form None times file = tt
-budgets_few form (Some percent) None file = tt
-budgets_few form (Some percent) (Some times) None = tt
-budgets_few form (Some percent) (Some times) (Some file) = tt
+most_percent : (o : Option ℕ) → IfSome (percent_of o) (λ n. n ≤ MAX_RESERVE)
+most_percent None = tt
+most_percent (Some n) =
+    elim (cases_Bool (nat_le n MAX_RESERVE)) [
+      | inl few ↦ rw few (grind (arith, nat_tests))
+      | inr many ↦ rw many tt
+    ]
+
+percent_few : (word : Word) → IfSome (percent_by word) (λ n. n ≤ MAX_RESERVE)
+percent_few None = omega (arith)
+percent_few (Some word) = most_percent (ticks_in word)
+
+budgets_few : (form : BudgetsForm) (percent : Option ℕ) (times file : Word) → IfSome percent (λ n. n ≤ MAX_RESERVE) → Few (budgets_by form percent times file)
+budgets_few form None times file most = tt
+budgets_few form (Some percent) None file most = tt
+budgets_few form (Some percent) (Some times) None most = tt
+budgets_few form (Some percent) (Some times) (Some file) most = most
 
 help_few : (name : Word) → Few (help_by name)
 help_few None = tt
@@ -121,6 +133,7 @@ asked_few command.Replay rows =
     replay_few (first_of (codes "PROFILE") rows) (first_of (codes "NAME") rows) (first_of (codes "FILE") rows)
 asked_few command.Budgets rows =
     budgets_few (budgets_form_in rows) (percent_by (first_of (codes "reserve") rows)) (first_of (codes "TIMES") rows) (first_of (codes "FILE") rows)
+    (percent_few (first_of (codes "reserve") rows))
 asked_few command.Help rows = help_few (first_of (codes "COMMAND") rows)
 asked_few command.Version rows = tt
 

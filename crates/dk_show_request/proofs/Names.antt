@@ -6,8 +6,8 @@ pub use Rattle.dk_config.specs.declared.TheConstants.{MAX_PROCESSES, MAX_RUN_TIC
 pub use Rattle.dk_show_request.specs.Allotments.{allotment_of, has_same_name, is_no_allotment, name_in, repeated_name, ticks_behind}
 pub use Rattle.dk_show_request.specs.Clap.{app_for, given_by, flag, has, with_rules, word_rules}
 pub use Rattle.dk_show_request.specs.Forms.{Form, form_lent, form_named, forms, is_no_command, meant, takes_several, takes_ticks}
-pub use Rattle.dk_show_request.specs.Meaning.{HasFewNames, asked, asked_by, budgets_by, budgets_form_in, budgets_of, percent_by, chain_by, chain_of, chain_with, check_by, check_form_in, drawing_by, faults_by, help_by, holds_by, impact_by, picture_by, range_in, repeats_by, repeats_of, replay_by, slack_by, slack_of, slack_with, telling_by, windows_by, windows_form_in}
-pub use Rattle.dk_show_request.specs.Numbers.{is_digit_byte, is_spelled, percent_in, ticks_in}
+pub use Rattle.dk_show_request.specs.Meaning.{KeepsLimits, asked, asked_by, budgets_by, budgets_form_in, budgets_of, percent_by, chain_by, chain_of, chain_with, check_by, check_form_in, drawing_by, faults_by, help_by, holds_by, impact_by, picture_by, range_in, repeats_by, repeats_of, replay_by, slack_by, slack_of, slack_with, telling_by, windows_by, windows_form_in}
+pub use Rattle.dk_show_request.specs.Numbers.{is_digit_byte, is_spelled, percent_in, percent_of, ticks_in}
 pub use Rattle.dk_show_request.specs.declared.numbers.TheConstants.{MAX_RESERVE}
 pub use Rattle.dk_show_request.specs.declared.request.BudgetsForm.{BudgetsForm}
 pub use Rattle.dk_show_request.specs.Reasons.{Reason, again_reason, allotments_reason, allotting, commands_reason, count_reason, has_many_names, is_below, is_control, is_disordered, is_no_ticks, mark_reason, missing_name, names_reason, naming, no_percent_word, no_ticks_word, option_filter, is_no_percent, percent_reason, order_reason, reason, reason_text, shown, surplus_reason, surplus_word, ticks_reason, unfit_reason, wrong_text, wrong_with}

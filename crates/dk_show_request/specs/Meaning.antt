@@ -1,7 +1,8 @@
 -- What the words mean.
-use Rattle.std.specs.Prelude.{ℕ, ◌≡◌, ◌<◌, Bool, codes, drop, find, is_some, length, map, nat_lt, unwrap_or, ◌||◌, option_and_then, option_map, List, [], ◌∷◌, Option, Some, None, if◌then◌else◌}
+use Rattle.std.specs.Prelude.{ℕ, ◌≡◌, ◌<◌, ◌≤◌, Bool, codes, drop, find, is_some, length, map, nat_lt, unwrap_or, ◌||◌, option_and_then, option_map, List, [], ◌∷◌, Option, Some, None, if◌then◌else◌}
 use Rattle.clap.specs.Words.{Row, all_of, first_of}
 use Rattle.dk_config.specs.declared.TheConstants.{MAX_PROCESSES}
+use Rattle.dk_show_request.specs.declared.numbers.TheConstants.{MAX_RESERVE}
 use Rattle.dk_show_request.specs.declared.commands.Drawing.{Drawing}
 use Rattle.dk_show_request.specs.declared.commands.Telling.{Telling}
 use Rattle.dk_show_request.specs.declared.commands.Command.{Command}
@@ -191,11 +192,12 @@ abbrev pub DrawsNothing : Request → Type 0
 DrawsNothing (request.Draw r) = ⊥
 DrawsNothing _ = Unit {0}
 
--- of a chain, that it has at most 32 processes
-abbrev pub HasFewNames : Request → Type 0
-HasFewNames (request.Chain r) = length r.rest < MAX_PROCESSES
-HasFewNames (request.Reactions r ledger) = length r.rest < MAX_PROCESSES
-HasFewNames _ = Unit {0}
+-- a chain has at most 32 processes, and a reserve at most 1,000 percent
+abbrev pub KeepsLimits : Request → Type 0
+KeepsLimits (request.Chain r) = length r.rest < MAX_PROCESSES
+KeepsLimits (request.Reactions r ledger) = length r.rest < MAX_PROCESSES
+KeepsLimits (request.Budgets r) = r.percent ≤ MAX_RESERVE
+KeepsLimits _ = Unit {0}
 
 abbrev pub MeansNothing : List (List ℕ) → Type 0
 MeansNothing words = meaning words ≡ None

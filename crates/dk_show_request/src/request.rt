@@ -2,7 +2,7 @@
 ghost use Rattle.std.specs.Prelude.{◌≡◌, IfOk, IfSome, drop, map, string_bytes, true};
 ghost use Rattle.clap.specs.Words.{is_simple_and_free};
 ghost use Rattle.dk_show_request.specs.Clap.{app_for};
-ghost use Rattle.dk_show_request.specs.Meaning.{HasFewNames, asked, asked_by, meaning};
+ghost use Rattle.dk_show_request.specs.Meaning.{KeepsLimits, asked, asked_by, meaning};
 ghost use Rattle.dk_show_request.specs.Words.{word_at};
 
 use crate::allotments::Allotment;
@@ -208,7 +208,7 @@ pub enum Request {
 fn asked_by(alloc: Global, form: &Form, words: &[String]) -> Result<Option<Request>, NoMemory>
     requires { is_simple_and_free (app_for form.now) ≡ true }
     ensures is { IfOk result (λ r. r ≡ asked_by form.now (map string_bytes words.now)) }
-    ensures few { IfOk result (λ r. IfSome r HasFewNames) }
+    ensures few { IfOk result (λ r. IfSome r KeepsLimits) }
 {
     if !fits(form, words_behind(words)) {
         return Ok(None);
@@ -244,7 +244,7 @@ fn second_word(words: &[String]) -> &str
 #[tactic(auto, unfolding(crate::specs::Meaning::meaning))]
 pub fn meaning(alloc: Global, words: &[String]) -> Result<Option<Request>, NoMemory>
     ensures is { IfOk result (λ r. r ≡ meaning (map string_bytes words.now)) }
-    ensures few { IfOk result (λ r. IfSome r HasFewNames) }
+    ensures few { IfOk result (λ r. IfSome r KeepsLimits) }
 {
     match form_named(second_word(words)) {
         Some(form) => asked_by(alloc, &form, words_behind(words)),
