@@ -12,6 +12,7 @@ use Rattle.dk_show_request.specs.declared.request.Request.TheVariants as request
 use Rattle.dk_show.specs.declared.refusal.Refusal.{Refusal}
 use Rattle.dk_show.specs.declared.refusal.Refusal.TheVariants as why
 use Rattle.dk_show.specs.Answers.{Files, is_silent}
+use Rattle.dk_show.specs.Budgets.{config_at}
 use Rattle.dk_show.specs.Chains.{chain_at}
 use Rattle.dk_show.specs.Loading.{certified_at, loaded}
 use Rattle.dk_show.specs.Needed.{AskedIn, asked_at, asks_programs, ready_at, ready_of}
@@ -74,6 +75,9 @@ handed_for (request.Check r) at = handed_ready at r + handed_after (λ _. handed
 handed_for (request.Replay r) at =
     handed_out MAX_CONFIG_BYTES (at r.file)
     + handed_after (λ _. handed_out MAX_PROFILE_BYTES (at r.profile)) (certified_at (at r.file))
+handed_for (request.Budgets r) at =
+    handed_out MAX_CONFIG_BYTES (at r.file)
+    + handed_after (λ _. handed_out MAX_PROFILE_BYTES (at r.times)) (config_at (at r.file))
 handed_for (request.Help command) at = 0
 handed_for request.Version at = 0
 
@@ -110,6 +114,7 @@ Misses (request.Impact r) at = MissesAfter (λ _. loaded at r.new ≡ Err why.De
 Misses (request.Repeats file ticks) at = loaded at file ≡ Err why.Depot
 Misses (request.Check r) at = MissesAfter (λ _. MissesLedger at r.ledger) (ready_at at r)
 Misses (request.Replay r) at = MissesAfter (λ _. at r.profile ≡ None) (certified_at (at r.file))
+Misses (request.Budgets r) at = MissesAfter (λ _. at r.times ≡ None) (config_at (at r.file))
 Misses (request.Help command) at = ⊥
 Misses request.Version at = ⊥
 

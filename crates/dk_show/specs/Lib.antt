@@ -8,6 +8,7 @@ pub mod Sources
 pub mod Impacts
 pub mod Repeats
 pub mod Replays
+pub mod Budgets
 pub mod Slacks
 pub mod Needed
 pub mod Asking

@@ -44,6 +44,7 @@ use Rattle.dk_show_request.specs.Help.{help_text}
 use Rattle.dk_show_request.specs.Usage.{usage_text}
 use Rattle.dk_show_request.specs.declared.table.TheConstants.{VERSIONS}
 use Rattle.dk_show.specs.Repeats.{IsOfRepeats}
+use Rattle.dk_show.specs.Budgets.{IsOfTimes, config_at}
 use Rattle.dk_show.specs.Replays.{IsOfProfile}
 use Rattle.dk_profile.specs.declared.TheConstants.{MAX_PROFILE_BYTES}
 use Rattle.dk_show.specs.Slacks.{IsOfSlack}
@@ -149,6 +150,8 @@ IsOfRequest (request.Check r) at text ended = IsOf (ready_at at r) (IsOfCheck at
 IsOfRequest (request.Replay r) at text ended =
     IsOf (certified_at (at r.file))
     (λ c. IsOfNamed at r.profile MAX_PROFILE_BYTES why.LongProfile (IsOfProfile c r.profile r.name)) text ended
+IsOfRequest (request.Budgets r) at text ended =
+    IsOf (config_at (at r.file)) (λ c. IsOfNamed at r.times MAX_PROFILE_BYTES why.LongProfile (IsOfTimes r.form r.percent c)) text ended
 IsOfRequest (request.Help command) at text ended = IsTold (help_text command) text ended
 IsOfRequest request.Version at text ended = IsTold VERSIONS.now text ended
 

@@ -1,6 +1,7 @@
 //! What the program deosk-show does, over any depot and any sink.
 #![tactic(auto)]
 
+mod budgets;
 mod chains;
 mod checks;
 mod faults;

@@ -9,6 +9,7 @@ ghost use Rattle.dk_show.specs.Output.{from_of, to_of, IsBehind, IsDrawn, IsOfBy
 ghost use Rattle.dk_show.specs.Works.{ComesTo, IsMade, IsReady, IsWhole};
 
 use crate::Refusal;
+use crate::budgets::budgets_work;
 use crate::chains::chain_work;
 use crate::checks::check_work;
 use crate::faults::faults_work;
@@ -130,6 +131,7 @@ pub(crate) fn work_for<D: Depot>(
         Request::Repeats { file, ticks } => repeats_work(alloc, file.as_str(), *ticks, depot),
         Request::Check(request) => check_work(alloc, request, depot),
         Request::Replay(request) => replay_work(alloc, request, depot),
+        Request::Budgets(request) => budgets_work(alloc, request, depot),
         Request::Help(command) => help_work(alloc, command),
         Request::Version => version_work(alloc),
     }
