@@ -73,6 +73,9 @@ _deosk_show_arguments() {
     svg:[2-9]:*) [ "${COMP_WORDS[COMP_CWORD - 1]}" != --config ] || _deosk_files .toml ;;
     chain:[2-9]:* | chain:[1-3][0-9]:*) _deosk_processes "${COMP_WORDS[first + 1]}" ;;
     svg:1:* | pictures:1:* | trace:1:* | vcd:1:* | csv:1:* | windows:1:* | holds:1:* | page:2:* | check:3:*) _deosk_files .txt ;;
+    budgets:*:-*) COMPREPLY=($(compgen -W '--csv --toml' -- "$word")) ;;
+    budgets:1:*) _deosk_files .csv ;;
+    budgets:2:*) _deosk_files .toml ;;
     replay:1:*) _deosk_files .profile .csv ;;
     replay:3:*) _deosk_files .toml ;;
     *:1:* | holds:2:* | impact:2:* | check:2:*) _deosk_files .toml ;;
@@ -80,5 +83,5 @@ _deosk_show_arguments() {
 }
 
 _deosk_commands='certify run inspect plan harmonise migrate asm dis ledger audit gen'
-_deosk_show_commands='svg pictures trace vcd csv windows holds faults certify margins when slack warnings page chain impact repeats check replay'
+_deosk_show_commands='svg pictures trace vcd csv windows holds faults certify margins when slack warnings page chain impact repeats check replay budgets'
 complete -F _deosk deosk deosk-show try
