@@ -73,7 +73,7 @@ _deosk_show_arguments() {
     svg:[2-9]:*) [ "${COMP_WORDS[COMP_CWORD - 1]}" != --config ] || _deosk_files .toml ;;
     chain:[2-9]:* | chain:[1-3][0-9]:*) _deosk_processes "${COMP_WORDS[first + 1]}" ;;
     svg:1:* | pictures:1:* | trace:1:* | vcd:1:* | csv:1:* | windows:1:* | holds:1:* | page:2:* | check:3:*) _deosk_files .txt ;;
-    budgets:*:-*) COMPREPLY=($(compgen -W '--csv --toml' -- "$word")) ;;
+    budgets:*:-*) COMPREPLY=($(compgen -W '--reserve --csv --toml' -- "$word")) ;;
     budgets:1:*) _deosk_files .csv ;;
     budgets:2:*) _deosk_files .toml ;;
     replay:1:*) _deosk_files .profile .csv ;;
