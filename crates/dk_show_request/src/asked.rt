@@ -10,8 +10,8 @@ use crate::forms::is_no_command;
 use crate::given::Given;
 use crate::numbers::{percent_in, ticks_in};
 use crate::request::{
-    BudgetsForm, BudgetsRequest, ChainRequest, ChangeRequest, CheckForm, CheckRequest, Range, RangeRequest, ReplayRequest,
-    Request, SlackRequest, TellRequest, WindowsForm,
+    BudgetsForm, BudgetsRequest, ChainRequest, ChangeRequest, CheckForm, CheckRequest, Range,
+    RangeRequest, ReplayRequest, Request, SlackRequest, TellRequest, WindowsForm,
 };
 use dk_config::{MAX_PROCESSES, NoMemory, Text};
 use std::alloc::Global;

@@ -72,7 +72,8 @@ impl Kind {
 pub fn form_of(row: &Row) -> Form
     ensures { result ≡ form_lent row.now }
 {
-    let (command, word, (needed, optional, kind), (flags, (option, value)), (about, example)) = *row;
+    let (command, word, (needed, optional, kind), (flags, (option, value)), (about, example)) =
+        *row;
     Form {
         command,
         word,

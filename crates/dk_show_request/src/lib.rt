@@ -26,7 +26,7 @@ pub use help::{help_text, versions};
 pub use reason_texts::shown;
 pub use reasons::{lines_law, reasons_law, wrong_words};
 pub use request::{
-    BudgetsForm, BudgetsRequest, ChainRequest, ChangeRequest, CheckForm, CheckRequest, Range, RangeRequest, ReplayRequest,
-    Request, SlackRequest, TellRequest, WindowsForm, meaning,
+    BudgetsForm, BudgetsRequest, ChainRequest, ChangeRequest, CheckForm, CheckRequest, Range,
+    RangeRequest, ReplayRequest, Request, SlackRequest, TellRequest, WindowsForm, meaning,
 };
 pub use usage_line::usage;

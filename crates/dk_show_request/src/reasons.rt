@@ -8,13 +8,14 @@ ghost use Rattle.dk_show_request.specs.TrueReasons.{AreLines, ReasonsHold};
 
 use crate::allotments::{no_allotment, repeated_name};
 use crate::arguments::{
-    arguments, has_flags, has_options, is_option, missing_name, no_ticks_word, option_word, surplus_word, unfit_word,
+    arguments, has_flags, has_options, is_option, missing_name, no_ticks_word, option_word,
+    surplus_word, unfit_word,
 };
 use crate::forms::{Form, form_named, is_no_command};
 use crate::numbers::{percent_in, ticks_in};
 use crate::reason_texts::{
-    bare_text, disorder_text, many_names_text, no_allotment_text, no_percent_text, no_ticks_text, said_of, shown,
-    unfit_text,
+    bare_text, disorder_text, many_names_text, no_allotment_text, no_percent_text, no_ticks_text,
+    said_of, shown, unfit_text,
 };
 use crate::table::Kind;
 use crate::usage_line::flags_text;
