@@ -429,10 +429,13 @@ goes_to_file() {
 # names_file COMMAND PLACE BEFORE: whether a word of the command is the name of a file, by its place among the words
 # that are no flags, from 1, and by the word before it
 names_file() {
-    case $3 in --ledger | --config | --needs) return 0 ;; esac
+    case $3 in
+    --ledger | --config | --needs) return 0 ;;
+    --reserve | --repeats) return 1 ;;
+    esac
     case $1/$2 in
-    gen/* | harmonise/*) return 1 ;;
-    */1 | audit/2 | page/2 | impact/2 | check/[23] | holds/2 | replay/3) ;;
+    gen/* | harmonise/* | help/*) return 1 ;;
+    */1 | audit/2 | page/2 | impact/2 | check/[23] | holds/2 | replay/3 | budgets/2) ;;
     *) return 1 ;;
     esac
 }
@@ -445,7 +448,7 @@ files_of() {
         case $word in
         -*) ;;
         *)
-            case $before in --ledger | --config | --needs) ;; *) place=$((place + 1)) ;; esac
+            case $before in --ledger | --config | --needs | --reserve | --repeats) ;; *) place=$((place + 1)) ;; esac
             if names_file "$command" $place "$before"; then
                 named="$named${named:+, }$word"
                 { [ -r "$word" ] && [ ! -d "$word" ]; } || missing="$missing${missing:+, }$word"
@@ -460,7 +463,7 @@ files_of() {
     fi
     [ -z "$named" ] || printf ': %s' "$named"
     case $command in
-    run | inspect | repeats) printf ', or a program that it names' ;;
+    run | inspect | repeats | check) printf ', or a program that it names' ;;
     impact) printf ', or a program that they name' ;;
     esac
 }
