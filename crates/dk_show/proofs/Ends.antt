@@ -1,4 +1,8 @@
 -- Where a text stands with the status of what is done, no other status stands.
+use Rattle.dk_show.specs.Budgets.{IsOfTimes, budgets_end, config_at}
+use Rattle.dk_show_request.specs.declared.request.BudgetsForm.{BudgetsForm}
+use Rattle.show_budgets.specs.Wrong.{table_told}
+use Rattle.show_budgets.specs.declared.report.Ended.TheVariants as end
 use Rattle.dk_show.proofs.Names.{ℕ, ◌≡◌, ◌∙◌, ◌⊎◌, ◌<◌, inl, inr, List, length, reverse, sym, ap, subst, refl, arith, Bool, true, false, MatchBool, Option, Some, None, IfSome, Result, Ok, Err, MAX_CONFIG_BYTES, MAX_LEDGER_BYTES, Configuration, Verdict, verdict_of, LoadFault, reading, Journal, one_text, MAX_GROUPS, Telling, Range, RangeRequest, Request, Refusal, Status, IsAnswer, IsFaulty, refusal_status, IsOwnHeading, AreReactionsTold, ChainIn, IsChainTold, IsOfOther, IsOfReactions, chain_at, IsOf, certified_at, IsOfSource, is_source_name, IsOfProfile, MAX_PROFILE_BYTES, MAX_SOURCE_BYTES, IsSought, IsOfHolds, IsOfOwnHolds, IsOfWindows, windows_end, WindowsForm, IsBehind, IsDrawn, IsOfBytes, IsOfDocument, IsOfFaults, IsOfPicture, IsOfOwnPicture, IsPictureUnder, Promised, nothing_promised, IsOfReading, IsOfRequest, IsPicture, IsToldOf, groups_asked, to_of}
 use Rattle.std.specs.Prelude.{[], ◌∷◌, is_some, not}
 use Rattle.dk_allotment.specs.Given.{IsOverdrawn}
@@ -146,6 +150,17 @@ slack_ends : (given : List Allotment) (form : Form) (c : Configuration) (x y : L
 slack_ends [] form c x y s one two = two.1
 slack_ends (one_of ∷ rest) form c x y s one two = fit_ends (unfit_text c.processes (one_of ∷ rest)) form c (ticks_by c.processes (one_of ∷ rest)) x y s one two
 
+times_ends : (form : BudgetsForm) (percent : ℕ) (c : Configuration) (table x y : List ℕ) (s : Status) → IsOfTimes form percent c table x status.Done → IsOfTimes form percent c table y s → s ≡ status.Done
+times_ends form percent c table x y s one two = go (length (table_told c table)) refl
+  where
+    go : (n : ℕ) → length (table_told c table) ≡ n → s ≡ status.Done
+    go zero none =
+        let same : two.told.ended ≡ one.told.ended = (two.are.right none).ended ∙ sym (one.are.right none).ended in
+        two.ends ∙ ap budgets_end same ∙ sym one.ends
+    go (suc n) some =
+        let faulty : one.told.ended ≡ end.Faulty = (one.are.wrong (omega (arith, some))).1 in
+        let bad : status.Done ≡ status.Refused = one.ends ∙ ap budgets_end faulty in cc
+
 pub request_ends : (r : Request) (at : Files) (x y : List ℕ) (s : Status) → (IsSought (Some r) → ⊥) → IsOfRequest r at x status.Done → IsOfRequest r at y s → s ≡ status.Done
 request_ends (request.Draw r) at x y s known one two =
     named_ends at r.ledger MAX_LEDGER_BYTES why.LongLedger (IsOfBytes r) x y s (λ bad. cc) (λ bytes a b. ledger_ends r bytes x y s a b) one two
@@ -181,6 +196,11 @@ request_ends (request.Check r) at x y s known one two = absurd (known tt)
 request_ends (request.Replay r) at x y s known one two =
     of_ends (certified_at (at r.file)) (λ c. IsOfNamed at r.profile MAX_PROFILE_BYTES why.LongProfile (IsOfProfile c r.profile r.name)) x y s
     (λ c. named_ends at r.profile MAX_PROFILE_BYTES why.LongProfile (IsOfProfile c r.profile r.name) x y s (λ bad. cc) (λ bytes a b. b.1 ∙ sym a.1))
+    one two
+request_ends (request.Budgets r) at x y s known one two =
+    of_ends (config_at (at r.file)) (λ c. IsOfNamed at r.times MAX_PROFILE_BYTES why.LongProfile (IsOfTimes r.form r.percent c)) x y s
+    (λ c. named_ends at r.times MAX_PROFILE_BYTES why.LongProfile (IsOfTimes r.form r.percent c) x y s (λ bad. cc)
+    (λ bytes a b. times_ends r.form r.percent c bytes x y s a b))
     one two
 request_ends (request.Help command) at x y s known one two = two.1
 request_ends request.Version at x y s known one two = two.1
