@@ -22,7 +22,7 @@ abbrev pub IsTold : Bool → Configuration → Configuration → List Row → Li
 IsTold true old new rows names text = IsImpactText row_form.Record old new rows names text
 IsTold false old new rows names text = IsImpactText row_form.Line old new rows names text
 
--- the status tells whether by the rows the change touches none but the processes of these names
+-- the status tells whether the change touches none but the processes of these names
 abbrev pub EndsBy : Type 0 → Status → Type 0
 EndsBy Only ended = (Only × (ended ≡ status.Done)) ⊎ ((Only → ⊥) × (ended ≡ status.Refused))
 
@@ -31,7 +31,7 @@ pub record IsOfChange (r : ChangeAsk) (old new : Workload) (text : List ℕ) (en
   pub rows : List Row
   pub found : AreRows old new (length new.config.processes) rows
   pub told : IsTold r.as_csv old.config new.config rows r.names text
-  pub ends : EndsBy (TouchesOnly r.names old.config new.config rows) ended
+  pub ends : EndsBy (TouchesOnly r.names old new) ended
 
 -- the old configuration with its programs is read first, and then the new
 abbrev pub IsOfImpact : Files → ChangeAsk → List ℕ → Status → Type 0

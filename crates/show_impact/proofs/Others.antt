@@ -9,19 +9,19 @@ use Rattle.dk_loader.specs.Workload.{Workload}
 use Rattle.show_impact.specs.declared.row.Cause.{Cause}
 use Rattle.show_impact.specs.declared.row.Impact.{Impact}
 use Rattle.show_impact.specs.declared.row.Row.{Row}
-use Rattle.show_impact.specs.Impacts.{AreRows, AreSound, IsCause, IsFound, IsKept, IsRow, IsRowAt, IsSame, IsTheSame, Keeps, TouchesOnly, is_named, is_same, is_same_at, is_there, place_of}
-use Rattle.show_impact.specs.Touching.{is_lost, is_touched}
+use Rattle.show_impact.specs.Impacts.{AreRows, IsCause, IsFound, IsKept, IsRow, IsRowAt, IsSame, Keeps, TouchesOnly, is_named, is_same, is_there, place_of}
+use Rattle.show_impact.specs.Touching.{is_lost, is_same_at, is_touched}
 
 keeps-not : (w : Workload) (p : ℕ) (cause : Cause) → Keeps w p → IsCause w p (Some cause) → ⊥
 keeps-not w p Cause.Threads keeps is = let none = keeps.threads in omega (arith, none, is)
 keeps-not w p Cause.Slack keeps is = let never : true ≡ false = sym is.1 ∙ keeps.slack in cc
 keeps-not w p Cause.Clock keeps is = is.2 keeps.clock
 
--- what sees the same is told so
+-- what is the same is told so
 told-same : (old : Workload) (p : ℕ) (new : Workload) (q : ℕ) (impact : Impact) → IsSame old p new q → IsFound old p new q impact → is_same impact ≡ true
 told-same old p new q Impact.Same same found = refl
 told-same old p new q Impact.PeriodAlone same found = absurd (found.differs same.sees)
-told-same old p new q Impact.Waits same found = refl
+told-same old p new q Impact.Waits same found = absurd (found.given.differs same.sees.but_period)
 told-same old p new q (Impact.IfItWaits waiting) same found = absurd (found.0.differs same.sees.but_period)
 told-same old p new q Impact.Program same found = absurd (found.1 same.program)
 told-same old p new q Impact.Changed same found = absurd (found.differs same.sees.but_period)
@@ -29,20 +29,19 @@ told-same old p new q (Impact.Open cause) same (inl before) = absurd (keeps-not 
 told-same old p new q (Impact.Open cause) same (inr (keeps, now)) = absurd (keeps-not new q cause same.keeps.now now)
 told-same old p new q Impact.New same found = absurd found
 
--- and what is told so is the same
-same-told : (old : Workload) (p : ℕ) (new : Workload) (q : ℕ) (impact : Impact) → IsFound old p new q impact → is_same impact ≡ true → IsTheSame old p new q
-same-told old p new q Impact.Same found is = inl found
+-- and what is told so is
+same-told : (old : Workload) (p : ℕ) (new : Workload) (q : ℕ) (impact : Impact) → IsFound old p new q impact → is_same impact ≡ true → IsSame old p new q
+same-told old p new q Impact.Same found is = found
 same-told old p new q Impact.PeriodAlone found is = absurd (let never : false ≡ true = is in cc)
-same-told old p new q Impact.Waits found is = inr found
+same-told old p new q Impact.Waits found is = absurd (let never : false ≡ true = is in cc)
 same-told old p new q (Impact.IfItWaits waiting) found is = absurd (let never : false ≡ true = is in cc)
 same-told old p new q Impact.Program found is = absurd (let never : false ≡ true = is in cc)
 same-told old p new q Impact.Changed found is = absurd (let never : false ≡ true = is in cc)
 same-told old p new q (Impact.Open cause) found is = absurd (let never : false ≡ true = is in cc)
 same-told old p new q Impact.New found is = absurd found
 
-told-kept : (old new : Workload) (p q : ℕ) (row : Row) → IsRow old new q row → place_of old.config (process_name new.config q) ≡ Some p → IsSame old p new q
-    → is_same row.impact ≡ true
-told-kept old new p q row is at same =
+told-kept : (old new : Workload) (q : ℕ) (row : Row) → IsRow old new q row → IsKept old new q → is_same row.impact ≡ true
+told-kept old new q row is (p, at, same) =
     let found = subst (λ place. IsRowAt place old new q row) at is in
     told-same old p new q row.impact same found.impact
 
@@ -119,37 +118,36 @@ either : (named fine : Bool) → (named ≡ false → fine ≡ true) → (not na
 either true fine is = refl
 either false fine is = ap not (is refl)
 
--- what is told to be the same is, and what sees the same is told so
-pub sound : (old new : Workload) (rows : List Row) → AreRows old new (length new.config.processes) rows → AreSound old new rows
-sound old new rows are =
-    record {
-      kept = λ q below told.
-          let (row, at, is) = row-at old new (length new.config.processes) rows q are below in
-          kept-told old new q row is (sym (same-at q row at) ∙ told);
-      told = λ p q below place same.
-          let (row, at, is) = row-at old new (length new.config.processes) rows q are below in
-          same-at q row at ∙ told-kept old new p q row is place same;
-    }
-  where
-    same-at : (q : ℕ) (row : Row) → slice_get rows q ≡ Some row → is_same_at rows q ≡ is_same row.impact
-    same-at q row at = ap (λ r. option_map_or (λ (row : Row). is_same row.impact) r false) at
+module _ (old new : Workload) (rows : List Row) (names : List (List ℕ)) (are : AreRows old new (length new.config.processes) rows) where
+  same-at : (q : ℕ) (row : Row) → slice_get rows q ≡ Some row → is_same_at rows q ≡ is_same row.impact
+  same-at q row at = ap (λ r. option_map_or (λ (row : Row). is_same row.impact) r false) at
 
-module _ (old new : Configuration) (rows : List Row) (names : List (List ℕ)) where
-  untouched : TouchesOnly names old new rows → (q : ℕ) → q < length new.processes → is_touched new rows names q ≡ false
-  untouched only q below = either (is_named names (process_name new q)) (is_same_at rows q) (only.kept q below)
+  kept : (q : ℕ) → q < length new.config.processes → is_touched new.config rows names q ≡ false
+      → is_named names (process_name new.config q) ≡ false → IsKept old new q
+  kept q below none other =
+      let (row, at, is) = row-at old new (length new.config.processes) rows q are below in
+      kept-told old new q row is (sym (same-at q row at) ∙ neither (is_named names (process_name new.config q)) (is_same_at rows q) none other)
+
+  untouched : TouchesOnly names old new → (q : ℕ) → q < length new.config.processes → is_touched new.config rows names q ≡ false
+  untouched only q below =
+      let (row, at, is) = row-at old new (length new.config.processes) rows q are below in
+      either (is_named names (process_name new.config q)) (is_same_at rows q) (λ other. same-at q row at ∙ told-kept old new q row is (only.kept q below other))
 
   -- where the first test is passed, the second tells whether the change touches none but those named
-  pub second_tells : (a b : Bool) → a ≡ true → TellsTouched a new rows names → TellsLost b old new names → IsTrue b ↔ TouchesOnly names old new rows
+  pub second_tells : (a b : Bool) → a ≡ true → TellsTouched a new.config rows names → TellsLost b old.config new.config names
+      → IsTrue b ↔ TouchesOnly names old new
   second_tells a b passed none still = (
     λ both. record {
-      kept = λ q below other. neither (is_named names (process_name new q)) (is_same_at rows q) (none.0 passed q below) other;
-      there = λ p below other. neither (is_named names (process_name old p)) (is_there new (process_name old p)) (still.0 both p below) other;
+      kept = λ q below other. kept q below (none.0 passed q below) other;
+      there = λ p below other.
+          neither (is_named names (process_name old.config p)) (is_there new.config (process_name old.config p)) (still.0 both p below) other;
     },
-    λ only. still.1 (λ p below. either (is_named names (process_name old p)) (is_there new (process_name old p)) (only.there p below)),
+    λ only.
+        still.1 (λ p below. either (is_named names (process_name old.config p)) (is_there new.config (process_name old.config p)) (only.there p below)),
   )
 
   -- and where it isn't, the change touches another
-  pub first_tells : (a : Bool) → a ≡ false → TellsTouched a new rows names → IsTrue false ↔ TouchesOnly names old new rows
+  pub first_tells : (a : Bool) → a ≡ false → TellsTouched a new.config rows names → IsTrue false ↔ TouchesOnly names old new
   first_tells a failed none = (
     λ never. absurd (let no : false ≡ true = never in cc),
     λ only. sym failed ∙ none.1 (untouched only),

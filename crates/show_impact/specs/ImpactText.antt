@@ -13,7 +13,7 @@ use Rattle.show_impact.specs.declared.row.Impact.{Impact}
 use Rattle.show_impact.specs.declared.row.Row.{Row}
 use Rattle.show_impact.specs.declared.told.Fate.{Fate}
 use Rattle.show_impact.specs.declared.whole.TheConstants.{COUNTED, COUNTS}
-use Rattle.show_impact.specs.Impacts.{is_same, is_there}
+use Rattle.show_impact.specs.Impacts.{is_there}
 use Rattle.show_impact.specs.Forms.{told_text}
 use Rattle.show_impact.specs.Told.{key_text, told_name, told_of, waits_text}
 
@@ -43,6 +43,12 @@ is_unknown old new name = not (is_there new name) && not (is_there old name)
 -- a name that is that of no process
 abbrev pub name_text : Form → Configuration → Configuration → List ℕ → List ℕ
 name_text form old new name = if is_unknown old new name then told_text form name [] [] (told_name Fate.Unknown) else []
+
+-- it sees the same, or it is given more and waits in each of its windows
+abbrev pub is_told_same : Impact → Bool
+is_told_same Impact.Same = true
+is_told_same Impact.Waits = true
+is_told_same _ = false
 
 abbrev pub is_changed : Impact → Bool
 is_changed Impact.Program = true
@@ -90,7 +96,7 @@ how_many_unknown old new names = length (filter (is_unknown old new) names)
 abbrev pub count_told : Form → Configuration → Configuration → List Row → List (List ℕ) → List ℕ
 count_told form old new rows names =
     note_told form COUNTED.now COUNTS.now
-    (decimal (how_many is_same rows) ∷ decimal (how_many is_changed rows) ∷ decimal (how_many is_open rows) ∷ decimal (how_many is_new rows)
+    (decimal (how_many is_told_same rows) ∷ decimal (how_many is_changed rows) ∷ decimal (how_many is_open rows) ∷ decimal (how_many is_new rows)
     ∷ decimal (how_many_gone old new) ∷ decimal (how_many is_alone rows) ∷ decimal (how_many is_if_it_waits rows)
     ∷ decimal (how_many_unknown old new names) ∷ decimal (how_many_later rows) ∷ decimal (how_many_sooner rows) ∷ [])
 

@@ -1,7 +1,6 @@
 -- What a change of the configuration does to each process.
-use Rattle.std.specs.Prelude.{ℕ, zero, suc, ◌≡◌, ◌≢◌, ◌<◌, ◌≤◌, ◌⊎◌, Bool, true, false, List, [], ◌∷◌, ◌++◌, position, slice_get, slice_index_or, Option, Some, None, length}
+use Rattle.std.specs.Prelude.{ℕ, zero, suc, ◌≡◌, ◌≢◌, ◌<◌, ◌≤◌, ◌⊎◌, Bool, true, false, List, [], ◌∷◌, ◌++◌, position, slice_index_or, Option, Some, None, length}
 use Rattle.std.specs.List.{list_any}
-use Rattle.std.specs.Option.{option_map_or}
 use Rattle.std.specs.Str.{bytes_eq}
 use Rattle.dk_config.specs.Configuration.{Configuration}
 use Rattle.dk_config.specs.Windows.{budget, main_level, may_ask, period, process_name, slots}
@@ -77,6 +76,10 @@ pub record IsSameAsItWaits (old : Workload) (p : ℕ) (new : Workload) (q : ℕ)
   pub period : period old.config (main_level old.config p) ≡ period new.config (main_level new.config q)
   pub enough : AlwaysHasEnough old.config p (program_of old p)
 
+-- its evidence stands where it sees the same, or is the same as it waits
+abbrev pub IsTheSame : Workload → ℕ → Workload → ℕ → Type 0
+IsTheSame old p new q = IsSame old p new q ⊎ IsSameAsItWaits old p new q
+
 -- or none of these
 pub record IsChanged (old : Workload) (p : ℕ) (new : Workload) (q : ℕ) : Type 0 where
   pub keeps : KeepsInBoth old p new q
@@ -142,14 +145,10 @@ AreRows old new zero rows = rows ≡ []
 AreRows old new (suc n) rows =
     (before : List Row) × (row : Row) × AreRows old new n before × IsRow old new n row × (rows ≡ before ++ row ∷ [])
 
--- it sees the same, or it is given more and waits in each of its windows
+-- it sees the same
 abbrev pub is_same : Impact → Bool
 is_same Impact.Same = true
-is_same Impact.Waits = true
 is_same _ = false
-
-abbrev pub is_same_at : List Row → ℕ → Bool
-is_same_at rows q = option_map_or (λ (row : Row). is_same row.impact) (slice_get rows q) false
 
 abbrev pub is_there : Configuration → List ℕ → Bool
 is_there c name = list_any (λ row. bytes_eq row.name name) c.processes
@@ -157,22 +156,13 @@ is_there c name = list_any (λ row. bytes_eq row.name name) c.processes
 abbrev pub is_named : List (List ℕ) → List ℕ → Bool
 is_named names name = list_any (bytes_eq name) names
 
--- what is told to be the same is one of these
-abbrev pub IsTheSame : Workload → ℕ → Workload → ℕ → Type 0
-IsTheSame old p new q = IsSame old p new q ⊎ IsSameAsItWaits old p new q
-
--- process q of the new configuration was there, and is the same
+-- process q of the new configuration was there, and sees the same
 abbrev pub IsKept : Workload → Workload → ℕ → Type 0
-IsKept old new q = (p : ℕ) × (place_of old.config (process_name new.config q) ≡ Some p) × IsTheSame old p new q
+IsKept old new q = (p : ℕ) × (place_of old.config (process_name new.config q) ≡ Some p) × IsSame old p new q
 
--- By these rows the change touches none but the processes of these names: every other one of the new configuration was there and
--- is told to be the same, and every other one of the old is there still.
-pub record TouchesOnly (names : List (List ℕ)) (old new : Configuration) (rows : List Row) : Type 0 where
-  pub kept : (q : ℕ) → q < length new.processes → is_named names (process_name new q) ≡ false → is_same_at rows q ≡ true
-  pub there : (p : ℕ) → p < length old.processes → is_named names (process_name old p) ≡ false → is_there new (process_name old p) ≡ true
-
--- What rows tell to be the same is kept, and each process that sees the same is told so.
-pub record AreSound (old new : Workload) (rows : List Row) : Type 0 where
-  pub kept : (q : ℕ) → q < length new.config.processes → is_same_at rows q ≡ true → IsKept old new q
-  pub told : (p q : ℕ) → q < length new.config.processes → place_of old.config (process_name new.config q) ≡ Some p
-      → IsSame old p new q → is_same_at rows q ≡ true
+-- The change touches none but the processes of these names: every other one of the new configuration was there and sees the
+-- same, and every other one of the old is there still.
+pub record TouchesOnly (names : List (List ℕ)) (old new : Workload) : Type 0 where
+  pub kept : (q : ℕ) → q < length new.config.processes → is_named names (process_name new.config q) ≡ false → IsKept old new q
+  pub there : (p : ℕ) → p < length old.config.processes → is_named names (process_name old.config p) ≡ false
+      → is_there new.config (process_name old.config p) ≡ true

@@ -4,7 +4,10 @@ use Rattle.std.specs.Option.{option_map_or}
 use Rattle.dk_config.specs.Configuration.{Configuration}
 use Rattle.dk_config.specs.Windows.{process_name}
 use Rattle.show_impact.specs.declared.row.Row.{Row}
-use Rattle.show_impact.specs.Impacts.{is_named, is_same_at, is_there}
+use Rattle.show_impact.specs.Impacts.{is_named, is_same, is_there}
+
+abbrev pub is_same_at : List Row → ℕ → Bool
+is_same_at rows q = option_map_or (λ (row : Row). is_same row.impact) (slice_get rows q) false
 
 -- process q of the new configuration is neither named nor told to be the same
 abbrev pub is_touched : Configuration → List Row → List (List ℕ) → ℕ → Bool

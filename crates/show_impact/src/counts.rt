@@ -1,6 +1,6 @@
 //! How many processes are told what.
 ghost use Rattle.std.specs.Prelude.{◌≡◌, filter, length};
-ghost use Rattle.show_impact.specs.ImpactText.{how_many, how_many_gone, how_many_later, how_many_sooner, how_many_unknown, is_alone, is_changed, is_gone, is_if_it_waits, is_new, is_open, is_unknown};
+ghost use Rattle.show_impact.specs.ImpactText.{how_many, how_many_gone, how_many_later, how_many_sooner, how_many_unknown, is_alone, is_changed, is_gone, is_if_it_waits, is_new, is_open, is_told_same, is_unknown};
 ghost use Rattle.show_impact.specs.Impacts.{is_same, is_there};
 
 use crate::{CertifiedLoad, Impact, Row};
@@ -8,6 +8,12 @@ use dk_config::{Config, ProcessRow, Text, has_process};
 
 pub(crate) fn is_same(row: &Row) -> bool
     ensures { result ≡ is_same row.now.impact }
+{
+    matches!(row.impact, Impact::Same)
+}
+
+fn is_told_same(row: &Row) -> bool
+    ensures { result ≡ is_told_same row.now.impact }
 {
     matches!(row.impact, Impact::Same | Impact::Waits)
 }
@@ -67,9 +73,9 @@ pub(crate) fn how_many_sooner(rows: &[Row]) -> usize
 }
 
 pub(crate) fn how_many_same(rows: &[Row]) -> usize
-    ensures { result ≡ how_many is_same rows.now }
+    ensures { result ≡ how_many is_told_same rows.now }
 {
-    rows.iter().filter(|row| is_same(row)).count()
+    rows.iter().filter(|row| is_told_same(row)).count()
 }
 
 pub(crate) fn how_many_changed(rows: &[Row]) -> usize
