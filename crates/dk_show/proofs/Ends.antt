@@ -5,6 +5,7 @@ use Rattle.show_budgets.specs.Wrong.{table_told}
 use Rattle.show_budgets.specs.declared.report.Ended.TheVariants as end
 use Rattle.dk_show.proofs.Names.{ℕ, ◌≡◌, ◌∙◌, ◌⊎◌, ◌<◌, inl, inr, List, length, reverse, sym, ap, subst, refl, arith, Bool, true, false, MatchBool, Option, Some, None, IfSome, Result, Ok, Err, MAX_CONFIG_BYTES, MAX_LEDGER_BYTES, Configuration, Verdict, verdict_of, LoadFault, reading, Journal, one_text, MAX_GROUPS, Telling, Range, RangeRequest, Request, Refusal, Status, IsAnswer, IsFaulty, refusal_status, IsOwnHeading, AreReactionsTold, ChainIn, IsChainTold, IsOfOther, IsOfReactions, chain_at, IsOf, certified_at, IsOfSource, is_source_name, IsOfProfile, MAX_PROFILE_BYTES, MAX_SOURCE_BYTES, IsSought, IsOfHolds, IsOfOwnHolds, IsOfWindows, windows_end, WindowsForm, IsBehind, IsDrawn, IsOfBytes, IsOfDocument, IsOfFaults, IsOfPicture, IsOfOwnPicture, IsPictureUnder, Promised, nothing_promised, IsOfReading, IsOfRequest, IsPicture, IsToldOf, groups_asked, to_of}
 use Rattle.std.specs.Prelude.{[], ◌∷◌, is_some, not}
+use Rattle.std.proofs.Common.{zero, suc}
 use Rattle.dk_allotment.specs.Given.{IsOverdrawn}
 use Rattle.show_rows.specs.declared.row.Form.{Form}
 use Rattle.dk_show_request.specs.declared.allotments.Allotment.{Allotment}

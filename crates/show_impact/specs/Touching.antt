@@ -1,5 +1,5 @@
 -- Which process is touched beside those named.
-use Rattle.std.specs.Prelude.{ℕ, ◌≡◌, ◌<◌, ◌&&◌, Bool, false, not, nat_lt, List, length, slice_get}
+use Rattle.std.specs.Prelude.{ℕ, ◌&&◌, Bool, false, not, List, slice_get}
 use Rattle.std.specs.Option.{option_map_or}
 use Rattle.dk_config.specs.Configuration.{Configuration}
 use Rattle.dk_config.specs.Windows.{process_name}
@@ -16,15 +16,3 @@ is_touched new rows names q = not (is_named names (process_name new q)) && not (
 -- process p of the old configuration is neither named nor there still
 abbrev pub is_lost : Configuration → Configuration → List (List ℕ) → ℕ → Bool
 is_lost old new names p = not (is_named names (process_name old p)) && not (is_there new (process_name old p))
-
--- the main of process q has its budget by a later tick of its windows than before
-abbrev pub is_later_at : List Row → ℕ → Bool
-is_later_at rows q = option_map_or (λ (row : Row). nat_lt row.before row.after) (slice_get rows q) false
-
--- it isn't named, and its main is done later
-abbrev pub is_delayed : Configuration → List Row → List (List ℕ) → ℕ → Bool
-is_delayed new rows names q = not (is_named names (process_name new q)) && is_later_at rows q
-
--- by these rows the mains of none but the processes of these names are done later
-abbrev pub DelaysOnly : List (List ℕ) → Configuration → List Row → Type 0
-DelaysOnly names new rows = (q : ℕ) → q < length new.processes → is_delayed new rows names q ≡ false

@@ -17,6 +17,6 @@ mod whole;
 pub use comparing::impacts;
 pub use load::CertifiedLoad;
 pub use row::{Cause, Impact, Row, Waiting};
-pub use touching::{delays_only, touches_only};
+pub use touching::touches_only;
 pub use waiting::WAIT_TICKS;
 pub use whole::impact_text;

@@ -1,7 +1,7 @@
 //! Whether a change touches none but some processes.
 ghost use Rattle.std.specs.Prelude.{ℕ, ◌≡◌, ◌<◌, ◌↔◌, false, IsTrue, length};
 ghost use Rattle.show_impact.specs.Impacts.{AreRows, TouchesOnly, is_there};
-ghost use Rattle.show_impact.specs.Touching.{DelaysOnly, is_delayed, is_later_at, is_lost, is_same_at, is_touched};
+ghost use Rattle.show_impact.specs.Touching.{is_lost, is_same_at, is_touched};
 
 use crate::comparing::{how_many, name_of};
 use crate::counts::{is_same, is_there};
@@ -72,33 +72,4 @@ pub fn touches_only(old: &CertifiedLoad, new: &CertifiedLoad, rows: &[Row], name
     } else {
         false
     }
-}
-
-fn is_later_at(rows: &[Row], process: u32) -> bool
-    ensures { result ≡ is_later_at rows.now process }
-{
-    match rows.get(process as usize) {
-        Some(row) => row.before < row.after,
-        None => false,
-    }
-}
-
-/// Whether the process of the new configuration isn't named, and its main is done later.
-fn is_delayed(new: &CertifiedLoad, rows: &[Row], names: &[Text], process: u32) -> bool
-    ensures { result ≡ is_delayed new.now.config rows.now names.now process }
-{
-    !has_text(names, name_of(new, process)) && is_later_at(rows, process)
-}
-
-/// Whether the change delays none but the processes of these names: the main of each other one has its budget by no later tick
-/// of its windows than before. The rows are those that `impacts` finds.
-pub fn delays_only(new: &CertifiedLoad, rows: &[Row], names: &[Text]) -> bool
-    ensures { IsTrue result ↔ DelaysOnly names.now new.now.config rows.now }
-{
-    for process in 0..how_many(new) {
-        if is_delayed(new, rows, names, process) {
-            return false;
-        }
-    }
-    true
 }
