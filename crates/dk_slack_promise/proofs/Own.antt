@@ -225,4 +225,4 @@ own_allotted c past checked accepted audited s p r x w stands asks =
     let share_is : (job_from c past x r).used ≡ share c (past_at past r) x r =
     ap (λ (j : Job). j.used) outer ∙ sym (ap (λ (j : Job). j.used) same) ∙ used ∙ ap (λ z. share c z x r) start in
     let all = lent-asked c past s p r x w stands asks (wishes_met c past checked accepted audited s p r x w) in
-    omega (arith, share_is, all)
+    (share_is, all)

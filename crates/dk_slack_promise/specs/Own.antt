@@ -36,8 +36,8 @@ WishesMet c past =
     → (s p ≤ counted_from (is_lent_to p) c past (main_level c p) r)
     ⊎ (want c r (ended_at c past (main_level c p) r) x ≡ 0)
 
--- And where the thread neither waited nor was stopped in the window, and last asked in it for at least the allotment, its
--- share of the window and the allotment, or more, are the ticks that it had of its share and that the process was lent.
+-- And where the thread neither waited nor was stopped in the window, and last asked in it for at least the allotment, it had
+-- its whole share of the window, and its process was lent the allotment or more in it.
 abbrev pub OwnAllotted : Configuration → List Entry → Type 0
 OwnAllotted c past =
     (s : ℕ → ℕ) (p r : ℕ) (x : Thread) → IsOwnWindow c past s p r x
@@ -45,5 +45,4 @@ OwnAllotted c past =
     let ended = ended_at c past i r in
     is_closed c r ended x ≡ false
     → s p ≤ (last_request x.id (window c r ended i)).amount
-    → share c (past_at past r) x r + s p
-    ≤ (job_from c past x r).used + counted_from (is_lent_to p) c past i r
+    → ((job_from c past x r).used ≡ share c (past_at past r) x r) × (s p ≤ counted_from (is_lent_to p) c past i r)
