@@ -132,8 +132,8 @@ pub fn for_ever_law()
     windows_with_more_law();
 }
 
-/// A process that never comes to an instruction that is struck out of its program has the run that it has with it: so what is
-/// told of it without a call that reads the tick is true of it with one that is never reached.
+/// Two runs of one configuration whose programs are the same, but that some instructions of one process are struck out in the
+/// second, are the same tick by tick, where in the second no thread of that process ever ends in a decode fault.
 pub fn unreached_law()
     ensures { WhatIsNeverReachedHasNoImpact }
 {}

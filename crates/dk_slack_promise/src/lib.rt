@@ -64,14 +64,15 @@ pub fn allotted_by_when_law()
     ensures { Always AllottedByWhen }
 {}
 
-/// Of what a thread asks for in a window of its process's level, up to the process's allotment, nothing is left where the
-/// window ends.
+/// There, where a window of its process's level ends, a thread of that level asks for nothing more, or its process was lent
+/// the allotment or more in the window. Of what a thread asks for in a window its last request alone counts, and one that
+/// waited or was stopped in it asks for nothing.
 pub fn wishes_met_law()
     ensures { Always WishesMet }
 {}
 
-/// So a thread that neither waits nor is stopped in a window of its process's level, and that last asks in it for at least the
-/// allotment, has its whole share of the window, and its process the allotment.
+/// So a thread of that level that neither waits nor is stopped in the window, and that last asks in it for at least the
+/// allotment, has exactly its whole share of the window, and its process was lent the allotment or more in it.
 pub fn own_allotted_law()
     ensures { Always OwnAllotted }
 {}
