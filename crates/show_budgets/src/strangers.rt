@@ -1,7 +1,7 @@
-//! The columns of a table that are those of no process.
+//! The columns of a table of which nothing would be asked: those of no process, and each one more of the same.
 ghost use Rattle.std.specs.Prelude.{◌≡◌, ◌+◌, ◌<◌, ◌^◌, ◌++◌, Some, length, option_map, IfOk, OnOk};
 ghost use Rattle.csv.specs.Records.{field_at, fields_of};
-ghost use Rattle.show_budgets.specs.Strangers.{column_number, header, is_process, stranger_told, strangers_below, strangers_told};
+ghost use Rattle.show_budgets.specs.Strangers.{again_told, column_again, column_head, column_number, header, is_again, is_named, is_process, stranger_told, strangers_below, strangers_told};
 
 use csv::ByteRecord;
 use dk_asm::first_line;
@@ -40,18 +40,81 @@ fn add_column_number(alloc: Global, out: &mut Vec<u8>, place: usize) -> Result<(
     Ok(())
 }
 
-fn add_stranger(
+fn is_named(row: &ByteRecord, place: usize, name: &[u8]) -> bool
+    ensures { result ≡ is_named name.now (field_at (fields_of row.now) place) }
+{
+    match row.get(place) {
+        Some(other) => name == other,
+        None => false,
+    }
+}
+
+/// A column in front of this place has the same name, and is the one that is read.
+fn is_again(row: &ByteRecord, place: usize, name: &[u8]) -> bool
+    ensures { result ≡ is_again (fields_of row.now) place name.now }
+{
+    for other in 0..place {
+        if is_named(row, other, name) {
+            return true;
+        }
+    }
+    false
+}
+
+fn add_column_head(alloc: Global, out: &mut Vec<u8>, place: usize) -> Result<(), NoMemory>
+    requires { place + 1 < 2 ^ 64 }
+    ensures { OnOk result (out.new.items ≡ out.old.items ++ column_head place) }
+{
+    let number = place + 1;
+    let head = format!(in alloc; "times: column {number} is ")?;
+    out.extend_from_slice(head.as_str().as_bytes())?;
+    Ok(())
+}
+
+fn add_column_again(
     alloc: Global,
     out: &mut Vec<u8>,
-    rows: &[ProcessRow],
     place: usize,
     name: &[u8],
 ) -> Result<(), NoMemory>
     requires { place + 1 < 2 ^ 64 }
-    ensures { OnOk result (out.new.items ≡ out.old.items ++ stranger_told rows.now place (Some name.now)) }
+    ensures { OnOk result (out.new.items ≡ out.old.items ++ column_again place name.now) }
+{
+    add_column_head(alloc, out, place)?;
+    out.extend_from_slice(name)?;
+    out.extend_from_slice(" once more\n".as_bytes())?;
+    Ok(())
+}
+
+fn add_again(
+    alloc: Global,
+    out: &mut Vec<u8>,
+    row: &ByteRecord,
+    place: usize,
+    name: &[u8],
+) -> Result<(), NoMemory>
+    requires { place + 1 < 2 ^ 64 }
+    ensures { OnOk result (out.new.items ≡ out.old.items ++ again_told (fields_of row.now) place name.now) }
+{
+    if is_again(row, place, name) {
+        add_column_again(alloc, out, place, name)?;
+    }
+    Ok(())
+}
+
+fn add_stranger(
+    alloc: Global,
+    out: &mut Vec<u8>,
+    rows: &[ProcessRow],
+    row: &ByteRecord,
+    place: usize,
+    name: &[u8],
+) -> Result<(), NoMemory>
+    requires { place + 1 < 2 ^ 64 }
+    ensures { OnOk result (out.new.items ≡ out.old.items ++ stranger_told rows.now (fields_of row.now) place (Some name.now)) }
 {
     if is_process(rows, name) {
-        return Ok(());
+        return add_again(alloc, out, row, place, name);
     }
     add_column_number(alloc, out, place)
 }
@@ -63,15 +126,15 @@ fn add_at(
     row: &ByteRecord,
     place: usize,
 ) -> Result<(), NoMemory>
-    ensures { OnOk result (out.new.items ≡ out.old.items ++ stranger_told rows.now place (field_at (fields_of row.now) place)) }
+    ensures { OnOk result (out.new.items ≡ out.old.items ++ stranger_told rows.now (fields_of row.now) place (field_at (fields_of row.now) place)) }
 {
     match row.get(place) {
-        Some(name) => add_stranger(alloc, out, rows, place, name),
+        Some(name) => add_stranger(alloc, out, rows, row, place, name),
         None => Ok(()),
     }
 }
 
-/// Each column that is that of no process, by its number, from 1.
+/// Each column that is that of no process, or of one once more, by its number, from 1.
 #[tactic(auto, using(crate::proofs::OneColumn::one_more))]
 fn add_strangers(
     alloc: Global,
@@ -87,7 +150,7 @@ fn add_strangers(
     Ok(())
 }
 
-/// Each column of the table that is that of no process.
+/// Each column of the table that is that of no process, or of one once more.
 pub(crate) fn strangers_told(
     alloc: Global,
     out: &mut Vec<u8>,

@@ -28,6 +28,10 @@ const TOO_MUCH: &str =
 const WRONG: &str =
     "times: column 2 is no process\ntimes of nav\nprofile: line 3: a number is wanted\nprofile: line 4: 1 to 1000000 are allowed\nprofile: line 5: 2 cells are wanted\nfaults 3\n";
 
+/// The second column of nav would be passed over, and its 90 ticks with it; that of no process is told as such each time.
+const TWICE: &str =
+    "times: column 2 is no process\ntimes: column 3 is nav once more\ntimes: column 4 is no process\ntimes: column 5 is nav once more\n";
+
 /// The layout of the frame, and its configuration once more.
 fn frame(alloc: Global) -> Result<(Layout, Config), Fail>
     ensures { IfOk result (λ p. p.1 ≡ p.0) }
@@ -68,5 +72,7 @@ fn budgets_are_told(rt: HostRuntime) -> Result<(), Fail> {
     tells(alloc, BudgetForm::Toml, 10, times, TOML)?;
     tells(alloc, BudgetForm::Text, 0, "radio,nav\n46,46\n", TOO_MUCH)?;
     let wrong = "nav,other\n17,1\n7us,1\n0,1\n1,200,3\n";
-    tells(alloc, BudgetForm::Text, 0, wrong, WRONG)
+    tells(alloc, BudgetForm::Text, 0, wrong, WRONG)?;
+    let twice = "nav,other,nav,other,nav\n17,1,90,1,1\n";
+    tells(alloc, BudgetForm::Text, 0, twice, TWICE)
 }
