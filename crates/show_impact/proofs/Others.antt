@@ -22,7 +22,7 @@ told-same : (old : Workload) (p : ℕ) (new : Workload) (q : ℕ) (impact : Impa
 told-same old p new q Impact.Same same found = refl
 told-same old p new q Impact.PeriodAlone same found = absurd (found.differs same.sees)
 told-same old p new q Impact.Waits same found = absurd (found.given.differs same.sees.but_period)
-told-same old p new q (Impact.IfItWaits waiting) same found = absurd (found.0.differs same.sees.but_period)
+told-same old p new q (Impact.IfItWaits waiting) same found = absurd (found.given.differs same.sees.but_period)
 told-same old p new q Impact.Program same found = absurd (found.1 same.program)
 told-same old p new q Impact.Changed same found = absurd (found.differs same.sees.but_period)
 told-same old p new q (Impact.Open cause) same (inl before) = absurd (keeps-not old p cause same.keeps.before before)

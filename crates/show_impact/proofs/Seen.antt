@@ -71,7 +71,7 @@ module _ (old new : Workload) (p q : ℕ) (checked : IsChecked old.config) (acce
       let given = is.given in
       let for-ever : IsSameForEver old.config p new.config q (program_of old p) =
       law old.config new.config p q (program_of old p) checked accepted checked' accepted' given.keeps.before
-      (subst (KeepsToItself new.config q) (sym given.program) given.keeps.now) given.gives is.enough in
+      (subst (KeepsToItself new.config q) (sym given.program) given.keeps.now) given.gives is.waits.enough in
       record {
         same = λ programs others n mine theirs begins.
             let k = n / period old.config (main_level old.config p) in
@@ -84,6 +84,6 @@ module _ (old new : Workload) (p q : ℕ) (checked : IsChecked old.config) (acce
             (for-ever.same programs others k mine (theirs ∙ sym given.program)));
         windows = record {
           windows = λ programs others s k holds mine theirs again first.
-              (outlives windows given).windows programs others s k holds mine theirs again (λ tick begins early. is.enough.enough programs tick mine begins) first;
+              (outlives windows given).windows programs others s k holds mine theirs again (λ tick begins early. is.waits.enough.enough programs tick mine begins) first;
         };
       }

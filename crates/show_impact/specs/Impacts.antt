@@ -8,7 +8,9 @@ use Rattle.dk_config.specs.Ahead.{IsEnough}
 use Rattle.dk_loader.specs.Workload.{Workload}
 use Rattle.dk_alone.specs.Alone.{KeepsToItself, ReadsNoTick}
 use Rattle.dk_impact.specs.declared.change.Change.{Change}
-use Rattle.dk_cycle.specs.Waiting.{WaitsFirstNot, WaitsSoFar}
+use Rattle.dk_cycle.specs.declared.waiting.Waits.TheVariants as waits
+use Rattle.dk_cycle.specs.Seeking.{HasNoOwnCycle}
+use Rattle.dk_cycle.specs.Waiting.{IsWaits, WaitsFirstNot, WaitsSoFar}
 use Rattle.dk_impact.specs.Changes.{AreAll}
 use Rattle.dk_impact.specs.Enough.{AlwaysHasEnough}
 use Rattle.dk_impact.specs.Greater.{GivesNoLess}
@@ -63,18 +65,48 @@ pub record IsGivenNoLess (old : Workload) (p : ℕ) (new : Workload) (q : ℕ) :
   pub gives : GivesNoLess old.config p new.config q (program_of old p)
   pub differs : ¬ SeesTheSameButPeriod old.config p new.config q (program_of old p)
 
--- what is known of whether each of its windows has enough, in every run in which it has this program
+-- its main waits in each of its windows, for ever, in every run in which it has this program
+abbrev pub WaitsInEach : Workload → ℕ → Type 0
+WaitsInEach w p = IsWaits w.config w.programs p (searched_ticks WAIT_TICKS) waits.Always
+
+-- and its program locks nothing: each of its windows has enough
+pub record HasEnoughInEach (w : Workload) (p : ℕ) : Type 0 where
+  pub waits : WaitsInEach w p
+  pub locks : LocksNothing (program_of w p)
+  pub enough : AlwaysHasEnough w.config p (program_of w p)
+
+-- or it may lock, and be refused a lock for want of budget
+pub record MayWantForALock (w : Workload) (p : ℕ) : Type 0 where
+  pub waits : WaitsInEach w p
+  pub locks : ¬ LocksNothing (program_of w p)
+
+-- or its main waits in each window so far, and no cycle of it was to be found
+pub record WaitsWithoutACycle (w : Workload) (p : ℕ) : Type 0 where
+  pub waits : WaitsSoFar w.config w.programs p (searched_ticks WAIT_TICKS)
+  pub none : HasNoOwnCycle w.config w.programs p (searched_ticks WAIT_TICKS)
+
+-- what is known of whether each of its windows has enough
 abbrev pub IsWaiting : Workload → ℕ → Waiting → Type 0
-IsWaiting w p Waiting.Always = AlwaysHasEnough w.config p (program_of w p)
+IsWaiting w p Waiting.Always = HasEnoughInEach w p
 IsWaiting w p (Waiting.NotFrom tick) = WaitsFirstNot w.config w.programs p tick
-IsWaiting w p Waiting.NotWithin = WaitsSoFar w.config w.programs p (searched_ticks WAIT_TICKS)
-IsWaiting w p Waiting.Locks = ¬ LocksNothing (program_of w p)
+IsWaiting w p Waiting.NotWithin = WaitsWithoutACycle w p
+IsWaiting w p Waiting.Locks = MayWantForALock w p
+
+-- its windows are of the same length in both
+abbrev pub HasOnePeriod : Workload → ℕ → Workload → ℕ → Type 0
+HasOnePeriod old p new q = period old.config (main_level old.config p) ≡ period new.config (main_level new.config q)
 
 -- or it is given a greater budget in windows of the same length, each of which has enough
 pub record IsSameAsItWaits (old : Workload) (p : ℕ) (new : Workload) (q : ℕ) : Type 0 where
   pub given : IsGivenNoLess old p new q
-  pub period : period old.config (main_level old.config p) ≡ period new.config (main_level new.config q)
-  pub enough : AlwaysHasEnough old.config p (program_of old p)
+  pub period : HasOnePeriod old p new q
+  pub waits : HasEnoughInEach old p
+
+-- or it is given no less, and not that
+pub record IsSameIfItWaits (old : Workload) (p : ℕ) (new : Workload) (q : ℕ) (waiting : Waiting) : Type 0 where
+  pub given : IsGivenNoLess old p new q
+  pub waits : IsWaiting old p waiting
+  pub period : waiting ≡ Waiting.Always → ¬ HasOnePeriod old p new q
 
 -- its evidence stands where it sees the same, or is the same as it waits
 abbrev pub IsTheSame : Workload → ℕ → Workload → ℕ → Type 0
@@ -91,7 +123,7 @@ abbrev pub IsFound : Workload → ℕ → Workload → ℕ → Impact → Type 0
 IsFound old p new q Impact.Same = IsSame old p new q
 IsFound old p new q Impact.PeriodAlone = IsPeriodAlone old p new q
 IsFound old p new q Impact.Waits = IsSameAsItWaits old p new q
-IsFound old p new q (Impact.IfItWaits waiting) = IsGivenNoLess old p new q × IsWaiting old p waiting
+IsFound old p new q (Impact.IfItWaits waiting) = IsSameIfItWaits old p new q waiting
 IsFound old p new q Impact.Program = KeepsInBoth old p new q × (program_of old p ≢ program_of new q)
 IsFound old p new q Impact.Changed = IsChanged old p new q
 IsFound old p new q (Impact.Open cause) = IsOpen old p new q cause

@@ -15,13 +15,13 @@ pub enum Cause {
 /// What is known of whether each window of a process has enough, in every run of the old configuration.
 #[derive(Clone, Copy)]
 pub enum Waiting {
-    /// Each has: its main waits in each, and its program locks nothing.
+    /// Each has: its main waits in each for ever, and its program locks nothing.
     Always,
     /// Its main doesn't wait in the window that begins at this tick, the first such.
     NotFrom(u32),
-    /// That its main waits in each isn't found in so many ticks as are searched.
+    /// Its main waits in each so far, and no cycle of it is to be found in so many ticks as are searched.
     NotWithin,
-    /// Its program locks, so it may be refused a lock for want of budget.
+    /// Its main waits in each for ever, and its program locks, so it may be refused a lock for want of budget.
     Locks,
 }
 

@@ -1,5 +1,6 @@
 //! Whether each window of a process has enough, for ever.
-ghost use Rattle.std.specs.Prelude.{◌<◌, IfOk, length};
+ghost use Rattle.std.specs.Prelude.{◌≡◌, ◌<◌, IfOk, length};
+ghost use Rattle.dk_cycle.specs.Seeking.{HasNoOwnCycle};
 ghost use Rattle.dk_cycle.specs.Waiting.{IsWaits};
 ghost use Rattle.dk_repeat_search.specs.Repeats.{searched_ticks};
 ghost use Rattle.show_impact.specs.Impacts.{IsWaiting, Keeps};
@@ -37,6 +38,7 @@ fn waiting_always(load: &CertifiedLoad, process: u32) -> Waiting
 fn waiting_by(load: &CertifiedLoad, process: u32, waits: Waits) -> Waiting
     requires keeps { Keeps load.now process }
     requires waits { IsWaits load.now.config load.now.programs process (searched_ticks WAIT_TICKS) waits }
+    requires none { waits ≡ Waits.NotWithin → HasNoOwnCycle load.now.config load.now.programs process (searched_ticks WAIT_TICKS) }
     ensures { IsWaiting load.now process result }
 {
     match waits {
