@@ -77,3 +77,15 @@ allotted_again = refl
 two_flags : Says (codes "check" ∷ codes "c" ∷ codes "n" ∷ codes "--csv" ∷ codes "--junit" ∷ []) (codes "check: --csv|--junit stands more than once\n")
 unfolding form_named
 two_flags = refl
+
+two_options : Says (codes "chain" ∷ codes "c" ∷ codes "a" ∷ codes "--ledger" ∷ codes "l" ∷ codes "--ledger" ∷ codes "m" ∷ []) (codes "chain: --ledger stands more than once\n")
+unfolding form_named
+two_options = refl
+
+no_percent : Says (codes "budgets" ∷ codes "t" ∷ codes "c" ∷ codes "--csv" ∷ codes "--reserve" ∷ codes "1001" ∷ []) (codes "budgets: 1001 is no number of percent from 0 to 1000\n")
+unfolding form_named digits
+no_percent = refl
+
+no_such_help : Says (codes "--help" ∷ codes "svgg" ∷ []) (codes "help: svgg is no command\n")
+unfolding form_named
+no_such_help = refl
