@@ -106,10 +106,9 @@ fn period_at(config: &Config, level: u32) -> u32
 }
 
 /// The length of the windows of the process's main.
-fn period_of(load: &CertifiedLoad, process: u32) -> u32
-    ensures { result ≡ period load.now.config (main_level load.now.config process) }
+pub(crate) fn period_of(config: &Config, process: u32) -> u32
+    ensures { result ≡ period config.now (main_level config.now process) }
 {
-    let config = load.config();
     period_at(config, level_of(config, process))
 }
 
@@ -127,7 +126,7 @@ fn given_impact(
 {
     match waiting_of(alloc, old, process)? {
         Waiting::Always => {
-            if period_of(old, process) == period_of(new, same) {
+            if period_of(old.config(), process) == period_of(new.config(), same) {
                 Ok(Impact::Waits)
             } else {
                 Ok(Impact::IfItWaits(Waiting::Always))

@@ -1,9 +1,9 @@
 //! What is told of a process.
 ghost use Rattle.std.specs.Prelude.{◌≡◌, ◌++◌, IfOk, option_map, string_bytes};
-ghost use Rattle.dk_config.specs.Windows.{budget, longest_hold, main_level, memory, period};
+ghost use Rattle.dk_config.specs.Windows.{budget, longest_hold, memory};
 ghost use Rattle.show_impact.specs.Told.{cause_word, change_text, fate_word, impact_word, key_text, mutex_name, mutex_told, reason_word, told_name, told_of, told_value, value_of, waiting_text, waits_text};
 
-use crate::comparing::{name_of, place_of};
+use crate::comparing::{name_of, period_of, place_of};
 use crate::{Cause, CertifiedLoad, Impact, Row, WAIT_TICKS, Waiting};
 use dk_config::Config;
 use dk_impact::Change;
@@ -32,15 +32,6 @@ pub(crate) struct Told {
     pub(crate) done_now: Option<u32>,
 }
 
-fn level_of(config: &Config, process: u32) -> u32
-    ensures { result ≡ main_level config.now process }
-{
-    match config.processes.get(process as usize) {
-        Some(row) => row.level,
-        None => 0,
-    }
-}
-
 fn budget_of(config: &Config, process: u32) -> u32
     ensures { result ≡ budget config.now process }
 {
@@ -55,15 +46,6 @@ fn memory_of(config: &Config, process: u32) -> u32
 {
     match config.processes.get(process as usize) {
         Some(row) => row.memory,
-        None => 0,
-    }
-}
-
-fn period_at(config: &Config, level: u32) -> u32
-    ensures { result ≡ period config.now level }
-{
-    match config.levels.get(level as usize) {
-        Some(row) => row.period,
         None => 0,
     }
 }
@@ -84,7 +66,7 @@ fn value_of(change: Change, config: &Config, process: u32) -> Option<u32>
     match change {
         Change::Switch => Some(config.costs.switch),
         Change::Call => Some(config.costs.call),
-        Change::Period => Some(period_at(config, level_of(config, process))),
+        Change::Period => Some(period_of(config, process)),
         Change::Budget => Some(budget_of(config, process)),
         Change::Memory => Some(memory_of(config, process)),
         Change::User(_) => None,
