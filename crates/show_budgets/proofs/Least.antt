@@ -32,7 +32,7 @@ second_within call (t ∷ ts) all =
     grind (arith, nat_tests, here, rest)
 
 -- where the budget has room for the greatest of them, it has for each
-fits : (d : Configuration) (p : ℕ) (ts : List ℕ) → AllByRecursion (λ t. d.costs.call ≤ t) ts
+pub fits : (d : Configuration) (p : ℕ) (ts : List ℕ) → AllByRecursion (λ t. d.costs.call ≤ t) ts
     → greatest ts + 2 * d.costs.switch ≤ budget d p → FitWindows d p ts
 fits d p [] all le = tt
 fits d p (t ∷ ts) all le = (all.0, grind (arith, nat_tests, le), fits d p ts all.1 (grind (arith, nat_tests, le)))
@@ -52,7 +52,7 @@ own_budget (r ∷ rows) zero m row at = refl
 own_budget (r ∷ rows) (suc p) m row at = own_budget rows p m row at
 
 -- a longer job is longer with the reserve too
-longer_mono : (q a b : ℕ) → a ≤ b → longer q a ≤ longer q b
+pub longer_mono : (q a b : ℕ) → a ≤ b → longer q a ≤ longer q b
 longer_mono q a b le =
     let more : a * q ≤ b * q = mul-le-mul_right q le in
     omega (arith, more, le)
@@ -79,7 +79,7 @@ greatest_longer : (q : ℕ) (ts : List ℕ) → greatest (map (longer q) ts) ≡
 greatest_longer q [] = sym (longer_none q)
 greatest_longer q (t ∷ ts) = ap (max (longer q t)) (greatest_longer q ts) ∙ longer_max q t (greatest ts)
 
-longer_low : (q call : ℕ) (ts : List ℕ) → AllByRecursion (IsTime call) ts → AllByRecursion (λ t. call ≤ t) (map (longer q) ts)
+pub longer_low : (q call : ℕ) (ts : List ℕ) → AllByRecursion (IsTime call) ts → AllByRecursion (λ t. call ≤ t) (map (longer q) ts)
 longer_low q call [] all = tt
 longer_low q call (t ∷ ts) all = (let low = all.0.0 in omega (arith, low), longer_low q call ts all.1)
 
@@ -92,7 +92,7 @@ length_longer q [] = refl
 length_longer q (t ∷ ts) = ap suc (length_longer q ts)
 
 -- the budget for the greatest of them is the least
-of_times : (c : Configuration) (p q : ℕ) (row : ProcessRow) (ts : List ℕ) → slice_get c.processes p ≡ Some row → 1 ≤ length ts
+pub of_times : (c : Configuration) (p q : ℕ) (row : ProcessRow) (ts : List ℕ) → slice_get c.processes p ≡ Some row → 1 ≤ length ts
     → AllByRecursion (IsTime c.costs.call) ts → IsLeastBudget c p (map (longer q) ts) (budget_of c q (greatest ts))
 of_times c p q row ts at some all =
     let has : (m : ℕ) → budget (with_budget c p m) p ≡ m = λ m. own_budget c.processes p m row at in

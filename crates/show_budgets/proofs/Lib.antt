@@ -1,2 +1,3 @@
 mod Least
 mod OneColumn
+mod Joined

@@ -1,4 +1,4 @@
--- What the measured jobs of a process come to, and the least budget with which each is done in its window.
+-- What the measured jobs of a process come to, and the least budget with which each has room in its window.
 use Rattle.std.specs.Prelude.{ℕ, ◌≡◌, ◌+◌, ◌*◌, ◌/◌, ◌≤◌, ◌==◌, min, max, if◌then◌else◌, List, [], ◌∷◌, length, map, slice_get, Option, Some, None}
 use Rattle.dk_config.specs.Configuration.{Configuration}
 use Rattle.dk_config.specs.declared.rows.ProcessRow.{ProcessRow}
@@ -61,6 +61,7 @@ LeastIsLeast =
     → ask_of c percent table row ≡ Some m
     → IsLeastBudget c p (times_for c table row) m.least × IsLeastBudget c p (map (longer percent) (times_for c table row)) m.budget
 
--- and in every run of a configuration with such a budget the process uses in each window exactly the time of a row and both switches, and waits
+-- And in every run of an accepted configuration with such a budget a process with neither children nor slack, of which some job has
+-- more than its wait, and with the program of its column, uses in each window exactly the time of a row and both switches, and waits.
 abbrev pub UsesItsTable : Type 0
 UsesItsTable = run.UsesItsTable

@@ -1,13 +1,16 @@
 -- Whether all budgets certify together.
-use Rattle.std.specs.Prelude.{ℕ, List, [], ◌∷◌, Option, Some, None}
+use Rattle.std.specs.Prelude.{ℕ, ◌≡◌, List, [], ◌∷◌, map, slice_get, Option, Some, None}
 use Rattle.dk_config.specs.Configuration.{Configuration}
 use Rattle.dk_config.specs.declared.rows.ProcessRow.{ProcessRow}
 use Rattle.dk_config.specs.declared.fault.ConfigFault.{ConfigFault}
 use Rattle.dk_config.specs.Rules.{all_tests}
 use Rattle.dk_config.specs.Tests.{first_broken}
+use Rattle.dk_config.specs.Windows.{budget}
 use Rattle.dk_certify.specs.declared.certifying.Verdict.{Verdict}
 use Rattle.dk_certify.specs.declared.certifying.Verdict.TheVariants as verdict
 use Rattle.dk_certify.specs.Verdicts.{verdict_of}
+use Rattle.dk_replay_run.specs.Jobs.{FitWindows}
+use Rattle.show_budgets.specs.Least.{IsLeastBudget, ask_of, longer, times_for}
 use Rattle.show_budgets.specs.declared.measure.Measure.{Measure}
 use Rattle.show_budgets.specs.declared.together.Together.{Together}
 
@@ -36,3 +39,22 @@ or_broken c None = by_verdict (verdict_of c)
 -- whether it can be run: the first rule that it breaks, or the verdict of the certification test
 abbrev pub together : Configuration → Together
 together c = or_broken c (first_broken (all_tests c))
+
+-- the configuration with all budgets that a table asks for
+abbrev pub asked : Configuration → ℕ → List ℕ → Configuration
+asked c percent table = with_asked c (map (ask_of c percent table) c.processes)
+
+-- With the budgets of all others as they are asked for too, a process has the told one, which is the least with which each of its jobs,
+-- longer by the reserve, has room with both switches in one window.
+abbrev pub LeastTogether : Type 0
+LeastTogether =
+    (c : Configuration) (p percent : ℕ) (table : List ℕ) (row : ProcessRow) (m : Measure) → slice_get c.processes p ≡ Some row
+    → ask_of c percent table row ≡ Some m
+    → (budget (asked c percent table) p ≡ m.budget)
+    × IsLeastBudget (asked c percent table) p (map (longer percent) (times_for c table row)) m.budget
+
+-- and each of them as it was measured has room
+abbrev pub FitTogether : Type 0
+FitTogether =
+    (c : Configuration) (p percent : ℕ) (table : List ℕ) (row : ProcessRow) → slice_get c.processes p ≡ Some row
+    → FitWindows (asked c percent table) p (times_for c table row)

@@ -12,7 +12,7 @@ mod wrong;
 
 pub use measure::{MAX_RESERVE, Measure, least_law};
 pub use report::{BudgetForm, Budgets, Ended, tell_budgets};
-pub use together::Together;
+pub use together::{Together, together_law};
 
 #[cfg(test)]
 mod tests;

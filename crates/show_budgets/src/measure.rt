@@ -27,7 +27,7 @@ pub struct Measure {
     pub greatest: u32,
     /// The ticks of the longest of the others, 0 where there is none.
     pub second: u32,
-    /// The least budget with which each of them is done in its window.
+    /// The least budget with which each of them has room with both switches in its window.
     pub least: u32,
     /// The same where each takes longer by the reserve.
     pub budget: u32,
@@ -111,9 +111,10 @@ pub(crate) fn ask_of(
     Ok(Some(measure_of(config, percent, times.as_slice())))
 }
 
-/// The told budgets are least: with them each job of the column, longer by the reserve, is done in its window, and with none
-/// that is less. In every run a process with the program of its column uses in window k exactly the time of row k and both
-/// switches, and it waits, where its budget has room for its times.
+/// The told budgets are least: with them each job of the column, longer by the reserve, has room with both switches in its
+/// window, and with none that is less. In every run of an accepted configuration a process with neither children nor slack, whose
+/// budget has room for its times, of which one is longer than its wait, and with the program of its column, uses in window k
+/// exactly the time of row k and both switches, and it waits.
 pub fn least_law()
     ensures least { LeastIsLeast }
     ensures runs { UsesItsTable }

@@ -25,7 +25,8 @@ pub enum BudgetForm {
     Text,
     /// Records of a table.
     Table,
-    /// Lines of TOML, the budget of each process that has times, with its name.
+    /// Lines to paste into a configuration in TOML, the budget of each process that has times, with its name. They are no
+    /// document.
     Toml,
 }
 

@@ -1,10 +1,11 @@
 //! Whether all budgets certify together.
 ghost use Rattle.std.specs.Prelude.{◌≡◌, ◌≤◌, length};
-ghost use Rattle.show_budgets.specs.Together.{ask_budget, rows_asked, together, with_asked};
+ghost use Rattle.show_budgets.specs.Together.{ask_budget, rows_asked, together, with_asked, FitTogether, LeastTogether};
 
 use crate::measure::Measure;
 use dk_certify::{Overload, Verdict, certify};
 use dk_config::{Config, ConfigFault, Layout, ProcessRow};
+use dk_times::jobs_law;
 
 /// Whether a configuration with all budgets can be run.
 #[derive(Clone, Copy)]
@@ -67,4 +68,13 @@ pub(crate) fn verdict_on(config: Config) -> Together
         },
         Err(fault) => Together::Broken(fault),
     }
+}
+
+/// With all told budgets together each is the least with which each job of its column, longer by the reserve, has room with both
+/// switches in one window, and each job as it was measured has room too.
+pub fn together_law()
+    ensures least { LeastTogether }
+    ensures fit { FitTogether }
+{
+    jobs_law();
 }
