@@ -8,6 +8,7 @@ use Rattle.std.proofs.Math.Nat.{add-mod-mod, div-add-mod, mod-lt, zero-mod}
 use Rattle.dk_config.specs.Configuration.{Configuration}
 use Rattle.dk_config.specs.Checked.{IsAccepted, IsChecked}
 use Rattle.dk_config.specs.Windows.{main_level, period, window_start}
+use Rattle.dk_cycle.specs.declared.Cycle.{Cycle}
 use Rattle.dk_trace.proofs.Windows.{count_by-cons, mod-next}
 use Rattle.dk_trace.specs.declared.Choice.{Choice}
 use Rattle.dk_trace.specs.declared.Entry.{Entry}
@@ -21,7 +22,7 @@ use Rattle.dk_repeat.specs.Repeat.{RunStandsAgain}
 use Rattle.dk_slack_promise.specs.Long.{is_lent_to}
 use Rattle.dk_slack_promise.specs.Allotted.{KeepsTo, own_lent}
 use Rattle.dk_needs_always.specs.declared.lending.LentWatch.{LentWatch}
-use Rattle.dk_needs_always.specs.Lending.{FirstTicksTell, IsLentWatch, KeepBefore, TakesAtMost, lent_at}
+use Rattle.dk_needs_always.specs.Lending.{FirstTicksTell, IsLentWatch, IsMostTaken, KeepBefore, TakesAtMost, TakesMoreBefore, TakesMoreIn, slack_had_at}
 
 -- a tick adds its entry
 step-adds : (c : Configuration) (w : World) (choice : Choice) (o : Option ThreadId)
@@ -34,7 +35,7 @@ trace-adds c programs t = step-adds c (world c programs t) (chosen c (trace c pr
 
 -- what a process had at a tick is counted in the ticks of its window so far
 pub lent-counted : (c : Configuration) (programs : List (List ℕ)) (q t : ℕ)
-    → lent_at c programs q t ≡ count_by (is_lent_to q) (take (t % period c (main_level c q) + 1) (trace c programs (t + 1)))
+    → slack_had_at c programs q t ≡ count_by (is_lent_to q) (take (t % period c (main_level c q) + 1) (trace c programs (t + 1)))
 lent-counted c programs q t =
     let P : ℕ = period c (main_level c q) in
     let long = length-trace c programs (t + 1) in
@@ -64,7 +65,7 @@ keeps-so-far c programs s (suc n) keep =
 -- a tick of a later cycle has the slack of the same tick of the first
 module _ (spans : SpansRepeat) (c : Configuration) (programs : List (List ℕ)) (s k : ℕ) (checked : IsChecked c) (accepted : IsAccepted c)
     (again : RunStandsAgain c programs s k) where
-  same-lent : (q u cycles : ℕ) → main_level c q < length c.levels → u < k → lent_at c programs q (s + cycles * k + u) ≡ lent_at c programs q (s + u)
+  same-lent : (q u cycles : ℕ) → main_level c q < length c.levels → u < k → slack_had_at c programs q (s + cycles * k + u) ≡ slack_had_at c programs q (s + u)
   same-lent q u cycles known low =
       let P : ℕ = period c (main_level c q) in
       let positive = checked.positive (main_level c q) known in
@@ -91,7 +92,7 @@ module _ (spans : SpansRepeat) (c : Configuration) (programs : List (List ℕ)) 
       aligned a b P even =
           ap (λ d. d % P) (omega arith) ∙ sym (add-mod-mod b a P) ∙ ap (λ d. (b + d) % P) even ∙ ap (λ d. d % P) (omega arith)
 
-  pub takes-for-ever : (q most : ℕ) → main_level c q < length c.levels → TakesAtMost c programs q (s + k) most → (t : ℕ) → lent_at c programs q t ≤ most
+  pub takes-for-ever : (q most : ℕ) → main_level c q < length c.levels → TakesAtMost c programs q (s + k) most → (t : ℕ) → slack_had_at c programs q t ≤ most
   takes-for-ever q most known first t =
       elim (cases_lt t s) [
         | inl early ↦ first t (omega (arith, early))
@@ -105,7 +106,7 @@ module _ (spans : SpansRepeat) (c : Configuration) (programs : List (List ℕ)) 
             let at : s + cycles * k + u ≡ t = omega (arith, parts, turned, from) in
             let same = same-lent q u cycles known low in
             let le = first (s + u) (omega (arith, low)) in
-            subst (λ (d : ℕ). lent_at c programs q d ≤ most) at (omega (arith, same, le))
+            subst (λ (d : ℕ). slack_had_at c programs q d ≤ most) at (omega (arith, same, le))
       ]
 
 pub first-ticks-tell : SpansRepeat → FirstTicksTell
@@ -122,7 +123,10 @@ started c programs p P is some = record {
   within = some;
   had = refl;
   few = omega arith;
-  most = λ t none. absurd (omega (arith, none));
+  most = record {
+    bound = λ t none. absurd (omega (arith, none));
+    reached = λ some. absurd (omega (arith, some));
+  };
 }
 
 module _ (c : Configuration) (programs : List (List ℕ)) (n : ℕ) (w : LentWatch) (e : Entry) (is : IsLentWatch c programs n w)
@@ -139,21 +143,36 @@ module _ (c : Configuration) (programs : List (List ℕ)) (n : ℕ) (w : LentWat
       ∙ ap (λ d. cond (is_lent_to w.process e) 1 0 + d) (sym is.had)
 
   -- the slack of its process in the window of the tick
-  lent-now : lent_at c programs w.process n ≡ cond (is_lent_to w.process e) 1 0 + w.lent
+  lent-now : slack_had_at c programs w.process n ≡ cond (is_lent_to w.process e) 1 0 + w.lent
   lent-now =
       lent-counted c programs w.process n
       ∙ ap (λ d. count_by (is_lent_to w.process) (take (d + 1) (trace c programs (n + 1)))) (sym is.over)
       ∙ counted
 
-  most-now : (lent most : ℕ) → lent ≡ w.lent + cond (is_lent_to w.process e) 1 0 → most ≡ max w.most lent → TakesAtMost c programs w.process (n + 1) most
-  most-now lent most had greater t low =
+  bound-now : (lent most : ℕ) → lent ≡ w.lent + cond (is_lent_to w.process e) 1 0 → most ≡ max w.most lent → TakesAtMost c programs w.process (n + 1) most
+  bound-now lent most had greater t low =
       elim (cases_lt t n) [
-        | inl before ↦ let le = is.most t before in omega (arith, le, greater)
+        | inl before ↦ let le = is.most.bound t before in omega (arith, le, greater)
         | inr now ↦
             let same : n ≡ t = omega (arith, low, now) in
             let here = lent-now in
-            subst (λ k. lent_at c programs w.process k ≤ most) same (omega (arith, here, had, greater))
+            subst (λ k. slack_had_at c programs w.process k ≤ most) same (omega (arith, here, had, greater))
       ]
+
+  reached-now : (lent most : ℕ) → lent ≡ w.lent + cond (is_lent_to w.process e) 1 0 → most ≡ max w.most lent → 0 < most
+      → (t : ℕ) × (t < n + 1) × (slack_had_at c programs w.process t ≡ most)
+  reached-now lent most had greater some =
+      elim (cases_lt w.most lent) [
+        | inl more ↦ let here = lent-now in (n, omega arith, omega (arith, here, had, greater, more))
+        | inr no-more ↦
+            let before = is.most.reached (omega (arith, some, greater, no-more)) in
+            let early = before.1 in
+            let was = before.2 in
+            (before.0, omega (arith, early), omega (arith, was, greater, no-more))
+      ]
+
+  most-now : (lent most : ℕ) → lent ≡ w.lent + cond (is_lent_to w.process e) 1 0 → most ≡ max w.most lent → IsMostTaken c programs w.process (n + 1) most
+  most-now lent most had greater = record { bound = bound-now lent most had greater; reached = reached-now lent most had greater }
 
   one-more : (b : Bool) → cond b 1 0 ≤ 1
   one-more true = omega arith
@@ -212,3 +231,31 @@ module _ (c : Configuration) (programs : List (List ℕ)) (n : ℕ) (w : LentWat
                 let low = mod-lt (suc n) {m = P} (omega (arith, long, within)) in
                 absurd (omega (arith, now, is-more, low, more, high, long))
           ]
+
+-- ---- whether each keeps to its allotment
+
+module _ (c : Configuration) (programs : List (List ℕ)) (s : ℕ → ℕ) (ticks p most : ℕ) (is : IsMostTaken c programs p ticks most) where
+  -- who had more than its allotment took more
+  pub more-taken : p < length c.processes → s p < most → TakesMoreBefore c programs s ticks
+  more-taken known more =
+      let reached = is.reached (omega (arith, more)) in
+      let had = reached.2 in
+      record { process = p; tick = reached.0; known = known; early = reached.1; more = omega (arith, had, more) }
+
+  -- and where it had no more, one process more keeps to its own
+  pub one-keeps : ((q : ℕ) → q < p → TakesAtMost c programs q ticks (s q)) → most ≤ s p → (q : ℕ) → q < p + 1 → TakesAtMost c programs q ticks (s q)
+  one-keeps before less q low t early =
+      elim (cases_lt q p) [
+        | inl earlier ↦ before q earlier t early
+        | inr last ↦
+            let same : p ≡ q = omega (arith, low, last) in
+            let bound = is.bound t early in
+            subst (λ k. slack_had_at c programs k t ≤ s k) same (omega (arith, bound, less))
+      ]
+
+-- somebody takes more up to the second start of the cycle, where that is so many ticks
+pub more-by-second : (c : Configuration) (programs : List (List ℕ)) (s : ℕ → ℕ) (told : Option Cycle) (y : Cycle) (ticks : ℕ) → told ≡ Some y
+    → ticks ≡ y.start + y.length → TakesMoreBefore c programs s ticks → TakesMoreIn c programs s told
+more-by-second c programs s told y ticks is size more z told-is within =
+    let same : y ≡ z = ap (λ (o : Option Cycle). option_map_or (λ (x : Cycle). x) o y) (sym is ∙ told-is) in
+    subst (λ (x : Cycle). TakesMoreBefore c programs s (x.start + x.length)) same (subst (TakesMoreBefore c programs s) size more)

@@ -1,10 +1,11 @@
 //! The rows of needs, with those that ask of all ticks decided.
-ghost use Rattle.std.specs.Prelude.{ℕ, ◌≡◌, true, map, IfOk};
+ghost use Rattle.std.specs.Prelude.{ℕ, ◌≡◌, true, false, map, IfOk};
 ghost use Rattle.dk_config.specs.Checked.{IsWithinLimits};
 ghost use Rattle.dk_cycle.specs.Told.{IsRunTold};
 ghost use Rattle.dk_kernel.specs.Booting.{IsLoaded};
 ghost use Rattle.dk_needs_always.specs.Asking.{asked_row};
-ghost use Rattle.dk_needs_always.specs.Deciding.{AreDecided, AreKept};
+ghost use Rattle.dk_needs_always.specs.Deciding.{AreDecided, AreKept, AreNotKept};
+ghost use Rattle.dk_needs_always.specs.Telling.{has_if_kept};
 
 use crate::ALWAYS_TICKS;
 use crate::asking::{AskedRow, asked_rows};
@@ -43,7 +44,8 @@ fn are_kept(
 ) -> Result<bool, NoMemory>
     requires loaded { IsLoaded loaded.now }
     requires told { (ticks : ℕ) × IsRunTold loaded.now.config loaded.now.programs ticks told }
-    ensures { IfOk result (λ kept. kept ≡ true → AreKept loaded.now needs.now.rows) }
+    ensures kept { IfOk result (λ kept. kept ≡ true → AreKept loaded.now needs.now.rows) }
+    ensures lost { IfOk result (λ kept. kept ≡ false → has_if_kept rows.now ≡ true → AreNotKept loaded.now needs.now.rows told) }
 {
     if !has_if_kept(rows) {
         return Ok(false);

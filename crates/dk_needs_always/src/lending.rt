@@ -1,5 +1,5 @@
 //! Whether the processes of a run keep to their allotments of slack.
-ghost use Rattle.std.specs.Prelude.{ℕ, ◌≡◌, ◌+◌, ◌<◌, ◌≤◌, true, if◌then◌else◌, length, IfOk, IfSome};
+ghost use Rattle.std.specs.Prelude.{ℕ, ◌≡◌, ◌+◌, ◌<◌, ◌≤◌, true, false, if◌then◌else◌, length, None, IfOk, IfSome};
 ghost use Rattle.dk_config.specs.declared.TheConstants.{MAX_TICKS};
 ghost use Rattle.dk_config.specs.Checked.{IsChecked, IsWithinLimits};
 ghost use Rattle.dk_config.specs.Windows.{main_level, period};
@@ -8,7 +8,7 @@ ghost use Rattle.dk_allotment.specs.Given.{given};
 ghost use Rattle.dk_kernel.specs.Booting.{IsLoaded};
 ghost use Rattle.dk_cycle.specs.Told.{IsRunTold};
 ghost use Rattle.dk_needs_always.specs.declared.TheConstants.{ALWAYS_TICKS};
-ghost use Rattle.dk_needs_always.specs.Lending.{IsLentWatch, KeepBefore, KeepForEver, TakesAtMost};
+ghost use Rattle.dk_needs_always.specs.Lending.{IsLentWatch, IsMostTaken, KeepBefore, KeepForEver, TakesMoreBefore, TakesMoreIn};
 
 use crate::ALWAYS_TICKS;
 use crate::laws::first_ticks_law;
@@ -142,7 +142,7 @@ fn most_taken<L: Ledger>(
     requires few { ticks ≤ MAX_TICKS }
     requires long { before.period ≤ MAX_TICKS }
     requires watch { IsLentWatch kernel.old.config kernel.old.programs 0 before }
-    ensures { TakesAtMost kernel.old.config kernel.old.programs before.process ticks result }
+    ensures { IsMostTaken kernel.old.config kernel.old.programs before.process ticks result }
 {
     let mut watch = before;
     for _tick in 0..ticks {
@@ -166,7 +166,7 @@ fn taken_by<L: Ledger>(
     requires name { blank.name ≡ L.name }
     requires parts { blank.parts ≡ L.parts }
     requires some { 0 < L.parts }
-    ensures { IfOk result (λ most. TakesAtMost loaded.now.config loaded.now.programs process ticks most) }
+    ensures { IfOk result (λ most. IsMostTaken loaded.now.config loaded.now.programs process ticks most) }
 {
     let watch = LentWatch::new(&loaded.config, process);
     let pass = SecondPass::of(alloc, loaded)?;
@@ -188,8 +188,10 @@ fn keep_before(
     requires loaded { IsLoaded loaded.now }
     requires one_each { length allotments.now ≡ length loaded.now.config.processes }
     requires few { ticks ≤ MAX_TICKS }
-    ensures { IfOk result (λ keep. keep ≡ true
+    ensures kept { IfOk result (λ keep. keep ≡ true
         → KeepBefore loaded.now.config loaded.now.programs (given allotments.now) ticks) }
+    ensures lost { IfOk result (λ keep. keep ≡ false
+        → TakesMoreBefore loaded.now.config loaded.now.programs (given allotments.now) ticks) }
 {
     for process in 0..loaded.config.processes.len() {
         let taken = taken_by::<Brand>(alloc, loaded, process as u8, ticks, Blank::new(1))?;
@@ -202,7 +204,8 @@ fn keep_before(
 
 /// The ticks up to the second start of the cycle, if they are few.
 fn ticks_of(cycle: Cycle) -> Option<u32>
-    ensures { IfSome result (λ ticks. (ticks ≡ cycle.start + cycle.length) × (ticks ≤ ALWAYS_TICKS)) }
+    ensures few { IfSome result (λ ticks. (ticks ≡ cycle.start + cycle.length) × (ticks ≤ ALWAYS_TICKS)) }
+    ensures many { result ≡ None → ALWAYS_TICKS < cycle.start + cycle.length }
 {
     let ticks = cycle.start as u64 + cycle.length as u64;
     if ticks <= ALWAYS_TICKS as u64 {
@@ -212,8 +215,8 @@ fn ticks_of(cycle: Cycle) -> Option<u32>
     }
 }
 
-/// Whether it is known that no process ever takes more: by the first ticks of a run that is told to repeat. `Err` is want of
-/// memory.
+/// Whether it is known that no process ever takes more: by the first ticks of a run that is told to repeat, up to the second
+/// start of its cycle. `Err` is want of memory.
 pub(crate) fn keep_for_ever(
     alloc: Global,
     loaded: &Loaded,
@@ -223,8 +226,10 @@ pub(crate) fn keep_for_ever(
     requires loaded { IsLoaded loaded.now }
     requires one_each { length allotments.now ≡ length loaded.now.config.processes }
     requires told { (ticks : ℕ) × IsRunTold loaded.now.config loaded.now.programs ticks told }
-    ensures { IfOk result (λ keep. keep ≡ true
+    ensures kept { IfOk result (λ keep. keep ≡ true
         → KeepForEver loaded.now.config loaded.now.programs (given allotments.now)) }
+    ensures lost { IfOk result (λ keep. keep ≡ false
+        → TakesMoreIn loaded.now.config loaded.now.programs (given allotments.now) told.cycle) }
 {
     first_ticks_law();
     let Some(cycle) = told.cycle else {

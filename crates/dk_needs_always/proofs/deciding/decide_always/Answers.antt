@@ -5,7 +5,7 @@ use Rattle.dk_config.specs.Configuration.{Configuration}
 use Rattle.dk_cycle.specs.Told.{IsRunTold}
 use Rattle.dk_loader.specs.Workload.{Workload}
 use Rattle.dk_needs_always.specs.Asking.{asked_row}
-use Rattle.dk_needs_always.specs.Deciding.{AreDecided, AreKept}
+use Rattle.dk_needs_always.specs.Deciding.{AreDecided, AreKept, AreNotKept}
 use Rattle.dk_needs_always.specs.Telling.{decided_row, kept_row}
 use Rattle.dk_needs_always.proofs.deciding.decide_always.Goals as goal
 
@@ -30,6 +30,7 @@ returns c =
       always = always;
       is = c.in_ok-always.ensures;
       kept = kept;
-      keeps = λ yes. subst (λ (v : Workload). AreKept v needs) c.in_ok-pass.ensures.same (c.in_ok-kept.ensures yes);
+      keeps = λ yes. subst (λ (v : Workload). AreKept v needs) c.in_ok-pass.ensures.same (c.in_ok-kept.ensures.kept yes);
+      lost = λ no asks. subst (λ (v : Workload). AreNotKept v needs always.run) c.in_ok-pass.ensures.same (c.in_ok-kept.ensures.lost no asks);
       whole = is ∙ ap (map (kept_row kept)) (c.as_slice-2.ensures.value ∙ decided);
     }) c.kept_rows.ensures

@@ -2,7 +2,7 @@ use Rattle.std.proofs.Common.{ℕ, ◌≡◌, ◌≤◌, ◌∙◌, List, ap, sy
 use Rattle.dk_config.specs.Configuration.{Configuration}
 use Rattle.dk_loader.specs.Workload.{Workload}
 use Rattle.dk_kernel.specs.Running.{Running}
-use Rattle.dk_needs_always.specs.Lending.{IsLentWatch, TakesAtMost}
+use Rattle.dk_needs_always.specs.Lending.{IsLentWatch, IsMostTaken}
 use Rattle.dk_needs_always.proofs.lending.taken_by.Goals as goal
 
 pub most_taken-requires-clause-watch : goal.most_taken-requires-clause-watch
@@ -15,6 +15,6 @@ most_taken-requires-clause-watch g c =
 
 pub returns-in-Ok : goal.returns-in-Ok
 returns-in-Ok g c =
-    let own = subst (λ (q : ℕ). TakesAtMost c.in-Ok.kernel.config c.in-Ok.kernel.programs q c.args.ticks c.most_taken.result) c.new-watch.ensures.process c.most_taken.ensures in
-    let early = subst (λ (r : Running). TakesAtMost r.config r.programs c.args.process c.args.ticks c.most_taken.result) c.in-Ok.ensures.ok own in
-    subst (λ (v : Workload). TakesAtMost v.config v.programs c.args.process c.args.ticks c.most_taken.result) c.in_ok-pass.ensures.same early
+    let own = subst (λ (q : ℕ). IsMostTaken c.in-Ok.kernel.config c.in-Ok.kernel.programs q c.args.ticks c.most_taken.result) c.new-watch.ensures.process c.most_taken.ensures in
+    let early = subst (λ (r : Running). IsMostTaken r.config r.programs c.args.process c.args.ticks c.most_taken.result) c.in-Ok.ensures.ok own in
+    subst (λ (v : Workload). IsMostTaken v.config v.programs c.args.process c.args.ticks c.most_taken.result) c.in_ok-pass.ensures.same early
