@@ -13,7 +13,7 @@ use Rattle.show_budgets.specs.declared.report.Budgets.{Budgets}
 use Rattle.show_budgets.specs.declared.report.Ended.{Ended}
 use Rattle.show_budgets.specs.declared.report.TheConstants.{ALONE, BROKEN, BROKEN_TOML, CERTIFIED, CERTIFIED_TOML, COLUMNS, FAILING, FAILING_TOML, MEASURED, MEASURED_TOML, UNMEASURED}
 use Rattle.show_budgets.specs.Least.{ask_of, longer}
-use Rattle.show_budgets.specs.Together.{together, with_asked}
+use Rattle.show_budgets.specs.Together.{CanRun, together, with_asked}
 use Rattle.show_budgets.specs.Wrong.{table_told}
 
 -- a table has records, and the other forms have lines
@@ -79,6 +79,8 @@ pub record AreAsked (form : BudgetForm) (c : Configuration) (percent : ℕ) (ask
   pub text : told.text.items ≡ head_told (row_form form) COLUMNS.now
       ++ (rows_told form percent c.processes asks ++ verdict_told form (together (with_asked c asks)))
   pub ended : told.ended ≡ end_of (together (with_asked c asks))
+  -- so the laws of runs hold of it where it is told certified
+  pub certain : told.ended ≡ Ended.Certified → CanRun (with_asked c asks)
 
 -- all that is wrong with the table, and nothing else; and where nothing is, what each process gets by it
 pub record AreBudgets (form : BudgetForm) (c : Configuration) (percent : ℕ) (table : List ℕ) (told : Budgets) : Type 0 where

@@ -3,6 +3,7 @@ use Rattle.std.specs.Prelude.{ℕ, ◌≡◌, List, [], ◌∷◌, map, slice_ge
 use Rattle.dk_config.specs.Configuration.{Configuration}
 use Rattle.dk_config.specs.declared.rows.ProcessRow.{ProcessRow}
 use Rattle.dk_config.specs.declared.fault.ConfigFault.{ConfigFault}
+use Rattle.dk_config.specs.Checked.{IsAccepted, IsChecked, IsWithinLimits}
 use Rattle.dk_config.specs.Rules.{all_tests}
 use Rattle.dk_config.specs.Tests.{first_broken}
 use Rattle.dk_config.specs.Windows.{budget}
@@ -39,6 +40,17 @@ or_broken c None = by_verdict (verdict_of c)
 -- whether it can be run: the first rule that it breaks, or the verdict of the certification test
 abbrev pub together : Configuration → Together
 together c = or_broken c (first_broken (all_tests c))
+
+-- the configuration is within its limits and well formed, and each level fits its windows, as the laws of runs ask
+pub record CanRun (c : Configuration) : Type 0 where
+  pub limits : IsWithinLimits c
+  pub checked : IsChecked c
+  pub accepted : IsAccepted c
+
+abbrev pub IfCertified : Together → Type 0 → Type 0
+IfCertified Together.Certified P = P
+IfCertified (Together.Fails o) P = Unit {0}
+IfCertified (Together.Broken fault) P = Unit {0}
 
 -- the configuration with all budgets that a table asks for
 abbrev pub asked : Configuration → ℕ → List ℕ → Configuration

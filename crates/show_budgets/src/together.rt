@@ -1,6 +1,6 @@
 //! Whether all budgets certify together.
 ghost use Rattle.std.specs.Prelude.{◌≡◌, ◌≤◌, length};
-ghost use Rattle.show_budgets.specs.Together.{ask_budget, rows_asked, together, with_asked, FitTogether, LeastTogether};
+ghost use Rattle.show_budgets.specs.Together.{CanRun, IfCertified, ask_budget, rows_asked, together, with_asked, FitTogether, LeastTogether};
 
 use crate::measure::Measure;
 use dk_certify::{Overload, Verdict, certify};
@@ -51,7 +51,8 @@ pub(crate) fn with_asked(config: Config, asks: &[Option<Measure>]) -> Config
 
 /// Whether it can be run.
 pub(crate) fn verdict_on(config: Config) -> Together
-    ensures { result ≡ together config }
+    ensures is { result ≡ together config }
+    ensures certain { IfCertified result (CanRun config) }
 {
     match Layout::of(config) {
         Ok(layout) => match certify(layout.config()) {
