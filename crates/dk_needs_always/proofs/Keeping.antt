@@ -1,13 +1,12 @@
 -- Who keeps to its allotment in the first ticks of a run that repeats does so for ever.
-use Rattle.std.proofs.Common.{ℕ, zero, suc, ◌≡◌, ◌+◌, ◌-◌, ◌*◌, ◌/◌, ◌%◌, ◌<◌, ◌≤◌, ◌∙◌, inl, inr, Bool, true, false, cond, List, [], ◌∷◌, take, length, Option, Some, None, refl, sym, ap, subst, arith}
+use Rattle.std.proofs.Common.{ℕ, zero, suc, ◌≡◌, ◌+◌, ◌-◌, ◌*◌, ◌/◌, ◌%◌, ◌<◌, ◌≤◌, ◌∙◌, inl, inr, Bool, true, false, cond, List, ◌∷◌, take, length, Option, Some, None, refl, sym, ap, subst, arith}
 use Rattle.std.specs.Prelude.{count_by, max}
 use Rattle.std.specs.Option.{option_map_or}
-use Rattle.std.proofs.lemmas.Bool.{cases_Bool, cases_lt}
-use Rattle.std.proofs.lemmas.Bool.Decides.{nat_tests}
+use Rattle.std.proofs.lemmas.Bool.{cases_lt}
 use Rattle.std.proofs.Math.Nat.{add-mod-mod, div-add-mod, mod-lt, zero-mod}
 use Rattle.dk_config.specs.Configuration.{Configuration}
 use Rattle.dk_config.specs.Checked.{IsAccepted, IsChecked}
-use Rattle.dk_config.specs.Windows.{main_level, period, window_start}
+use Rattle.dk_config.specs.Windows.{main_level, period}
 use Rattle.dk_cycle.specs.declared.Cycle.{Cycle}
 use Rattle.dk_trace.proofs.Windows.{count_by-cons, mod-next}
 use Rattle.dk_trace.specs.declared.Choice.{Choice}
