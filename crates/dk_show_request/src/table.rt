@@ -227,7 +227,7 @@ const BUDGETS: Row = (
     (&["TIMES", "FILE"], &[], Kind::Words),
     (&["csv", "toml"], ("reserve", "PERCENT")),
     (
-        "for each process with a column in a table of measured times, in ticks, the least budget with which each of its jobs is done in one window, with --reserve so many percent longer, and whether the configuration is certified with all of them; status 3 where it isn't, 4 where something is wrong with the table, which is told line by line; with --csv as a table, with --toml as lines for the configuration",
+        "for each process with a column in a table of measured times, in ticks, the least budget in which each of its jobs has room with both switches, with --reserve jobs that take so many percent longer, and whether the configuration is certified with all of them; status 3 where it isn't, 4 where something is wrong with the table, which is told line by line; with --csv as a table, with --toml as lines for the configuration",
         "budgets times.csv frame.toml --reserve 10",
     ),
 );
