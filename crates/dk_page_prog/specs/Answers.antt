@@ -10,6 +10,8 @@ use Rattle.dk_review.specs.declared.drawing.Range.{Range}
 use Rattle.dk_review.specs.declared.reviewing.Ending.{Ending}
 use Rattle.dk_review.specs.declared.reviewing.Review.{Review}
 use Rattle.dk_page_prog.specs.Asking.{Asking, asked_by}
+use Rattle.dk_page_prog.specs.Help.{told_by}
+use Rattle.dk_page_prog.specs.declared.help.TheConstants.{USAGE}
 use Rattle.dk_page_prog.specs.Repeating.{HasLongProgram, Search, Tells, search_asked}
 use Rattle.dk_page_prog.specs.declared.answers.Answer.{Answer}
 use Rattle.dk_page_prog.specs.declared.files.Held.{Held}
@@ -149,14 +151,16 @@ pub record IsAsked (at : List ℕ → Option (List ℕ)) (k : Asking) (a : Answe
   pub has_ledger : HoldsAt at k.ledger ledger
   pub comes : IsOfFiles at k a document needs ledger
 
-abbrev pub IsUsage : Answer → Type 0
-IsUsage a = Says (codes "usage: deosk-show page FILE [LEDGER [FROM TO]] [--needs NEEDS] [--repeats TICKS]\n") answered.Usage a
+-- what the program tells of itself, where that is asked for, and else the usage line
+abbrev pub IsToldOrUsage : Option (List ℕ) → Answer → Type 0
+IsToldOrUsage (Some text) a = Says text answered.Done a
+IsToldOrUsage None a = Says USAGE.now answered.Usage a
 
--- that, or the usage line where nothing is asked for
-abbrev pub IsAnswerTo : (List ℕ → Option (List ℕ)) → Option Asking → Answer → Type 0
-IsAnswerTo at (Some k) a = IsAsked at k a
-IsAnswerTo at None a = IsUsage a
+-- that where no page is asked for
+abbrev pub IsAnswerTo : List (List ℕ) → (List ℕ → Option (List ℕ)) → Option Asking → Answer → Type 0
+IsAnswerTo words at (Some k) a = IsAsked at k a
+IsAnswerTo words at None a = IsToldOrUsage (told_by words) a
 
 -- what the words come to
 abbrev pub IsAnswered : List (List ℕ) → (List ℕ → Option (List ℕ)) → Answer → Type 0
-IsAnswered words at a = IsAnswerTo at (asked_by words) a
+IsAnswered words at a = IsAnswerTo words at (asked_by words) a

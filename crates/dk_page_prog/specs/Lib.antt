@@ -1,4 +1,5 @@
 pub mod Answers
+pub mod Help
 pub mod Asking
 pub mod Ends
 pub mod Numbers

@@ -3,13 +3,15 @@ ghost use Rattle.std.specs.Prelude.{◌≡◌, ◌≢◌, ◌≤◌, ◌<◌, �
 ghost use Rattle.dk_config.specs.declared.TheConstants.{MAX_CONFIG_BYTES};
 ghost use Rattle.dk_outside.specs.Counts.{Rises};
 ghost use Rattle.dk_outside.specs.declared.depot.DepotError.{DepotError};
-ghost use Rattle.dk_page_prog.specs.Answers.{IsAnswerTo, IsAnswered, IsAsked, IsOfAll, IsOfFiles, IsOfMore, IsOfReview, IsOfShort, Says, ended_of, ends_text, line_text, long_ended, long_text, program_text};
+ghost use Rattle.dk_page_prog.specs.Answers.{IsAnswerTo, IsAnswered, IsAsked, IsOfAll, IsOfFiles, IsOfMore, IsOfReview, IsOfShort, IsToldOrUsage, Says, ended_of, ends_text, line_text, long_ended, long_text, program_text};
 ghost use Rattle.dk_page_prog.specs.Asking.{asking_of};
+ghost use Rattle.dk_page_prog.specs.Help.{told_by};
 ghost use Rattle.dk_review.specs.Files.{file_of};
 ghost use Rattle.dk_review.specs.Reviews.{IsReview};
 
 use crate::asking::{Asked, asked_by};
 use crate::files::{Held, LongFile, first_long, named, read_files};
+use crate::help::{USAGE, told_by};
 use crate::repeating::more_of;
 use crate::status::Answered;
 use dk_loader::LoadFault;
@@ -263,6 +265,17 @@ fn of_asked<D: Depot>(alloc: Global, asked: Asked, depot: &mut D) -> Result<Answ
     of_files(alloc, asked, &held, depot)
 }
 
+/// What the program tells of itself, where the words ask for that, and else the usage line.
+fn told_answer(alloc: Global, words: &[String]) -> Result<Answer, DepotError>
+    ensures is { IfOk result (IsToldOrUsage (told_by (map string_bytes words.now))) }
+    ensures memory { result ≢ Err DepotError.Failed }
+{
+    match told_by(words) {
+        Some(text) => words_answer(alloc, text, Answered::Done),
+        None => words_answer(alloc, USAGE, Answered::Usage),
+    }
+}
+
 /// What the words and the files come to, or why they come to nothing: a read failed, or want of memory.
 pub(crate) fn answer_to<D: Depot>(
     alloc: Global,
@@ -277,10 +290,6 @@ pub(crate) fn answer_to<D: Depot>(
 {
     match asked_by(words) {
         Some(asked) => of_asked(alloc, asked, depot),
-        None => words_answer(
-            alloc,
-            "usage: deosk-show page FILE [LEDGER [FROM TO]] [--needs NEEDS] [--repeats TICKS]\n",
-            Answered::Usage,
-        ),
+        None => told_answer(alloc, words),
     }
 }

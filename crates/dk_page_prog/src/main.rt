@@ -4,6 +4,7 @@
 mod answers;
 mod asking;
 mod files;
+mod help;
 mod numbers;
 mod page;
 mod program;
