@@ -9,8 +9,16 @@ use Rattle.dk_loader.specs.Workload.{Workload}
 use Rattle.show_impact.specs.declared.row.Cause.{Cause}
 use Rattle.show_impact.specs.declared.row.Impact.{Impact}
 use Rattle.show_impact.specs.declared.row.Row.{Row}
-use Rattle.show_impact.specs.Impacts.{AreRows, IsCause, IsFound, IsKept, IsRow, IsRowAt, IsSame, Keeps, TouchesOnly, is_named, is_same, is_there, place_of}
+use Rattle.show_impact.specs.Impacts.{AreApart, AreRows, IsCause, IsFound, IsKept, IsRow, IsRowAt, IsSame, Keeps, TouchesOnly, is_named, is_same, is_there, place_of}
 use Rattle.show_impact.specs.Touching.{is_lost, is_same_at, is_touched}
+
+-- where it is the same as it waits its period is one and it locks nothing
+pub apart : (old new : Workload) → AreApart old new
+apart old new =
+    record {
+      always = λ p q is other. other.period refl is.period;
+      locks = λ p q is other. other.waits.locks is.waits.locks;
+    }
 
 keeps-not : (w : Workload) (p : ℕ) (cause : Cause) → Keeps w p → IsCause w p (Some cause) → ⊥
 keeps-not w p Cause.Threads keeps is = let none = keeps.threads in omega (arith, none, is)

@@ -108,6 +108,11 @@ pub record IsSameIfItWaits (old : Workload) (p : ℕ) (new : Workload) (q : ℕ)
   pub waits : IsWaiting old p waiting
   pub period : waiting ≡ Waiting.Always → ¬ HasOnePeriod old p new q
 
+-- what is the same as it waits isn't so only if it waits: neither where each window has enough nor where it may lock
+pub record AreApart (old new : Workload) : Type 0 where
+  pub always : (p q : ℕ) → IsSameAsItWaits old p new q → ¬ IsSameIfItWaits old p new q Waiting.Always
+  pub locks : (p q : ℕ) → IsSameAsItWaits old p new q → ¬ IsSameIfItWaits old p new q Waiting.Locks
+
 -- its evidence stands where it sees the same, or is the same as it waits
 abbrev pub IsTheSame : Workload → ℕ → Workload → ℕ → Type 0
 IsTheSame old p new q = IsSame old p new q ⊎ IsSameAsItWaits old p new q

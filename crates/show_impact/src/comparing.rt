@@ -7,7 +7,7 @@ ghost use Rattle.dk_impact.specs.Changes.{AreAll, Tells};
 ghost use Rattle.dk_impact.specs.Greater.{GivesNoLess};
 ghost use Rattle.dk_impact.specs.Impact.{SeesTheSame, SeesTheSameButPeriod};
 ghost use Rattle.show_impact.specs.Evidence.{EvidenceOutlives, EvidenceStands, WindowsStand};
-ghost use Rattle.show_impact.specs.Impacts.{AreChanges, AreRows, IsCause, IsDone, IsFound, IsGivenNoLess, IsPeriodAlone, IsRow, IsRowThere, IsSame, IsSameAsItWaits, IsTheSame, Keeps, place_of, program_of};
+ghost use Rattle.show_impact.specs.Impacts.{AreApart, AreChanges, AreRows, IsCause, IsDone, IsFound, IsGivenNoLess, IsPeriodAlone, IsRow, IsRowThere, IsSame, IsSameAsItWaits, IsTheSame, Keeps, place_of, program_of};
 
 use crate::waiting::waiting_of;
 use crate::{Cause, CertifiedLoad, Impact, Row, Waiting};
@@ -379,6 +379,8 @@ pub fn impacts(
     ensures windows { (p q : ℕ) → IsPeriodAlone old.now p new.now q → WindowsStand old.now p new.now q }
     // Of what is given no less, it does as long as each window has enough.
     ensures outlives { (p q : ℕ) → IsGivenNoLess old.now p new.now q → EvidenceOutlives old.now p new.now q }
+    // What is the same as it waits isn't told to be so only if it waits in each window.
+    ensures apart { AreApart old.now new.now }
 {
     evidence_stands(old, new);
     evidence_stays(old, new);
