@@ -1,5 +1,5 @@
 -- The budgets of all columns together.
-use Rattle.std.proofs.Common.{ℕ, zero, suc, ◌≡◌, ◌∙◌, ◌≤◌, ◌==◌, inl, inr, List, [], ◌∷◌, length, ap, subst, arith}
+use Rattle.std.proofs.Common.{ℕ, zero, suc, ◌≡◌, ◌∙◌, ◌<◌, ◌≤◌, ◌==◌, inl, inr, List, [], ◌∷◌, length, ap, subst, arith}
 use Rattle.std.specs.Prelude.{if◌then◌else◌, map, slice_get, Option, Some, None}
 use Rattle.std.specs.List.{AllByRecursion}
 use Rattle.std.specs.Option.{option_map_or}
@@ -10,8 +10,9 @@ use Rattle.dk_config.specs.declared.rows.ProcessRow.{ProcessRow}
 use Rattle.dk_config.specs.Windows.{budget}
 use Rattle.dk_times.specs.Laws.{AreTimes, IsTime}
 use Rattle.dk_replay_run.specs.Jobs.{FitWindows}
+use Rattle.dk_replay_run.specs.Laws.{UsesItsTable}
 use Rattle.show_budgets.specs.Least.{IsLeastBudget, ask_of, longer, measure_of, times_for}
-use Rattle.show_budgets.specs.Together.{FitTogether, LeastTogether, ask_budget, asked, rows_asked}
+use Rattle.show_budgets.specs.Together.{FitTogether, LeastTogether, RunTogether, ask_budget, asked, rows_asked}
 use Rattle.show_budgets.specs.declared.measure.Measure.{Measure}
 use Rattle.show_budgets.proofs.Least.{fits, of_times}
 
@@ -63,3 +64,16 @@ fit_together are c p percent table row at =
           let own = has_asked c p percent table row at ∙ ap (ask_budget row.budget) is in
           fits d p ts (low c.costs.call ts (are c.costs.call row.name table)) (omega (arith, own))
     ]
+
+is_within : (rows : List ProcessRow) (p : ℕ) (row : ProcessRow) → slice_get rows p ≡ Some row → p < length rows
+is_within [] p row at = absurd (cc)
+is_within (r ∷ rows) zero row at = omega arith
+is_within (r ∷ rows) (suc p) row at = let more = is_within rows p row at in omega (arith, more)
+
+pub run_together : AreTimes → UsesItsTable → RunTogether
+run_together are uses c programs p k percent table row can at no_child no_slack work program =
+    let d = asked c percent table in
+    uses d programs p k row.name table can.limits can.checked can.accepted
+    (is_within d.processes p (record row { budget = ask_budget row.budget (ask_of c percent table row) })
+    (row_asked (ask_of c percent table) c.processes p row at))
+    no_child no_slack work (fit_together are c p percent table row at) program

@@ -1,16 +1,21 @@
 -- Whether all budgets certify together.
-use Rattle.std.specs.Prelude.{ℕ, ◌≡◌, List, [], ◌∷◌, map, slice_get, Option, Some, None}
+use Rattle.std.specs.Prelude.{ℕ, ◌≡◌, ◌+◌, ◌*◌, ◌%◌, false, List, [], ◌∷◌, length, map, slice_get, slice_index_or, Option, Some, None}
 use Rattle.dk_config.specs.Configuration.{Configuration}
 use Rattle.dk_config.specs.declared.rows.ProcessRow.{ProcessRow}
 use Rattle.dk_config.specs.declared.fault.ConfigFault.{ConfigFault}
 use Rattle.dk_config.specs.Checked.{IsAccepted, IsChecked, IsWithinLimits}
 use Rattle.dk_config.specs.Rules.{all_tests}
 use Rattle.dk_config.specs.Tests.{first_broken}
-use Rattle.dk_config.specs.Windows.{budget}
+use Rattle.dk_config.specs.Windows.{budget, may_ask, slots}
 use Rattle.dk_certify.specs.declared.certifying.Verdict.{Verdict}
 use Rattle.dk_certify.specs.declared.certifying.Verdict.TheVariants as verdict
 use Rattle.dk_certify.specs.Verdicts.{verdict_of}
-use Rattle.dk_replay_run.specs.Jobs.{FitWindows}
+use Rattle.dk_alone.specs.Again.{window_from}
+use Rattle.dk_profile.specs.Steps.{steps_of}
+use Rattle.dk_replay.specs.Code.{program_of}
+use Rattle.dk_replay_run.specs.Jobs.{FitWindows, HaveSomeWork, work_times}
+use Rattle.dk_replay_run.specs.Laws.{HasUsed, window_tick}
+use Rattle.dk_times.specs.Table.{table_readings}
 use Rattle.show_budgets.specs.Least.{IsLeastBudget, ask_of, longer, times_for}
 use Rattle.show_budgets.specs.declared.measure.Measure.{Measure}
 use Rattle.show_budgets.specs.declared.together.Together.{Together}
@@ -70,3 +75,16 @@ abbrev pub FitTogether : Type 0
 FitTogether =
     (c : Configuration) (p percent : ℕ) (table : List ℕ) (row : ProcessRow) → slice_get c.processes p ≡ Some row
     → FitWindows (asked c percent table) p (times_for c table row)
+
+-- So where the configuration with all these budgets can be run: in each of its runs, whatever programs the others have, a process with
+-- the program of its column, which may have neither children nor slack, uses in window k exactly the time of row k (the rows in turn)
+-- and both switches, and it waits.
+abbrev pub RunTogether : Type 0
+RunTogether =
+    (c : Configuration) (programs : List (List ℕ)) (p k percent : ℕ) (table : List ℕ) (row : ProcessRow)
+    → CanRun (asked c percent table) → slice_get c.processes p ≡ Some row
+    → slots (asked c percent table) p ≡ 0 → may_ask (asked c percent table) p ≡ false
+    → HaveSomeWork (work_times c.costs.call (times_for c table row))
+    → slice_index_or programs p [] ≡ program_of (steps_of (table_readings c.costs.call row.name table))
+    → HasUsed p (slice_index_or (times_for c table row) (k % length (times_for c table row)) 0 + 2 * c.costs.switch)
+    (window_from (asked c percent table) programs p (window_tick (asked c percent table) p k))

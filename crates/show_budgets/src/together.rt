@@ -1,10 +1,11 @@
 //! Whether all budgets certify together.
 ghost use Rattle.std.specs.Prelude.{◌≡◌, ◌≤◌, length};
-ghost use Rattle.show_budgets.specs.Together.{CanRun, IfCertified, ask_budget, rows_asked, together, with_asked, FitTogether, LeastTogether};
+ghost use Rattle.show_budgets.specs.Together.{CanRun, IfCertified, ask_budget, rows_asked, together, with_asked, FitTogether, LeastTogether, RunTogether};
 
 use crate::measure::Measure;
 use dk_certify::{Overload, Verdict, certify};
 use dk_config::{Config, ConfigFault, Layout, ProcessRow};
+use dk_replay_run::tables_law;
 use dk_times::jobs_law;
 
 /// Whether a configuration with all budgets can be run.
@@ -72,10 +73,14 @@ pub(crate) fn verdict_on(config: Config) -> Together
 }
 
 /// With all told budgets together each is the least with which each job of its column, longer by the reserve, has room with both
-/// switches in one window, and each job as it was measured has room too.
+/// switches in one window, and each job as it was measured has room too. So where the configuration with all of them is accepted, a
+/// process with neither children nor slack, of which one time is longer than its wait, and with the program of its column, uses in
+/// window k of every run exactly the time of row k and both switches, and it waits.
 pub fn together_law()
     ensures least { LeastTogether }
     ensures fit { FitTogether }
+    ensures runs { RunTogether }
 {
+    tables_law();
     jobs_law();
 }
